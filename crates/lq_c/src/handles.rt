@@ -1,7 +1,7 @@
 //! Handles and lines.
 ghost use Rattle.std.specs.Prelude.{◌≡◌, ◌⊎◌, length};
 ghost use Rattle.lq_script_lines.specs.Lines.{line_of, reply_to, state_after};
-ghost use Rattle.lq_script_desk.specs.Script.{kept_rules};
+ghost use Rattle.lq_script_desk.specs.Script.{world_rules};
 ghost use Rattle.lq_embed.specs.Outs.{written};
 ghost use Rattle.lq_embed.specs.State.{volume_in, with_session, with_text};
 ghost use Rattle.lq_script_desk.specs.History.{question_of};
@@ -54,9 +54,9 @@ pub extern "C" fn lqp_fault_place(handle: &mut Lq) -> u64
 #[unsafe(no_mangle)]
 pub extern "C" fn lqp_answer(handle: &mut Lq, line: &[u8], size: &mut usize) -> u32
     ensures text { result ≡ 0 → (held handle.new).text
-        ≡ reply_to kept_rules (held handle.old).session (line_of line.now) }
+        ≡ reply_to world_rules (held handle.old).session (line_of line.now) }
     ensures after { result ≡ 0 → (held handle.new).session
-        ≡ state_after kept_rules (held handle.old).session (line_of line.now) }
+        ≡ state_after world_rules (held handle.old).session (line_of line.now) }
     ensures size { result ≡ 0 → size.new ≡ length (held handle.new).text }
     ensures status { (result ≡ 0) ⊎ ((result ≡ 15) × (size.new ≡ size.old)) }
     ensures history { LineKeepsHistory (held handle.old).session.core

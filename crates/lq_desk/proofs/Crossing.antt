@@ -15,6 +15,9 @@ use Rattle.lq_desk.specs.contracts.slot.Slot as slot
 use Rattle.lq_desk.specs.contracts.slot.Slot.TheInside as in_slot
 use Rattle.lq_desk.specs.contracts.slots.Slots as slots
 use Rattle.lq_desk.specs.contracts.slots.Slots.TheInside as in_slots
+use Rattle.lq_desk.specs.contracts.engine.Engine as engine
+use Rattle.lq_desk.specs.contracts.engine.Engine.TheInside as in_engine
+use Rattle.lq_desk.specs.contracts.witness.Witness as witness
 use Rattle.lq_desk.specs.contracts.desk.Desk as desk
 use Rattle.lq_desk.specs.contracts.desk.Desk.TheInside as in_desk
 
@@ -45,15 +48,27 @@ slots_send s =
     (declared_send in_slots.the_type
     (places_send slot.the_row s, search (sendable, crosses) depth 30))
 
--- a desk
-pub desk_send : IsSend sub.the_row → IsSend parcel.the_row → IsSend volume.the_row
-    → IsSend desk.the_row
-desk_send s p v =
-    view_send in_desk.the_row _ _ _ _
-    (declared_send in_desk.the_type (
+-- what a desk keeps
+engine_send : IsSend sub.the_row → IsSend parcel.the_row → IsSend volume.the_row
+    → IsSend engine.the_row
+engine_send s p v =
+    view_send in_engine.the_row _ _ _ _
+    (declared_send in_engine.the_type (
       v,
       (
         search sendable depth 12,
         (search (sendable, crosses) depth 20, (slots_send (slot_send s p), tt)),
       ),
     ))
+
+-- a witness, which has no bytes
+witness_send : IsSend witness.the_row
+witness_send = search (sendable, crosses) depth 20
+
+-- a desk
+pub desk_send : IsSend sub.the_row → IsSend parcel.the_row → IsSend volume.the_row
+    → IsSend desk.the_row
+desk_send s p v =
+    view_send in_desk.the_row _ _ _ _
+    (declared_send in_desk.the_type
+    (search (sendable, crosses) depth 20, (engine_send s p v, (witness_send, tt))))

@@ -1,11 +1,9 @@
--- Each event keeps what is so of every desk.
-use Rattle.std.proofs.Common.{◌≡◌, ℕ, zero, suc, ◌*◌, ◌-◌, ◌≤◌, ◌<◌, ◌^◌, List, [], ◌∷◌, ◌++◌, refl, ap, sym, subst, ◌∙◌, arith, Some, None, Option, map, length}
+-- What is so of all that a desk keeps, after each event.
+use Rattle.std.proofs.Common.{◌≡◌, ℕ, zero, suc, ◌*◌, ◌-◌, ◌^◌, List, [], ◌∷◌, refl, ap, sym, subst, ◌∙◌, arith, Some, None, Option, map, length}
 use Rattle.std.specs.Prelude.{Bool, slice_set, replicate}
 use Rattle.std.specs.Option.{option_map}
 use Rattle.std.specs.List.{AllByRecursion}
-use Rattle.std.proofs.lemmas.Bool.Decides.{nat_tests}
 use Rattle.std.proofs.lemmas.List.{length-map, length-set, map-set}
-use Rattle.lq_value.specs.declared.refusal.Refusal.{Refusal}
 use Rattle.lq_predicate.specs.Query.{Query}
 use Rattle.lq_volume.specs.declared.change.Change.{Change as Change_}
 use Rattle.lq_volume.specs.State.{State, IsVolume}
@@ -14,24 +12,19 @@ use Rattle.lq_volume.specs.Book.{Book}
 use Rattle.lq_volume.specs.Laws.{ChangesCount}
 use Rattle.lq_update.specs.Laws.{StepsAreFew}
 use Rattle.lq_desk_world.specs.World.{first_world}
-use Rattle.lq_desk_world.specs.declared.event.Event.{Event}
-use Rattle.lq_desk_world.specs.declared.event.Event.TheVariants.{Change, Open, Take, Notice, Close}
-use Rattle.lq_desk_world.specs.Events.{Answer, event_at, next, outcome}
-use Rattle.lq_desk_world.specs.Turns.{after_all, all_puts, notices, places_at, puts}
+use Rattle.lq_desk_world.specs.Events.{Answer}
+use Rattle.lq_desk_world.specs.Turns.{all_puts, notices}
 use Rattle.lq_desk_world.specs.Laws.{FirstWorldsAreFair}
 use Rattle.lq_desk_world.specs.declared.event.Act.{Act}
 use Rattle.lq_desk.specs.Slot.{KeptSlot, PreparedSlot, slot_of, filled, fresh_slot, noticed}
 use Rattle.lq_desk.specs.Act.{act_of, close_turn, outcome_of, read_turn}
-use Rattle.lq_desk.specs.Kept.{Kept, IsDesk, IsFew, Shows, first_free, opening_refusal, opened, open_if, changed, change_if, at_kept, kept_outcome, slot_for}
-use Rattle.lq_desk.specs.Turn.{kept_after, kept_ports, kept_turn}
-use Rattle.lq_desk.specs.Laws.{KeptShowsWorlds}
+use Rattle.lq_desk.specs.Kept.{Kept, IsKept, IsFew, Shows, first_free, opened, changed, at_kept, slot_for}
+use Rattle.lq_desk.specs.KeptTurn.{kept_after, kept_ports}
 use Rattle.lq_desk.proofs.ListLemmas.{all-set}
-use Rattle.lq_desk.proofs.PlaceLemmas.{act-outcome, at-same}
+use Rattle.lq_desk.proofs.PlaceLemmas.{at-same}
 use Rattle.lq_desk.proofs.SlotsLemmas.{kept_slot}
 use Rattle.lq_desk.proofs.FewLemmas.{few-act, few-after, few-close_turn, few-filled_all, few-noticed_all, few-outcome_of, few-read_turn, length-outcome_of, few-more}
-use Rattle.lq_desk.proofs.EventLemmas.{after-join}
-use Rattle.lq_desk.proofs.TurnLemmas.{after-shows, filled-all, noticed-all}
-use Rattle.lq_desk.proofs.SlotTurnLemmas.{close-events, read-events}
+use Rattle.lq_desk.proofs.TurnLemmas.{filled-all, noticed-all}
 
 -- free slots have made no messages
 few-free : (m n : ℕ) → AllByRecursion (IsFew m) (map kept_slot (replicate n None))
@@ -61,129 +54,87 @@ Shows-new fair s =
           (free-same slot_of (slot_for b) 64);
     }
 
--- a new desk is one
-pub IsDesk-new : FirstWorldsAreFair → (s : State)
-    → IsDesk (record { volume = s; openings = 0; slots = map kept_slot (replicate 64 None) })
-IsDesk-new fair s = record {
-  slots = free-length 64;
-  few = few-free (3 * s.number) 64;
-  world = first_world (record { start = s; changes = [] });
-  shows = Shows-new fair s;
+-- what a new desk keeps is as it has to be
+pub IsKept-new : (s : State)
+    → IsKept (record { volume = s; openings = 0; slots = map kept_slot (replicate 64 None) })
+IsKept-new s = record { slots = free-length 64; few = few-free (3 * s.number) 64 }
+
+-- so it is after a change
+pub IsKept-change : StepsAreFew → ChangesCount → (k : Kept) (c : Change_) → IsKept k
+    → IsVolume k.volume → IsLawful k.volume c → IsKept (changed k c)
+IsKept-change steps count k c d v lawful = record {
+  slots = length-map k.slots _ ∙ d.slots;
+  few = subst (λ (n : ℕ). AllByRecursion (IsFew (3 * n)) (changed k c).slots)
+      (sym (count k.volume c)) (few-after steps k.volume c k.slots v lawful d.few);
 }
 
--- where what is kept shows a world, and both answer alike
-module _ (alike : KeptShowsWorlds) where
-  -- a desk is one after a change
-  pub IsDesk-change : StepsAreFew → ChangesCount → (k : Kept) (c : Change_) → IsDesk k
-      → IsVolume k.volume → IsLawful k.volume c → IsDesk (changed k c)
-  IsDesk-change steps count k c d v lawful = record {
-    slots = length-map k.slots _ ∙ d.slots;
-    few = subst (λ (n : ℕ). AllByRecursion (IsFew (3 * n)) (changed k c).slots)
-        (sym (count k.volume c)) (few-after steps k.volume c k.slots v lawful d.few);
-    world = next d.world (Change c);
-    shows = subst (λ (r : Option Refusal). Shows (change_if k c r).1 (next d.world (Change c)))
-        lawful (alike k d.world (Change c) d.shows).1;
-  }
+-- after an opening
+pub IsKept-open : (k : Kept) (q : Query) (port backlog : ℕ) (moved : Bool) → IsKept k
+    → IsKept (opened k (fresh_slot q moved k.volume.number port backlog))
+IsKept-open k q port backlog moved d =
+    let s = fresh_slot q moved k.volume.number port backlog in
+    record {
+      slots = length-set k.slots (first_free k.slots) (Some s) ∙ d.slots;
+      few = all-set (IsFew (3 * k.volume.number)) k.slots (first_free k.slots)
+          (Some s) d.few (omega arith);
+    }
 
-  -- a desk is one after an opening
-  pub IsDesk-open : (k : Kept) (q : Query) (port backlog : ℕ) (moved : Bool)
-      → IsDesk k → opening_refusal k port backlog ≡ None
-      → IsDesk (opened k (fresh_slot q moved k.volume.number port backlog))
-  IsDesk-open k q port backlog moved d none =
-      let s = fresh_slot q moved k.volume.number port backlog in
-      record {
-        slots = length-set k.slots (first_free k.slots) (Some s) ∙ d.slots;
-        few = all-set (IsFew (3 * k.volume.number)) k.slots (first_free k.slots)
-            (Some s) d.few (omega arith);
-        world = next d.world (Open q port backlog moved);
-        shows = subst (λ (r : Option Refusal).
-            Shows (open_if k s r).1 (next d.world (Open q port backlog moved))) none
-            (alike k d.world (Open q port backlog moved) d.shows).1;
-      }
+-- after what is done at a slot, where it makes no message
+IsKept-at : (k : Kept) (slot : ℕ) (does : KeptSlot → Answer × Option KeptSlot)
+    (r : Answer) (ks : List (Option KeptSlot)) → IsKept k → (r, ks) ≡ outcome_of does k.slots slot
+    → ((s : KeptSlot) → IsFew (3 * k.volume.number) (Some s)
+    → IsFew (3 * k.volume.number) (does s).1)
+    → IsKept (record k { slots = ks })
+IsKept-at k slot does r ks d is keeps =
+    let at : ks ≡ (outcome_of does k.slots slot).1 =
+    ap (λ (p : Answer × List (Option KeptSlot)). p.1) is in
+    record {
+      slots = ap length at ∙ (length-outcome_of does k.slots slot ∙ d.slots);
+      few = subst (λ (js : List (Option KeptSlot)). AllByRecursion (IsFew (3 * k.volume.number)) js)
+          (sym at) (few-outcome_of (3 * k.volume.number) does keeps k.slots slot d.few);
+    }
 
-  -- after events that leave the number of slots, and make no message
-  pub IsDesk-after : (k : Kept) (es : List Event) (ks : List (Option KeptSlot))
-      → IsDesk k → kept_after k es ≡ record k { slots = ks } → length ks ≡ length k.slots
-      → AllByRecursion (IsFew (3 * k.volume.number)) ks
-      → IsDesk (record k { slots = ks })
-  IsDesk-after k es ks d is long few = record {
-    slots = long ∙ d.slots;
-    few = few;
-    world = after_all outcome d.world es;
-    shows = subst (λ (j : Kept). Shows j (after_all outcome d.world es)) is
-        (after-shows alike k d.world es d.shows);
-  }
+-- after the notices of all slots
+pub IsKept-noticed : (k : Kept) (n : ℕ) (ks : List (Option KeptSlot)) → IsKept k
+    → ks ≡ map (option_map (noticed n)) k.slots
+    → IsKept (record k { slots = ks })
+IsKept-noticed k n ks d is =
+    subst (λ js. IsKept (record k { slots = js })) (sym is)
+    (record {
+      slots = length-map k.slots _ ∙ d.slots;
+      few = few-noticed_all (3 * k.volume.number) n k.slots d.few;
+    })
 
-  -- after what is done at a slot, where events do that and it makes no message
-  IsDesk-at : (k : Kept) (slot : ℕ) (does : KeptSlot → Answer × Option KeptSlot) (es : List Event)
-      (r : Answer) (ks : List (Option KeptSlot)) → IsDesk k → (r, ks) ≡ outcome_of does k.slots slot
-      → kept_after k es ≡ (at_kept k slot does).1
-      → ((s : KeptSlot) → IsFew (3 * k.volume.number) (Some s)
-      → IsFew (3 * k.volume.number) (does s).1)
-      → IsDesk (record k { slots = ks })
-  IsDesk-at k slot does es r ks d is same keeps =
-      let at : ks ≡ (outcome_of does k.slots slot).1 =
-      ap (λ (p : Answer × List (Option KeptSlot)). p.1) is in
-      IsDesk-after k es ks d
-      (same ∙ sym (ap (λ (p : Answer × Kept). p.1) (at-same k does slot r ks is)))
-      (ap length at ∙ length-outcome_of does k.slots slot)
-      (subst (λ (js : List (Option KeptSlot)). AllByRecursion (IsFew (3 * k.volume.number)) js)
-      (sym at) (few-outcome_of (3 * k.volume.number) does keeps k.slots slot d.few))
+-- after each port was filled
+pub IsKept-filled : (k : Kept) (ks : List (Option KeptSlot)) → IsKept k
+    → ks ≡ map (option_map filled) k.slots → IsKept (record k { slots = ks })
+IsKept-filled k ks d is =
+    subst (λ js. IsKept (record k { slots = js })) (sym is)
+    (record {
+      slots = length-map k.slots _ ∙ d.slots;
+      few = few-filled_all (3 * k.volume.number) k.slots d.few;
+    })
 
-  -- after the notices of all slots
-  pub IsDesk-noticed : (k : Kept) (n : ℕ) (ks : List (Option KeptSlot)) → IsDesk k
-      → n ≡ k.volume.number → ks ≡ map (option_map (noticed n)) k.slots
-      → IsDesk (record k { slots = ks })
-  IsDesk-noticed k n ks d same is =
-      let made : ks ≡ map (option_map (noticed k.volume.number)) k.slots =
-      is ∙ ap (λ m. map (option_map (noticed m)) k.slots) same in
-      subst (λ js. IsDesk (record k { slots = js })) (sym made)
-      (IsDesk-after k (notices (kept_ports k))
-      (map (option_map (noticed k.volume.number)) k.slots) d
-      (sym (noticed-all k)) (length-map k.slots _)
-      (few-noticed_all (3 * k.volume.number) k.volume.number k.slots d.few))
+-- after an act at a slot
+pub IsKept-act : (k : Kept) (n : ℕ) (a : Act) (slot : ℕ) (r : Answer)
+    (ks : List (Option KeptSlot)) → IsKept k
+    → (r, ks) ≡ outcome_of (act_of n a) k.slots slot → IsKept (record k { slots = ks })
+IsKept-act k n a slot r ks d is =
+    IsKept-at k slot (act_of n a) r ks d is (few-act (3 * k.volume.number) n a)
 
-  -- after each port was filled
-  pub IsDesk-filled : (k : Kept) (ks : List (Option KeptSlot)) → IsDesk k
-      → ks ≡ map (option_map filled) k.slots → IsDesk (record k { slots = ks })
-  IsDesk-filled k ks d is =
-      subst (λ js. IsDesk (record k { slots = js })) (sym is)
-      (IsDesk-after k (all_puts (kept_ports k)) (map (option_map filled) k.slots) d
-      (sym (filled-all k)) (length-map k.slots _)
-      (few-filled_all (3 * k.volume.number) k.slots d.few))
+-- after a read with its turn
+pub IsKept-read : (k : Kept) (n slot : ℕ) (r : Answer) (ks : List (Option KeptSlot)) → IsKept k
+    → (r, ks) ≡ outcome_of (read_turn n) k.slots slot
+    → IsKept (record k { slots = ks })
+IsKept-read k n slot r ks d is =
+    IsKept-at k slot (read_turn n) r ks d is (few-read_turn (3 * k.volume.number) n)
 
-  -- after an act at a slot
-  pub IsDesk-act : (k : Kept) (n : ℕ) (a : Act) (slot : ℕ) (r : Answer)
-      (ks : List (Option KeptSlot)) → IsDesk k → n ≡ k.volume.number
-      → (r, ks) ≡ outcome_of (act_of n a) k.slots slot → IsDesk (record k { slots = ks })
-  IsDesk-act k n a slot r ks d same is =
-      IsDesk-at k slot (act_of k.volume.number a) (event_at slot a ∷ []) r ks d
-      (is ∙ ap (λ m. outcome_of (act_of m a) k.slots slot) same)
-      (ap (λ (p : Answer × Kept). p.1) (act-outcome k slot a))
-      (few-act (3 * k.volume.number) k.volume.number a)
-
-  -- after a read with its turn
-  pub IsDesk-read : (k : Kept) (n slot : ℕ) (r : Answer) (ks : List (Option KeptSlot)) → IsDesk k
-      → n ≡ k.volume.number → (r, ks) ≡ outcome_of (read_turn n) k.slots slot
-      → IsDesk (record k { slots = ks })
-  IsDesk-read k n slot r ks d same is =
-      let before = (kept_turn k (Take slot)).before in
-      IsDesk-at k slot (read_turn k.volume.number) (before ++ Take slot ∷ []) r ks d
-      (is ∙ ap (λ m. outcome_of (read_turn m) k.slots slot) same)
-      (after-join kept_outcome k before (Take slot ∷ [])
-      ∙ ap (λ (p : Answer × Kept). p.1) (read-events k slot))
-      (few-read_turn (3 * k.volume.number) k.volume.number)
-
-  -- after a close with its turn
-  pub IsDesk-close : (k : Kept) (n slot : ℕ) (r : Answer) (ks : List (Option KeptSlot)) → IsDesk k
-      → n ≡ k.volume.number → (r, ks) ≡ outcome_of (close_turn n) k.slots slot
-      → IsDesk (record k { slots = ks })
-  IsDesk-close k n slot r ks d same is =
-      IsDesk-at k slot (close_turn k.volume.number)
-      (Notice slot ∷ Close slot ∷ puts slot (places_at (kept_ports k) slot)) r ks d
-      (is ∙ ap (λ m. outcome_of (close_turn m) k.slots slot) same)
-      (ap (λ (p : Answer × Kept). p.1) (close-events k slot))
-      (few-close_turn (3 * k.volume.number) k.volume.number)
+-- after a close with its turn
+pub IsKept-close : (k : Kept) (n slot : ℕ) (r : Answer) (ks : List (Option KeptSlot)) → IsKept k
+    → (r, ks) ≡ outcome_of (close_turn n) k.slots slot
+    → IsKept (record k { slots = ks })
+IsKept-close k n slot r ks d is =
+    IsKept-at k slot (close_turn n) r ks d is (few-close_turn (3 * k.volume.number) n)
 
 -- what is done at a slot, by the desk as it was seen before
 pub at-view : (does : ℕ → KeptSlot → Answer × Option KeptSlot) (k j : Kept) (n slot : ℕ)
@@ -212,16 +163,10 @@ filled-view k j ks view is =
     ∙ (filled-all k ∙ ap (λ (i : Kept). kept_after i (all_puts (kept_ports i))) view)
 
 -- each slot of a desk has made few messages
-pub few-desk : (k : Kept) → IsVolume k.volume → IsDesk k
+pub few-desk : (k : Kept) → IsVolume k.volume → IsKept k
     → AllByRecursion (IsFew (2 ^ 63 - 1)) k.slots
 few-desk k v d = few-more (3 * k.volume.number) (2 ^ 63 - 1) k.slots
     (omega (arith, v.numbered.limit, v.numbered.number)) d.few
-
--- an opening that passes the tests
-pub opens : (k : Kept) (port backlog : ℕ) → 1 ≤ port → port ≤ 1024
-    → backlog ≤ 65536 → first_free k.slots < length k.slots → k.openings < k.volume.limit
-    → opening_refusal k port backlog ≡ None
-opens k port backlog one most few free more = grind (arith, nat_tests)
 
 -- the slots with a new subscription in the first free one
 pub slots-opened : (xs ys : List (Option PreparedSlot))

@@ -15,7 +15,7 @@ use Rattle.lq_update.specs.declared.mark.Cause.TheVariants.{HungUp}
 use Rattle.lq_desk_sub.specs.Held.{is_live, held_after, ended_by}
 use Rattle.lq_desk.specs.Slot.{KeptSlot, put_slot, notice_if, notice_slot, slot_after, after_put, after_puts, filled, noticed}
 use Rattle.lq_desk.specs.Kept.{Kept, kept_at, at_place, at_kept, kept_outcome}
-use Rattle.lq_desk.specs.Turn.{slot_port, kept_ports, kept_after}
+use Rattle.lq_desk.specs.KeptTurn.{slot_port, kept_ports, kept_after}
 use Rattle.lq_desk.proofs.ListLemmas.{get-set_here, set-same}
 use Rattle.lq_desk.proofs.PutLemmas.{put-some}
 

@@ -1,8 +1,8 @@
 -- Read in this order. Lists, words of bits and update lists: ListLemmas, WordLemmas, UpdateLemmas.
 -- One slot: PutLemmas. All slots: SlotsLemmas, FewLemmas, PlaceLemmas, LoopLemmas, BitLemmas,
 -- ReadyLemmas, FreeLemmas, MarkLemmas, WatchLemmas. A desk shows a world: SlotLemmas and EndLemmas
--- (one subscription), Shown (each event), PassedLemmas (lists and refusals). Turns: RunLemmas,
--- EventLemmas, SlotTurnLemmas, TurnLemmas, ParcelLemmas. A desk stays one: Desks.
+-- (one subscription), Shown (each event). Turns: RunLemmas, EventLemmas, SlotTurnLemmas,
+-- TurnLemmas, ParcelLemmas. What a desk keeps stays as it has to be: Desks.
 pub mod ListLemmas
 pub mod UpdateLemmas
 pub mod PutLemmas
@@ -25,5 +25,4 @@ pub mod SlotTurnLemmas
 pub mod TurnLemmas
 pub mod ParcelLemmas
 pub mod Desks
-pub mod PassedLemmas
 pub mod Crossing

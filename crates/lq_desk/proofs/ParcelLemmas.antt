@@ -18,7 +18,7 @@ use Rattle.lq_desk.specs.Slot.{KeptSlot, PreparedSlot, after_put, after_puts, ca
 use Rattle.lq_desk.specs.Act.{read_turn}
 use Rattle.lq_desk.specs.Kept.{Kept, at_place, kept_at}
 use Rattle.lq_desk.specs.Ready.{MarksParcels, has_parcel, is_parcel}
-use Rattle.lq_desk.specs.Turn.{kept_turn_outcome}
+use Rattle.lq_desk.specs.KeptTurn.{kept_turn_outcome}
 use Rattle.lq_desk.specs.Words.{SetsBit}
 use Rattle.lq_desk.proofs.BitLemmas.{which}
 use Rattle.lq_desk.proofs.LoopLemmas.{get-is, get_or-map}

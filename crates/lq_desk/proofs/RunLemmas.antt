@@ -1,31 +1,36 @@
--- A run of a desk goes on by one event.
-use Rattle.std.proofs.Common.{◌≡◌, List, [], ◌∷◌, ◌++◌, refl, ap, subst, map}
+-- Runs of a world, joined.
+use Rattle.std.proofs.Common.{◌≡◌, List, [], ◌∷◌, ◌++◌, refl, ap, subst, map, length, suc, inl}
 use Rattle.lq_desk_world.specs.World.{World}
 use Rattle.lq_desk_world.specs.declared.event.Event.{Event}
-use Rattle.lq_desk_world.specs.Events.{Answer}
+use Rattle.lq_desk_world.specs.Events.{Answer, answer, next, outcome}
 use Rattle.lq_desk_world.specs.Runs.{Step, Run}
-use Rattle.lq_desk.specs.Kept.{Kept}
-use Rattle.lq_desk.specs.Reply.{Moves, Runs}
+use Rattle.lq_desk_world.specs.Turns.{after_all}
 
--- a run of a world, with one step more
-run-more : (w mid v : World) (events : List Event) (answers : List Answer)
+-- a run, and one that goes on from its end
+pub run-join : (w mid v : World) (events : List Event) (answers : List Answer)
+    (more : List Event) (others : List Answer) → Run w events answers mid → Run mid more others v
+    → Run w (events ++ more) (answers ++ others) v
+run-join w mid v [] [] more others run rest =
+    subst (λ (u : World). Run u more others v) run rest
+run-join w mid v [] (b ∷ answers) more others run rest = absurd run
+run-join w mid v (f ∷ events) [] more others run rest = absurd run
+run-join w mid v (f ∷ events) (b ∷ answers) more others run rest =
+    (run.0, run.1, run-join run.0 mid v events answers more others run.2 rest)
+
+-- a run with one step more
+pub run-more : (w mid v : World) (events : List Event) (answers : List Answer)
     (e : Event) (a : Answer) → Run w events answers mid → Step mid e a v
     → Run w (events ++ e ∷ []) (answers ++ a ∷ []) v
-run-more w mid v [] [] e a run step = (v, subst (λ (u : World). Step u e a v) run step, refl)
-run-more w mid v [] (b ∷ answers) e a run step = absurd run
-run-more w mid v (f ∷ events) [] e a run step = absurd run
-run-more w mid v (f ∷ events) (b ∷ answers) e a run step =
-    (run.0, run.1, run-more run.0 mid v events answers e a run.2 step)
+run-more w mid v events answers e a run step =
+    run-join w mid v events answers (e ∷ []) (a ∷ []) run (v, step, refl)
 
--- a run that a desk shows, with one move more
-pub runs-more : (mid new : Kept) (w : World) (events : List Event) (answers : List Answer)
-    (e : Event) (a : Answer) (r : Runs mid w events answers) → Moves new r.end e a
-    → Runs new w (events ++ e ∷ []) (answers ++ a ∷ [])
-runs-more mid new w events answers e a r m = record {
-  end = m.next;
-  run = run-more w r.end m.next events answers e a r.run m.step;
-  shows = m.shows;
-}
+-- events that each have their outcome are a run
+pub run-along : (w : World) (events : List Event) → (answers : List Answer)
+    × (length answers ≡ length events) × Run w events answers (after_all outcome w events)
+run-along w [] = ([], refl, refl)
+run-along w (e ∷ events) =
+    let rest = run-along (next w e) events in
+    (answer w e ∷ rest.0, ap suc rest.1, (next w e, inl (refl, refl), rest.2))
 
 -- the lists of the loop
 pub map-more : {A B : Type 0} (f : A → B) (xs : List A) (x : A)

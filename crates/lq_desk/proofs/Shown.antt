@@ -20,13 +20,13 @@ use Rattle.lq_update.specs.Laws.{UpdatesJoin}
 use Rattle.lq_desk_world.specs.World.{World, Subscribed, updates_due, slot_at, after_change, taken_before_free}
 use Rattle.lq_desk_world.specs.declared.event.Event.{Event}
 use Rattle.lq_desk_world.specs.declared.event.Event.TheVariants.{Change, Open, Put, Take, HangUp, Notice, Close, Finish}
-use Rattle.lq_desk_world.specs.Events.{Answer, Changed, Opened, changing, with_change, opening, opened_now, open_refusal, putting, reading, hanging_up, noticing, closing, finishing, at_slot, answer, next}
-use Rattle.lq_desk_world.specs.Runs.{MayRunOut}
+use Rattle.lq_desk_world.specs.Events.{Answer, Changed, Opened, Moved, Took, Empty, Ended, Asked, Noticed, Shut, Finished, Refused, changing, with_change, opening, opened_now, open_refusal, putting, reading, hanging_up, noticing, closing, finishing, at_slot, answer, next}
+use Rattle.lq_desk_world.specs.Runs.{MayRunOut, Step}
 use Rattle.lq_desk_world.specs.Fair.{IsFair, IsFairSlot, IsFairWorld}
-use Rattle.lq_desk_world.specs.Laws.{RunsKeepWorldsFair}
+use Rattle.lq_desk_world.specs.Laws.{RefusalsLeaveWorlds, RunsKeepWorldsFair}
 use Rattle.lq_desk.specs.Slot.{KeptSlot, fresh_slot, slot_after, put_slot, read_slot, ask_slot, notice_slot, close_slot, finish_slot}
 use Rattle.lq_desk.specs.Kept.{Kept, Shows, KeptMayRunOut, KeptStep, kept_of, slot_for, kept_at, at_place, at_kept, first_free, opening_refusal, opened, open_if, changed, change_if, kept_outcome}
-use Rattle.lq_desk.specs.Reply.{Moves}
+use Rattle.lq_desk.specs.Turn.{stepped}
 use Rattle.lq_desk.specs.Laws.{KeptShowsWorlds}
 use Rattle.lq_desk.proofs.ListLemmas.{all-get, not-below}
 use Rattle.lq_desk.proofs.UpdateLemmas.{after_all-append, number-all}
@@ -259,6 +259,29 @@ module _ (count : ChangesCount) where
             },
           )
 
+-- ---- the world after an event, by its answer
+
+-- where the answer is the world's, it is the next world
+pub stepped-next : RefusalsLeaveWorlds → (w : World) (e : Event) (a : Answer) → a ≡ answer w e
+    → stepped w e a ≡ next w e
+stepped-next law w e (Refused r) is = sym (law w e r (sym is))
+stepped-next law w e (Changed applied) is = refl
+stepped-next law w e (Opened slot at result) is = refl
+stepped-next law w e (Moved was) is = refl
+stepped-next law w e (Took parcel) is = refl
+stepped-next law w e Empty is = refl
+stepped-next law w e Ended is = refl
+stepped-next law w e Asked is = refl
+stepped-next law w e (Noticed was) is = refl
+stepped-next law w e (Shut change) is = refl
+stepped-next law w e Finished is = refl
+
+-- a step whose event was refused leaves the world
+pub refused-stays : RefusalsLeaveWorlds → (w v : World) (e : Event) (a : Answer) (r : Refusal)
+    → Step w e a v → a ≡ Refused r → v ≡ w
+refused-stays law w v e a r (inl done) is = done.1 ∙ law w e r (sym done.0 ∙ is)
+refused-stays law w v e a r (inr ran) is = ran.2
+
 -- where what is kept shows a world, and both answer alike
 module _ (alike : KeptShowsWorlds) where
   -- what may run out in the desk may in the world
@@ -272,19 +295,21 @@ module _ (alike : KeptShowsWorlds) where
   runs_out w (Close slot) is = is
   runs_out w (Finish slot) is = is
 
-  -- a step of what is kept is a move from a world that it shows
-  pub moves : (old new : Kept) (w : World) (e : Event) (a : Answer) → KeptStep old e a new
-      → Shows old w → Moves new w e a
-  moves old new w e a (inl done) shows =
+  -- a step of what is kept is a step of each world that it shows
+  pub moves : RefusalsLeaveWorlds → (old new : Kept) (w : World) (e : Event) (a : Answer)
+      → KeptStep old e a new → Shows old w → Step w e a (stepped w e a) × Shows new (stepped w e a)
+  moves law old new w e a (inl done) shows =
       let same = alike old w e shows in
-      record {
-        next = next w e;
-        step = inl (done.0 ∙ same.0, refl);
-        shows = subst (λ (k : Kept). Shows k (next w e)) (sym done.1) same.1;
-      }
-  moves old new w e a (inr ran) shows = record {
-    next = w;
-    step = inr
-        (runs_out w e (subst (λ (k : Kept). KeptMayRunOut k e) shows.kept ran.0), ran.1, refl);
-    shows = subst (λ (k : Kept). Shows k w) (sym ran.2) shows;
-  }
+      let is : a ≡ answer w e = done.0 ∙ same.0 in
+      let to = stepped-next law w e a is in (
+        inl (is, to),
+        subst (Shows new) (sym to)
+            (subst (λ (k : Kept). Shows k (next w e)) (sym done.1) same.1),
+      )
+  moves law old new w e a (inr ran) shows =
+      let may : MayRunOut w e =
+      runs_out w e (subst (λ (k : Kept). KeptMayRunOut k e) shows.kept ran.0) in
+      let stays : stepped w e a ≡ w = ap (stepped w e) ran.1 in (
+        inr (may, ran.1, stays),
+        subst (Shows new) (sym stays) (subst (λ (k : Kept). Shows k w) (sym ran.2) shows),
+      )

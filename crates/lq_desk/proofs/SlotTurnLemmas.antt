@@ -13,7 +13,7 @@ use Rattle.lq_desk_sub.specs.Held.{is_live, ended_by}
 use Rattle.lq_desk.specs.Slot.{KeptSlot, read_slot, notice_slot, close_if, close_slot, after_puts, filled, noticed}
 use Rattle.lq_desk.specs.Act.{close_turn, read_turn}
 use Rattle.lq_desk.specs.Kept.{Kept, kept_at, at_place, at_kept, kept_outcome}
-use Rattle.lq_desk.specs.Turn.{kept_ports, kept_turn, kept_after}
+use Rattle.lq_desk.specs.KeptTurn.{kept_ports, kept_turn, kept_after}
 use Rattle.lq_desk.proofs.ListLemmas.{get-set_here}
 use Rattle.lq_desk.proofs.EventLemmas.{filled-none, kept-there, notice-some, noticed-none, places-here, puts-do}
 

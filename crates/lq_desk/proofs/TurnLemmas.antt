@@ -1,5 +1,5 @@
 -- The turns of a desk.
-use Rattle.std.proofs.Common.{◌≡◌, ℕ, suc, ◌+◌, List, [], ◌∷◌, ◌++◌, refl, ap, map, length, ◌∙◌, sym, subst, arith, Some, None, Option, inl, inr}
+use Rattle.std.proofs.Common.{◌≡◌, ℕ, ◌+◌, List, [], ◌∷◌, ◌++◌, refl, ap, map, length, ◌∙◌, sym, subst, arith, Some, None, Option, inl, inr}
 use Rattle.std.specs.Prelude.{slice_get, ◌⊎◌}
 use Rattle.std.specs.Option.{option_map}
 use Rattle.lq_value.specs.declared.refusal.Refusal.{Refusal}
@@ -10,17 +10,20 @@ use Rattle.lq_volume.specs.Change.{refused}
 use Rattle.lq_desk_world.specs.World.{World, Subscribed}
 use Rattle.lq_desk_world.specs.declared.event.Event.{Event}
 use Rattle.lq_desk_world.specs.declared.event.Event.TheVariants.{Change, Open, Put, Take, HangUp, Notice, Close, Finish}
-use Rattle.lq_desk_world.specs.Events.{Answer, Refused, outcome, next}
-use Rattle.lq_desk_world.specs.Turns.{Turn, turn_of, events_in, ports_of, at_slot_of, at_each, one_notice, puts, notices, all_puts, after_all, carried_out}
+use Rattle.lq_desk_world.specs.Events.{Answer, Refused, answer, outcome, next}
+use Rattle.lq_desk_world.specs.Laws.{RefusalsLeaveWorlds}
+use Rattle.lq_desk_world.specs.Runs.{Run}
+use Rattle.lq_desk_world.specs.Turns.{Turn, turn_of, events_in, ports_of, at_slot_of, at_each, one_notice, puts, notices, all_puts, after_all, carried_out, turn_outcome}
 use Rattle.lq_desk.specs.Slot.{KeptSlot, filled, noticed}
 use Rattle.lq_desk.specs.Act.{close_turn, read_turn}
 use Rattle.lq_desk.specs.Kept.{Kept, KeptStep, Shows, slot_for, at_kept, kept_outcome, change_if}
-use Rattle.lq_desk.specs.Reply.{Moves, Runs}
-use Rattle.lq_desk.specs.Turn.{slot_port, kept_ports, kept_turn, kept_turn_outcome, kept_after, TurnStep, TurnRuns}
-use Rattle.lq_desk.specs.Laws.{KeptShowsWorlds, KeptTurnsShowWorlds}
+use Rattle.lq_desk.specs.Turn.{TurnRuns, carried_to, stepped, turned}
+use Rattle.lq_desk.specs.KeptTurn.{slot_port, kept_ports, kept_turn, kept_turn_outcome, kept_after, TurnStep}
+use Rattle.lq_desk.specs.Laws.{KeptShowsWorlds}
 use Rattle.lq_desk.proofs.ListLemmas.{set-seam}
-use Rattle.lq_desk.proofs.RunLemmas.{runs-more}
-use Rattle.lq_desk.proofs.EventLemmas.{Does, after-join, append-join, append-nil, fill-does, notice-does, ports-after, ports-noticed}
+use Rattle.lq_desk.proofs.RunLemmas.{run-along, run-join}
+use Rattle.lq_desk.proofs.Shown.{moves, stepped-next}
+use Rattle.lq_desk.proofs.EventLemmas.{Does, after-join, append-join, fill-does, notice-does, ports-after, ports-noticed}
 use Rattle.lq_desk.proofs.SlotTurnLemmas.{close-events, read-events}
 
 -- ---- one slot after another
@@ -193,66 +196,6 @@ ports-shown b (Some s ∷ slots) = ap (λ ps. Some s.port ∷ ps) (ports-shown b
 ports-same : (k : Kept) (w : World) → Shows k w → kept_ports k ≡ ports_of w
 ports-same k w shows = ap kept_ports shows.kept ∙ ports-shown w.book w.slots
 
--- each step of what is kept is a move from a world that it shows
-abbrev pub Moving : Type 0
-Moving = (old new : Kept) (w : World) (e : Event) (a : Answer) → KeptStep old e a new
-    → Shows old w → Moves new w e a
-
--- where that is so
-module _ (moves : Moving) where
-  -- events that take no memory carry a run on
-  run-all : (k : Kept) (w : World) (done : List Event) (answers : List Answer)
-      (es : List Event) → Runs k w done answers
-      → (more : List Answer) × (length more ≡ length es)
-      × Runs (kept_after k es) w (done ++ es) (answers ++ more)
-  run-all k w done answers [] r = (
-    [],
-    refl,
-    subst (λ (got : List Answer). Runs k w (done ++ []) got) (sym (append-nil answers))
-        (subst (λ (es : List Event). Runs k w es answers) (sym (append-nil done)) r),
-  )
-  run-all k w done answers (e ∷ es) r =
-      let a = (kept_outcome k e).0 in
-      let l = (kept_outcome k e).1 in
-      let rest = run-all l w (done ++ e ∷ []) (answers ++ a ∷ []) es
-      (runs-more k l w done answers e a r (moves k l r.end e a (inl (refl, refl)) r.shows)) in (
-        a ∷ rest.0,
-        ap suc rest.1,
-        subst (λ (got : List Answer). Runs (kept_after l es) w (done ++ e ∷ es) got)
-            (append-join answers (a ∷ []) rest.0)
-            (subst (λ (xs : List Event). Runs (kept_after l es) w xs
-            ((answers ++ a ∷ []) ++ rest.0)) (append-join done (e ∷ []) es) rest.2),
-      )
-
-  -- a turn is a run of its events
-  pub turn-runs : (k l : Kept) (w : World) (e : Event) (a : Answer)
-      → kept_turn k e ≡ record (kept_turn k e) { event = e } → TurnStep k e a l → Shows k w
-      → TurnRuns l w e a
-  turn-runs k l w e a is t shows =
-      let turn = kept_turn k e in
-      let first = run-all k w [] [] turn.before (record { end = w; run = refl; shows = shows }) in
-      let mid = kept_after k turn.before in
-      let second = runs-more mid t.middle w turn.before first.0 e a first.2
-      (moves mid t.middle first.2.end e a t.step first.2.shows) in
-      let last = run-all t.middle w (turn.before ++ e ∷ []) (first.0 ++ a ∷ []) turn.after second in
-      let whole : Runs l w ((turn.before ++ e ∷ []) ++ turn.after) ((first.0 ++ a ∷ []) ++ last.0) =
-      subst (λ (j : Kept). Runs j w ((turn.before ++ e ∷ []) ++ turn.after)
-      ((first.0 ++ a ∷ []) ++ last.0)) (sym t.after) last.2 in
-      let same : turn ≡ turn_of (ports_of w) e =
-      ap (λ (ps : List (Option ℕ)). turn_of ps e) (ports-same k w shows) in
-      let runs : Runs l w (events_in turn) (first.0 ++ a ∷ last.0) =
-      subst (λ (es : List Event). Runs l w es (first.0 ++ a ∷ last.0))
-      (append-join turn.before (e ∷ []) turn.after
-      ∙ ap (λ (u : Turn). turn.before ++ u.event ∷ turn.after) (sym is))
-      (subst (λ (got : List Answer). Runs l w ((turn.before ++ e ∷ []) ++ turn.after) got)
-      (append-join first.0 (a ∷ []) last.0) whole) in
-      record {
-        before = first.0;
-        after = last.0;
-        place = first.1 ∙ ap (λ (u : Turn). length u.before) same;
-        runs = subst (λ (u : Turn). Runs l w (events_in u) (first.0 ++ a ∷ last.0)) same runs;
-      }
-
 -- a turn's event is the one that began it
 pub turn-event : (k : Kept) (e : Event) → kept_turn k e ≡ record (kept_turn k e) { event = e }
 turn-event k (Change c) = refl
@@ -264,49 +207,88 @@ turn-event k (Notice slot) = refl
 turn-event k (Close slot) = refl
 turn-event k (Finish slot) = refl
 
--- a turn has its outcome, unless memory runs out
-pub turn-outcome : (k l : Kept) (e : Event) (a : Answer) → TurnStep k e a l
-    → (a ≡ Refused NoMemory) ⊎ ((a, l) ≡ kept_turn_outcome k e)
-turn-outcome k l e a t = elim t.step [
-  | inl does ↦
-      let turn = kept_turn k e in
-      let mid = kept_after k turn.before in
-      let same : l ≡ kept_after (kept_outcome mid e).1 turn.after =
-      t.after ∙ ap (λ (j : Kept). kept_after j turn.after) does.1 in
-      inr (ap (λ (b : Answer). (b, l)) does.0
-      ∙ (ap (λ (j : Kept). ((kept_outcome mid e).0, j)) same
-      ∙ ap (λ (f : Event). ((kept_outcome mid f).0, kept_after (kept_outcome mid f).1 turn.after))
-      (sym (ap (λ (u : Turn). u.event) (turn-event k e)))))
-  | inr ran ↦ inl ran.1
-]
-
 -- where what is kept shows a world, and both answer alike
 module _ (alike : KeptShowsWorlds) where
   -- they show each other after many events
-  pub after-shows : (k : Kept) (w : World) (es : List Event) → Shows k w
+  after-shows : (k : Kept) (w : World) (es : List Event) → Shows k w
       → Shows (kept_after k es) (after_all outcome w es)
   after-shows k w [] shows = shows
   after-shows k w (e ∷ es) shows =
       after-shows (kept_outcome k e).1 (next w e) es (alike k w e shows).1
 
-  -- a turn is carried out alike
-  same-turn : (k : Kept) (w : World) (t : Turn) → Shows k w
-      → ((carried_out kept_outcome k t).0 ≡ (carried_out outcome w t).0)
-      × Shows (carried_out kept_outcome k t).1 (carried_out outcome w t).1
-  same-turn k w t shows =
-      let first = after-shows k w t.before shows in
-      let step = alike (kept_after k t.before) (after_all outcome w t.before) t.event first in (
-        step.0,
-        after-shows (kept_outcome (kept_after k t.before) t.event).1
-            (next (after_all outcome w t.before) t.event) t.after step.1,
-      )
+  -- the turn that is kept for an event is the world's, and has this event
+  same-turn : (k : Kept) (w : World) (e : Event) → Shows k w
+      → kept_turn k e ≡ turn_of (ports_of w) e
+  same-turn k w e shows = ap (λ (ps : List (Option ℕ)). turn_of ps e) (ports-same k w shows)
 
-  -- each turn is carried out alike
-  pub turns-show : KeptTurnsShowWorlds
-  turns-show k w e shows =
-      let ports = ports-same k w shows in
-      subst (λ (ps : List (Option ℕ)). ((carried_out kept_outcome k (turn_of ps e)).0
-      ≡ (carried_out outcome w (turn_of (ports_of w) e)).0)
-      × Shows (carried_out kept_outcome k (turn_of ps e)).1
-      (carried_out outcome w (turn_of (ports_of w) e)).1) (sym ports)
-      (same-turn k w (turn_of (ports_of w) e) shows)
+  -- each turn is answered alike
+  pub turn-answer : (k : Kept) (w : World) (e : Event) → Shows k w
+      → (kept_turn_outcome k e).0 ≡ (turn_outcome w e).0
+  turn-answer k w e shows =
+      let turn = turn_of (ports_of w) e in
+      ap (λ (t : Turn). (carried_out kept_outcome k t).0) (same-turn k w e shows)
+      ∙ (alike (kept_after k turn.before) (after_all outcome w turn.before) turn.event
+      (after-shows k w turn.before shows)).0
+
+  -- and refused events leave worlds
+  module _ (law : RefusalsLeaveWorlds) where
+    -- what is so of a turn that was carried out from a state that shows a world
+    pub record Went (t : Turn) (w : World) (a : Answer) (l : Kept) : Type 0 where
+      pub shows : Shows l (carried_to w t a)
+      pub before : List Answer
+      pub after : List Answer
+      pub place : length before ≡ length t.before
+      pub run : Run w (events_in t) (before ++ a ∷ after) (carried_to w t a)
+      pub outcome : (a ≡ Refused NoMemory) ⊎ ((a, carried_to w t a) ≡ carried_out outcome w t)
+
+    -- the outcome of such a turn, unless memory ran out
+    went-outcome : (t : Turn) (k m : Kept) (w : World) (a : Answer)
+        → KeptStep (kept_after k t.before) t.event a m → Shows k w
+        → (a ≡ Refused NoMemory) ⊎ ((a, carried_to w t a) ≡ carried_out outcome w t)
+    went-outcome t k m w a (inl does) shows =
+        let mid = after_all outcome w t.before in
+        let is : a ≡ answer mid t.event = does.0
+        ∙ (alike (kept_after k t.before) mid t.event (after-shows k w t.before shows)).0 in
+        inr (ap (λ (v : World). (a, after_all outcome v t.after))
+        (stepped-next law mid t.event a is)
+        ∙ ap (λ (b : Answer). (b, after_all outcome (next mid t.event) t.after)) is)
+    went-outcome t k m w a (inr ran) shows = inl ran.1
+
+    -- a turn, whatever its parts are
+    went : (t : Turn) (k m l : Kept) (w : World) (a : Answer)
+        → KeptStep (kept_after k t.before) t.event a m → l ≡ kept_after m t.after → Shows k w
+        → Went t w a l
+    went t k m l w a step is shows =
+        let mid = after_all outcome w t.before in
+        let to = stepped mid t.event a in
+        let moved = moves alike law (kept_after k t.before) m mid t.event a step
+        (after-shows k w t.before shows) in
+        let first = run-along w t.before in
+        let last = run-along to t.after in
+        record {
+          shows = subst (λ (j : Kept). Shows j (carried_to w t a)) (sym is)
+              (after-shows m to t.after moved.1);
+          before = first.0;
+          after = last.0;
+          place = first.1;
+          run = run-join w mid (carried_to w t a) t.before first.0 (t.event ∷ t.after)
+              (a ∷ last.0) first.2 (to, moved.0, last.2);
+          outcome = went-outcome t k m w a step shows;
+        }
+
+    -- a turn of a desk
+    pub turn-went : (k l : Kept) (w : World) (e : Event) (a : Answer) → TurnStep k e a l
+        → Shows k w → Went (turn_of (ports_of w) e) w a l
+    turn-went k l w e a t shows =
+        let own : (kept_turn k e).event ≡ e = ap (λ (u : Turn). u.event) (turn-event k e) in
+        subst (λ (u : Turn). Went u w a l) (same-turn k w e shows)
+        (went (kept_turn k e) k t.middle l w a
+        (subst (λ (f : Event). KeptStep (kept_after k (kept_turn k e).before) f a t.middle)
+        (sym own) t.step) t.after shows)
+
+    -- which is a run of its events
+    pub turn-runs : (k l : Kept) (w : World) (e : Event) (a : Answer) → TurnStep k e a l
+        → Shows k w → TurnRuns w e a (turned w e a)
+    turn-runs k l w e a t shows =
+        let g = turn-went k l w e a t shows in
+        record { before = g.before; after = g.after; place = g.place; run = g.run }

@@ -1,4 +1,5 @@
--- The state that a desk keeps, its answer to each event, and which worlds it shows.
+-- What a desk keeps, its answer to each event by that, and which worlds it shows. Only the clauses
+-- of private functions name it: those of `Desk` name the world.
 use Rattle.std.specs.Prelude.{◌≡◌, ◌⊎◌, ℕ, ◌+◌, ◌-◌, ◌*◌, ◌≤◌, List, [], ◌∷◌, length, map, ◌==◌, nat_le, nat_lt, Option, Some, None, slice_get, slice_set, if◌then◌else◌}
 use Rattle.std.specs.Option.{option_map, option_flatten}
 use Rattle.std.specs.List.{AllByRecursion}
@@ -165,20 +166,12 @@ pub record Shows (k : Kept) (w : World) : Type 0 where
   pub fair : IsFairWorld w
   pub kept : k ≡ kept_of w
 
--- some world is shown, and its book leads to the volume
-pub record ShowsSome (k : Kept) : Type 0 where
-  pub world : World
-  pub shows : Shows k world
-  pub volume : state_of world.book ≡ k.volume
-
 -- at most this many messages were made
 abbrev pub IsFew : ℕ → Option KeptSlot → Type 0
 IsFew n None = Unit {0}
 IsFew n (Some s) = s.held.sent ≤ n
 
--- a desk has 64 slots, its message numbers fit into a `u64`, and it shows some world
-pub record IsDesk (k : Kept) : Type 0 where
+-- there are 64 slots, and their message numbers fit into a `u64`
+pub record IsKept (k : Kept) : Type 0 where
   pub slots : length k.slots ≡ 64
   pub few : AllByRecursion (IsFew (3 * k.volume.number)) k.slots
-  pub world : World
-  pub shows : Shows k world

@@ -3,6 +3,7 @@ pub mod Words
 pub mod Act
 pub mod Kept
 pub mod Reply
+pub mod KeptTurn
 pub mod Turn
 pub mod Ready
 pub mod Laws

@@ -4,10 +4,12 @@ use Rattle.std.specs.Option.{option_flatten}
 use Rattle.std.specs.Int.{bit_at}
 use Rattle.lq_desk_world.specs.declared.event.Event.TheVariants.{Take}
 use Rattle.lq_desk_world.specs.Events.{Answer, Took}
+use Rattle.lq_desk_world.specs.Turns.{turn_outcome}
+use Rattle.lq_desk_world.specs.World.{World}
 use Rattle.lq_desk_sub.specs.Held.{next_parcel}
 use Rattle.lq_desk.specs.Slot.{KeptSlot, is_ending, passes}
 use Rattle.lq_desk.specs.Kept.{Kept}
-use Rattle.lq_desk.specs.Turn.{kept_turn_outcome}
+use Rattle.lq_desk.specs.KeptTurn.{kept_turn_outcome}
 
 -- a read gave a message or the mark, and neither `Empty` nor `Ended`
 abbrev pub is_parcel : Answer → Bool
@@ -16,8 +18,15 @@ is_parcel a = false
 
 -- The bit of each slot, for slot k the one at k - 1, is set just where the turn of a read would
 -- give a message or the mark.
-abbrev pub TellsReady : Kept → ℕ → Type 0
-TellsReady k word = (slot : ℕ) → 1 ≤ slot
+abbrev pub TellsReady : World → ℕ → Type 0
+TellsReady w word = (slot : ℕ) → 1 ≤ slot
+    → (bit_at word (slot - 1) == 1) ≡ is_parcel (turn_outcome w (Take slot)).0
+
+-- ---- the same by what is kept
+
+-- that of the turns by what is kept
+abbrev pub TellsParcels : Kept → ℕ → Type 0
+TellsParcels k word = (slot : ℕ) → 1 ≤ slot
     → (bit_at word (slot - 1) == 1) ≡ is_parcel (kept_turn_outcome k (Take slot)).0
 
 -- whether a slot has a parcel for a read that comes after a notice and after its port was filled

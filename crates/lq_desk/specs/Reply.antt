@@ -1,15 +1,10 @@
 -- The code's replies as the world's answers.
-use Rattle.std.specs.Prelude.{List}
 use Rattle.lq_update.specs.declared.parcel.Parcel.TheVariants.{Update, Fin}
 use Rattle.lq_desk_sub.specs.declared.read.Read.{Read as Read_}
 use Rattle.lq_desk_sub.specs.declared.read.Read.TheVariants as read
 use Rattle.lq_desk.specs.declared.reply.Reply.{Reply}
 use Rattle.lq_desk.specs.declared.reply.Reply.TheVariants as reply
-use Rattle.lq_desk_world.specs.World.{World}
-use Rattle.lq_desk_world.specs.declared.event.Event.{Event}
 use Rattle.lq_desk_world.specs.Events.{Answer, Changed, Opened, Moved, Took, Empty, Ended, Asked, Noticed, Shut, Finished, Refused}
-use Rattle.lq_desk_world.specs.Runs.{Step, Run}
-use Rattle.lq_desk.specs.Kept.{Kept, Shows}
 
 -- a read as the world's answer
 abbrev pub answer_of_read : Read_ → Answer
@@ -29,16 +24,3 @@ answer_of (reply.Noticed was) = Noticed was
 answer_of (reply.Shut change) = Shut change
 answer_of reply.Finished = Finished
 answer_of (reply.Refused refusal) = Refused refusal
-
--- the desk shows a world after this event, and the world takes this step to it
-pub record Moves (new : Kept) (w : World) (e : Event) (a : Answer) : Type 0 where
-  pub next : World
-  pub step : Step w e a next
-  pub shows : Shows new next
-
--- the same over several events
-pub record Runs (new : Kept) (w : World) (events : List Event)
-    (answers : List Answer) : Type 0 where
-  pub end : World
-  pub run : Run w events answers end
-  pub shows : Shows new end

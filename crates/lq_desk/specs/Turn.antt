@@ -1,43 +1,28 @@
--- What a desk does in one turn: an event, and the steps that the desk adds by itself.
-use Rattle.std.specs.Prelude.{◌≡◌, ◌++◌, ◌∷◌, ℕ, List, length, map, Option}
-use Rattle.std.specs.Option.{option_map}
+-- What a world does in one turn: an event, and the steps that come with it.
+use Rattle.std.specs.Prelude.{◌≡◌, ◌++◌, ◌∷◌, List, length}
 use Rattle.lq_desk_world.specs.World.{World}
 use Rattle.lq_desk_world.specs.declared.event.Event.{Event}
-use Rattle.lq_desk_world.specs.Events.{Answer}
-use Rattle.lq_desk_world.specs.Turns.{Turn, ports_of, turn_of, events_in, after_all, carried_out}
-use Rattle.lq_desk.specs.Slot.{KeptSlot}
-use Rattle.lq_desk.specs.Kept.{Kept, KeptStep, kept_outcome}
-use Rattle.lq_desk.specs.Reply.{Runs}
+use Rattle.lq_desk_world.specs.Events.{Answer, Refused, next, outcome}
+use Rattle.lq_desk_world.specs.Runs.{Run}
+use Rattle.lq_desk_world.specs.Turns.{Turn, ports_of, turn_of, events_in, after_all}
 
--- the number of places of a slot's port
-abbrev pub slot_port : KeptSlot → ℕ
-slot_port s = s.port
-
--- the number of places of each taken slot's port
-abbrev pub kept_ports : Kept → List (Option ℕ)
-kept_ports k = map (option_map slot_port) k.slots
-
--- the turn that an event begins: the event, and the steps before and after it
-abbrev pub kept_turn : Kept → Event → Turn
-kept_turn k e = turn_of (kept_ports k) e
-
--- the answer to the event, and the state after the turn
-abbrev pub kept_turn_outcome : Kept → Event → Answer × Kept
-kept_turn_outcome k e = carried_out kept_outcome k (kept_turn k e)
-
--- the state after events that take no memory
-abbrev pub kept_after : Kept → List Event → Kept
-kept_after k events = after_all kept_outcome k events
-
--- a whole turn, whose event may also run out of memory
-pub record TurnStep (k : Kept) (e : Event) (a : Answer) (l : Kept) : Type 0 where
-  pub middle : Kept
-  pub step : KeptStep (kept_after k (kept_turn k e).before) e a middle
-  pub after : l ≡ kept_after middle (kept_turn k e).after
-
--- a turn is a run of the events of the world's turn, and its answer is the answer to its own event
-pub record TurnRuns (l : Kept) (w : World) (e : Event) (a : Answer) : Type 0 where
+-- a turn is a run of its events, and its answer is the answer to its own event
+pub record TurnRuns (w : World) (e : Event) (a : Answer) (v : World) : Type 0 where
   pub before : List Answer
   pub after : List Answer
   pub place : length before ≡ length (turn_of (ports_of w) e).before
-  pub runs : Runs l w (events_in (turn_of (ports_of w) e)) (before ++ a ∷ after)
+  pub run : Run w (events_in (turn_of (ports_of w) e)) (before ++ a ∷ after) v
+
+-- ---- the world that a desk goes to
+
+-- the world after an event that was answered so: a refused one leaves it
+abbrev pub stepped : World → Event → Answer → World
+stepped w e (Refused r) = w
+stepped w e a = next w e
+
+-- the same of a turn
+abbrev pub carried_to : World → Turn → Answer → World
+carried_to w t a = after_all outcome (stepped (after_all outcome w t.before) t.event a) t.after
+
+abbrev pub turned : World → Event → Answer → World
+turned w e a = carried_to w (turn_of (ports_of w) e) a

@@ -1,111 +1,88 @@
 //! The desk.
-ghost use Rattle.std.specs.Prelude.{◌≡◌, ◌+◌, [], None, IfOk, OnOk, OnErr, map, replicate};
+ghost use Rattle.std.specs.Prelude.{◌≡◌, ◌⊎◌, [], IfOk, OnErr, map};
+ghost use Rattle.lq_value.specs.Refusal.{FailsOnlyForMemory};
+ghost use Rattle.lq_value.specs.declared.refusal.Refusal.{Refusal};
+ghost use Rattle.lq_value.specs.declared.refusal.Refusal.TheVariants.{NoMemory};
+ghost use Rattle.lq_volume.specs.Book.{state_of};
 ghost use Rattle.lq_volume.specs.State.{IsVolume};
-ghost use Rattle.lq_value.specs.Refusal.{FailsOnlyForMemory, IsRefusedBy};
-ghost use Rattle.lq_volume.specs.Change.{refused, node_of};
+ghost use Rattle.lq_desk_world.specs.Events.{Refused};
+ghost use Rattle.lq_desk_world.specs.Fair.{IsFairWorld};
+ghost use Rattle.lq_desk_world.specs.Headline.{ReadersAreTold};
+ghost use Rattle.lq_desk_world.specs.Runs.{Run, Step};
+ghost use Rattle.lq_desk_world.specs.Turns.{turn_outcome};
+ghost use Rattle.lq_desk_world.specs.World.{first_world};
+ghost use Rattle.lq_desk.specs.Ready.{TellsReady};
+ghost use Rattle.lq_desk.specs.Reply.{answer_of};
+ghost use Rattle.lq_desk.specs.Turn.{TurnRuns};
 
-mod turn;
-
+use crate::engine::Engine;
 use crate::laws::kept_shows_worlds;
 use crate::reply::Reply;
-use crate::slot::Slot;
-use crate::slots::{SLOTS, Slots};
-use lq_desk_sub::MAX_BACKLOG;
-use lq_desk_world::{Act, Event, first_worlds_are_fair, readers_are_told, refusals_leave_worlds};
-use lq_predicate::Predicate;
-use lq_update::steps_are_few;
+use crate::witness::Witness;
+use lq_desk_world::{Event, first_worlds_are_fair, readers_are_told, refusals_leave_worlds};
 use lq_value::Refusal;
-use lq_volume::{Applied, Change, Volume, changes_are_counted};
+use lq_volume::Volume;
 use std::alloc::Global;
 use std::marker::Model;
 
-/// The most places of a port.
-const MAX_PORT: u64 = 1024;
-
 /// The volume and its live queries with their ports; it takes one event at a time.
 ///
-/// Contracts see it as the state that it keeps (`Kept`), which shows a world.
+/// Contracts see it as a world of lq_desk_world: a book of changes, and the subscriptions over it.
+/// No code holds that world. What a desk keeps is what it would keep for that world (`Shows`).
 pub struct Desk {
-    volume: Volume,
-    openings: u64,
     alloc: Global,
-    slots: Slots,
+    engine: Engine,
+    witness: Witness,
 }
 
 // Dropping one is a single call, instead of code at each place.
 impl Drop for Desk {
     fn drop(self) {
         let Desk {
-            volume: _,
-            openings: _,
             alloc: _,
-            slots: _,
+            engine: _,
+            witness: _,
         } = self;
     }
 }
 
 impl Model for Desk {
-    ghost use Rattle.std.specs.Prelude.{map};
-    ghost use Rattle.std.specs.Option.{option_map};
-    ghost use Rattle.lq_desk.specs.Kept.{Kept, IsDesk};
-    ghost use Rattle.lq_desk.specs.Slot.{slot_of};
+    ghost use Rattle.lq_desk_world.specs.World.{World};
+    ghost use Rattle.lq_desk.specs.Kept.{Shows};
     ghost use Rattle.std.specs.Coded.{codes};
     ghost use Rattle.lq_predicate.specs.QueryCode.{coded_query};
 
-    ghost Value = { Kept };
+    ghost Value = { World };
 
     ghost coded = { Prim.hlevel (codes, coded_query) };
 
-    ghost view = { λ d. record {
-      volume = d.volume;
-      openings = d.openings;
-      slots = map (option_map slot_of) d.slots;
-    } };
+    ghost view = { λ d. d.witness.world };
 
-    ghost invariant = { λ d. IsDesk (record {
-      volume = d.volume;
-      openings = d.openings;
-      slots = map (option_map slot_of) d.slots;
-    }) };
+    ghost invariant = { λ d. Shows d.engine d.witness.world };
 }
 
 impl Desk {
-    ghost use Rattle.lq_volume.specs.Result.{result_of};
-    ghost use Rattle.lq_desk_world.specs.World.{World, first_world};
-    ghost use Rattle.lq_desk_world.specs.Events.{Opened, Refused};
-    ghost use Rattle.lq_value.specs.declared.refusal.Refusal.{Refusal};
-    ghost use Rattle.lq_desk_world.specs.Headline.{ReadersAreTold};
-    ghost use Rattle.lq_desk.specs.Slot.{fresh_slot};
-    ghost use Rattle.lq_desk.specs.Kept.{Kept, KeptStep, Shows, ShowsSome, changed, opened, opening_refusal, kept_act};
-    ghost use Rattle.lq_desk.specs.Kept as kept;
-    ghost use Rattle.lq_desk.specs.Reply.{Moves, Runs, answer_of};
-
     /// A desk over a volume, with 64 free slots. Refused: `NoMemory`.
     pub fn new(alloc: Global, volume: Volume) -> Result<Desk, Refusal>
         ensures refused { FailsOnlyForMemory result }
-        ensures kept { IfOk result (λ desk. desk ≡
-            record { volume = volume; openings = 0; slots = replicate 64 None }) }
-        ensures world { IfOk result (λ desk.
-            Shows desk (first_world (record { start = volume; changes = [] }))) }
+        ensures world { IfOk result (λ desk. desk
+            ≡ first_world (record { start = volume; changes = [] })) }
     {
         first_worlds_are_fair();
+        let witness = Witness::start(&volume);
         Ok(Desk {
-            volume,
-            openings: 0,
             alloc,
-            slots: Slots::new(alloc)?,
+            engine: Engine::new(alloc, volume)?,
+            witness,
         })
     }
 
-    /// The volume as it is now. It takes no memory.
-    ///
-    /// Every desk, wherever it comes from, shows some world, whose book leads to this volume: the
-    /// clauses of `event`, `run` and `turn` say what becomes of it.
+    /// The volume as it is now: the one that the world's book leads to. It takes no memory.
     pub fn volume(&self) -> &Volume
-        ensures volume { result.now ≡ self.now.volume }
-        ensures world { ShowsSome self.now }
+        ensures volume { result.now ≡ state_of self.now.book }
+        ensures fair { IsFairWorld self.now }
     {
-        &self.volume
+        self.engine.volume()
     }
 
     /// Carries out one event and answers it.
@@ -116,15 +93,15 @@ impl Desk {
     /// wasn't read with `StillOpen`. A refused event changes nothing. Only a change and an opening
     /// take memory.
     pub fn event(&mut self, event: &Event) -> Reply
-        ensures world { (w : World) → Shows self.old w →
-            Moves self.new w event.now (answer_of result) }
+        ensures world { Step self.old event.now (answer_of result) self.new }
         ensures refused { (refusal : Refusal) → answer_of result ≡ Refused refusal
             → self.new ≡ self.old }
     {
         kept_shows_worlds();
         refusals_leave_worlds();
-        let _ = &self.volume;
-        self.carry_out(event)
+        let reply = self.engine.carry_out(event);
+        self.witness = Witness::step(&self.witness, event, &reply);
+        reply
     }
 
     /// Carries out events in order and answers each.
@@ -134,15 +111,15 @@ impl Desk {
     /// change the messages read fold to the query's result.
     pub fn run(&mut self, events: &[Event]) -> Result<Vec<Reply>, Refusal>
         ensures refused { FailsOnlyForMemory result }
-        ensures run { IfOk result (λ replies. (w : World) → Shows self.old w →
-            Runs self.new w events.now (map answer_of replies.items)) }
-        ensures readers { IfOk result (λ replies. ReadersAreTold self.old.volume
+        ensures run { IfOk result (λ replies.
+            Run self.old events.now (map answer_of replies.items) self.new) }
+        ensures readers { IfOk result (λ replies. ReadersAreTold (state_of self.old.book)
             events.now (map answer_of replies.items)) }
-        ensures volume { IsVolume self.old.volume }
+        ensures volume { IsVolume (state_of self.old.book) }
         ensures err { OnErr result (self.new ≡ self.old) }
     {
         readers_are_told();
-        let _ = self.volume.changes();
+        let _ = self.volume().changes();
         let mut replies = Vec::with_capacity(self.alloc, events.len())?;
         for event in events {
             let reply = self.event(event);
@@ -151,103 +128,31 @@ impl Desk {
         Ok(replies)
     }
 
-    // Carries out one event and answers it.
-    fn carry_out(&mut self, event: &Event) -> Reply
-        ensures { KeptStep self.old event.now (answer_of result) self.new }
-    {
-        match event {
-            Event::Change(change) => match self.change(change) {
-                Ok(applied) => Reply::Changed(applied),
-                Err(refusal) => Reply::Refused(refusal),
-            },
-            Event::Open {
-                predicate,
-                port,
-                backlog,
-                moved,
-            } => match self.open(predicate, *port, *backlog, *moved) {
-                Ok(reply) => reply,
-                Err(refusal) => Reply::Refused(refusal),
-            },
-            Event::Put(slot) => self.act(*slot, Act::Put),
-            Event::Take(slot) => self.act(*slot, Act::Take),
-            Event::HangUp(slot) => self.act(*slot, Act::HangUp),
-            Event::Notice(slot) => self.act(*slot, Act::Notice),
-            Event::Close(slot) => self.act(*slot, Act::Close),
-            Event::Finish(slot) => self.act(*slot, Act::Finish),
-        }
-    }
-
-    // Makes a change and notifies each live query. It first makes the messages, which may fail for
-    // lack of memory, then makes the change, then commits the messages.
-    fn change(&mut self, change: &Change) -> Result<Applied, Refusal>
-        ensures refused { IsRefusedBy result (refused self.old.volume change.now) }
-        ensures value { IfOk result (λ applied. applied ≡ record {
-          change = self.old.volume.number + 1;
-          node = node_of self.old.volume change.now;
-        }) }
-        ensures ok { OnOk result (self.new ≡ changed self.old change.now) }
-        ensures err { OnErr result (self.new ≡ self.old) }
+    /// Carries out one event with all that belongs to its turn, and answers the event.
+    ///
+    /// A change comes after the notices of all taken slots, and each port is filled after it; a
+    /// read comes after the notice of its slot, and after its port was filled; a close comes
+    /// after the notice of its slot, whose port is filled after it. Any other event comes alone.
+    /// The event is refused as `event` refuses it, and the rest of its turn stands.
+    pub fn turn(&mut self, event: &Event) -> Reply
+        ensures outcome { (answer_of result ≡ Refused NoMemory)
+            ⊎ ((answer_of result, self.new) ≡ turn_outcome self.old event.now) }
+        ensures run { TurnRuns self.old event.now (answer_of result) self.new }
     {
         kept_shows_worlds();
-        steps_are_few();
-        changes_are_counted();
-        let _ = self.volume.changes();
-        let planned = self.volume.plan(change)?;
-        let told = self.slots.ready(&planned)?;
-        let applied = self.volume.make(change)?;
-        self.slots.commit(told);
-        Ok(applied)
+        refusals_leave_worlds();
+        let reply = self.engine.carry_out_turn(event);
+        self.witness = Witness::turn(&self.witness, event, &reply);
+        reply
     }
 
-    // Opens a live query in the lowest free slot.
-    fn open(
-        &mut self,
-        predicate: &Predicate,
-        port: u64,
-        backlog: u64,
-        moved: bool,
-    ) -> Result<Reply, Refusal>
-        ensures refused { IsRefusedBy result (opening_refusal self.old port backlog) }
-        ensures reply { IfOk result (λ reply. answer_of reply ≡
-            Opened (kept.first_free self.old.slots + 1) self.old.volume.number
-            (result_of predicate.now self.old.volume)) }
-        ensures ok { OnOk result (self.new ≡ opened self.old
-            (fresh_slot predicate.now moved self.old.volume.number port backlog)) }
-        ensures err { OnErr result (self.new ≡ self.old) }
+    /// Which slots have something to read: a word with a bit for each slot, for slot k the one at
+    /// k - 1. A bit is set just where `turn` of a read would give a message or the mark. It takes
+    /// no memory.
+    pub fn ready(&self) -> u64
+        ensures { TellsReady self.now result }
     {
         kept_shows_worlds();
-        if port < 1 || port > MAX_PORT {
-            return Err(Refusal::BadPort);
-        }
-        if backlog > MAX_BACKLOG {
-            return Err(Refusal::BadBacklog);
-        }
-        let place = self.slots.first_free();
-        if place >= SLOTS {
-            return Err(Refusal::NoSlot);
-        }
-        if self.volume.limit() <= self.openings {
-            return Err(Refusal::Exhausted);
-        }
-        let at = self.volume.changes();
-        let result = self.volume.fetch(predicate)?;
-        let slot = Slot::new(self.alloc, predicate, at, port, backlog, moved)?;
-        self.slots.open(slot);
-        self.openings += 1;
-        Ok(Reply::Opened {
-            slot: place as u64 + 1,
-            at,
-            result,
-        })
-    }
-
-    // Carries out an act at a slot.
-    fn act(&mut self, slot: u64, act: Act) -> Reply
-        ensures { (answer_of result, self.new) ≡ kept_act self.old slot act }
-    {
-        kept_shows_worlds();
-        let number = self.volume.changes();
-        self.slots.act(slot, act, number)
+        self.engine.ready()
     }
 }

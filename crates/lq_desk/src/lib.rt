@@ -1,24 +1,24 @@
 //! The core of the live query server with its ports: one event at a time, without threads.
 //!
-//! Contracts see a desk as the state that it keeps (`specs/Kept`), which shows a world of
-//! lq_desk_world: a book of changes and the subscriptions over it. They see a subscription as
-//! lq_desk_sub shows it, with what is in its port (`specs/Slot`). Nothing here waits. Begin with
-//! `event` of lq_desk_world, then `desk`.
+//! Contracts see a desk as a world of lq_desk_world: a book of changes and the subscriptions over
+//! it. No code holds that world (`witness`). What the code keeps is what it would keep for that
+//! world (`specs/Kept`): the volume, and of each subscription what wasn't read yet, as lq_desk_sub
+//! shows it, with what is in its port (`specs/Slot`). Nothing here waits. Begin with `event` of
+//! lq_desk_world, then `desk`.
 #![tactic(auto)]
 
 mod desk;
+mod engine;
 mod laws;
 mod reply;
 mod slot;
 mod slots;
 mod stored;
+mod witness;
 mod word;
 
 pub use desk::Desk;
-pub use laws::{
-    desks_may_be_sent, kept_passes_lists_on, kept_passes_reads_on, kept_shows_worlds,
-    kept_turns_show_worlds,
-};
+pub use laws::desks_may_be_sent;
 pub use lq_desk_sub::{Read, Sub};
 pub use lq_desk_world::Event;
 pub use reply::Reply;

@@ -6,7 +6,6 @@ use Rattle.std.proofs.lemmas.Str.{IsUtf8-from_is_utf8, is_utf8-from_IsUtf8}
 use Rattle.lq_value.specs.declared.refusal.Refusal.{Refusal}
 use Rattle.lq_value.specs.declared.refusal.Refusal.TheVariants.{NotUtf8}
 use Rattle.lq_value.specs.Refusal.{code_of}
-use Rattle.lq_desk.specs.Kept.{Kept}
 use Rattle.lq_predicate.specs.Stacked.{Stacked}
 use Rattle.lq_script_desk.specs.Session.{Session}
 use Rattle.lq_desk_world.specs.Events.{Answer, Refused}
@@ -93,7 +92,7 @@ pub opens-made : {old mid new : State} {p : Result Question Refusal} {status : �
     → Opens old new old.pushed p status before after
 opens-made {old = old} {p = p} answer asks beside code out kept = record {
   answer = answer;
-  asks = subst (λ (s : Session Kept). Asks old.session s p answer)
+  asks = subst (λ (s : Session). Asks old.session s p answer)
       (sym (ap (λ (s : State). s.session) kept)) asks;
   code = code;
   out = out;

@@ -7,8 +7,6 @@ use Rattle.lq_value.specs.Refusal.{code_of}
 use Rattle.lq_predicate.specs.Stacked.{Stacked}
 use Rattle.lq_desk_world.specs.declared.event.Event.{Event as Event_}
 use Rattle.lq_desk_world.specs.Events.{Answer, Refused}
-use Rattle.lq_desk.specs.Kept.{Kept}
-use Rattle.lq_desk.specs.Turn.{kept_turn_outcome}
 use Rattle.lq_desk.specs.Ready.{TellsReady}
 use Rattle.lq_script_request.specs.declared.question.Question.{Question}
 use Rattle.lq_script_request.specs.declared.question.Question.TheVariants.{Event}
@@ -16,7 +14,6 @@ use Rattle.lq_script_desk.specs.Response.{Response, Refuses}
 use Rattle.lq_script_desk.specs.Session.{Session}
 use Rattle.lq_script_desk.specs.Keeps.{without_fold}
 use Rattle.lq_script_desk.specs.Answered.{answered}
-use Rattle.lq_script_desk.specs.Script.{kept_volume}
 use Rattle.lq_script_desk.specs.Turned.{Turned}
 use Rattle.lq_embed.specs.declared.outs.AppliedOut.{AppliedOut}
 use Rattle.lq_embed.specs.declared.outs.OpeningOut.{OpeningOut}
@@ -32,13 +29,13 @@ use Rattle.lq_embed.specs.Status.{status_of, response_status}
 -- ---- events
 
 -- the call is refused with this, or for want of memory, and the session stays
-abbrev pub IsBarred : Session Kept → Session Kept → Refusal → Answer → Type 0
+abbrev pub IsBarred : Session → Session → Refusal → Answer → Type 0
 IsBarred old new refusal answer =
     ((answer ≡ Refused refusal) ⊎ (answer ≡ Refused NoMemory)) × (new ≡ old)
 
 -- A question's answer, and the session after it. A question that is refused as its values are read
 -- changes nothing; an event has its turn, unless memory runs out before it.
-abbrev pub Asks : Session Kept → Session Kept → Result Question Refusal → Answer → Type 0
+abbrev pub Asks : Session → Session → Result Question Refusal → Answer → Type 0
 Asks old new (Err refusal) answer = IsBarred old new refusal answer
 Asks old new (Ok (Event event)) answer =
     IsBarred old new NoMemory answer ⊎ Turned old new event answer
@@ -100,9 +97,9 @@ forgotten s slot = with_session s (without_fold s.session slot)
 -- ---- looks
 
 -- the response to a question as to a line that asks it, or memory ran out
-abbrev pub Responds : Session Kept → Result Question Refusal → Response → Type 0
+abbrev pub Responds : Session → Result Question Refusal → Response → Type 0
 Responds session q response = (response ≡ Refuses NoMemory)
-    ⊎ (response ≡ (answered kept_turn_outcome kept_volume session q).0)
+    ⊎ (response ≡ (answered session q).0)
 
 -- the node at a place
 pub record Finds (old new : State) (q : Result Question Refusal) (status : ℕ) (before after : ℕ)
@@ -138,8 +135,8 @@ pub record Rebuilds (old new : State) (q : Result Question Refusal) (status : �
 -- the entry of a node
 pub record Shows (old new : State) (q : Result Question Refusal) (status : ℕ)
     (before after : InfoOut) : Type 0 where
-  pub code : status ≡ response_status (answered kept_turn_outcome kept_volume old.session q).0
-  pub out : after ≡ info_after (answered kept_turn_outcome kept_volume old.session q).0 before
+  pub code : status ≡ response_status (answered old.session q).0
+  pub out : after ≡ info_after (answered old.session q).0 before
   pub stays : new ≡ old
 
 -- ---- pushes

@@ -3,16 +3,16 @@ use Rattle.std.specs.Prelude.{ℕ, List, []}
 use Rattle.std.specs.Vec.Iter.{into_iter_items}
 use Rattle.lq_value.specs.declared.entry.Entry.{Entry}
 use Rattle.lq_volume.specs.State as volume
-use Rattle.lq_desk.specs.Kept.{Kept}
 use Rattle.lq_predicate.specs.Stacked.{Stacked, new_stack}
-use Rattle.lq_script_desk.specs.Session.{Session}
-use Rattle.lq_script_desk.specs.Keeps.{keeps, first_kept}
+use Rattle.lq_script_desk.specs.Session.{Session, volume_of}
+use Rattle.lq_script_desk.specs.Keeps.{keeps}
+use Rattle.lq_script_desk.specs.Script.{script_session}
 use Rattle.lq_embed.specs.declared.embedded.Embedded.{Embedded}
 
 -- the session, the entries of a result that weren't given yet, the text of the last line's reply or
 -- of a path, the stack of pushes, and the place of the last fault of a formula or a push
 pub record State : Type 0 where
-  pub session : Session Kept
+  pub session : Session
   pub entries : List Entry
   pub text : List ℕ
   pub pushed : Stacked
@@ -30,14 +30,14 @@ holds e = record {
 -- what the first state holds: a script's first session, and nothing else
 abbrev pub first_state : State
 first_state =
-    record { session = first_kept; entries = []; text = []; pushed = new_stack; fault = 0 }
+    record { session = script_session; entries = []; text = []; pushed = new_stack; fault = 0 }
 
 -- the volume now
 abbrev pub volume_in : State → volume.State
-volume_in s = s.session.core.volume
+volume_in s = volume_of s.session
 
 -- the state with another part
-abbrev pub with_session : State → Session Kept → State
+abbrev pub with_session : State → Session → State
 with_session s session = record s { session = session }
 
 abbrev pub with_entries : State → List Entry → State

@@ -2,7 +2,7 @@
 ghost use Rattle.std.specs.Prelude.{◌≡◌, IfErr, OnOk};
 ghost use Rattle.lq_value.specs.declared.refusal.Refusal.TheVariants.{NoMemory};
 ghost use Rattle.lq_script_lines.specs.Lines.{line_of, reply_to, state_after, without_cr};
-ghost use Rattle.lq_script_desk.specs.Script.{kept_rules};
+ghost use Rattle.lq_script_desk.specs.Script.{world_rules};
 ghost use Rattle.lq_script_desk.specs.History.{question_of};
 ghost use Rattle.lq_script_desk.specs.SessionHistory.{LineKeepsHistory};
 ghost use Rattle.lq_embed.specs.State.{holds, with_session, with_text};
@@ -23,9 +23,9 @@ impl Embedded {
     /// Refused: `NoMemory`, and then nothing is said of the text and of what the line did.
     pub fn answer(&mut self, line: &[u8]) -> Result<(), Refusal>
         ensures text { OnOk result ((holds self.new).text
-            ≡ reply_to kept_rules (holds self.old).session (line_of line.now)) }
+            ≡ reply_to world_rules (holds self.old).session (line_of line.now)) }
         ensures after { OnOk result ((holds self.new).session
-            ≡ state_after kept_rules (holds self.old).session (line_of line.now)) }
+            ≡ state_after world_rules (holds self.old).session (line_of line.now)) }
         ensures memory { IfErr result (λ e. e ≡ NoMemory) }
         ensures history { LineKeepsHistory (holds self.old).session.core
             (holds self.new).session.core result (question_of (line_of line.now)) }

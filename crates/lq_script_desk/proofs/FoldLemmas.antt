@@ -680,7 +680,7 @@ turn-folds w e folds =
     ∙ sym (folds_over-append w folds t.before (t.event ∷ t.after))))
 
 -- and after several
-turns-folds : (s : Session World) (asked : List Event)
+turns-folds : (s : Session) (asked : List Event)
     → (session_turns s asked).folds ≡ folds_over s.core s.folds (turns_of s.core asked)
 turns-folds s [] = refl
 turns-folds s (e ∷ asked) =
@@ -741,7 +741,7 @@ pub script-folds : RunsTellReaders → RebuildsTakeAll → FoldingsFollow → (l
 script-folds law rebuilds follow lines slot f had =
     let folds : (session_after lines).folds
     ≡ folds_over script_world no_folds (events_of lines) =
-    ap (λ (s : Session World). s.folds) (lines-turns script_session lines)
+    ap (λ (s : Session). s.folds) (lines-turns script_session lines)
     ∙ turns-folds script_session (events_asked lines) in
     let r = all-folded law rebuilds first-volume [] (events_of lines) no_folds none-folded slot f
     (sym (ap (λ fs. fold_at fs slot) folds) ∙ had) in

@@ -16,7 +16,7 @@ use Rattle.lq_script_desk.specs.Answered.{answered, answered_event, rebuilt, res
 use Rattle.lq_script_desk.specs.Folds.{fold_at}
 use Rattle.lq_script_desk.specs.Reply.{reply_text}
 use Rattle.lq_script_desk.specs.Response.{Answers}
-use Rattle.lq_script_desk.specs.Script.{script_session, script_world, volume_of, world_rules}
+use Rattle.lq_script_desk.specs.Script.{script_session, script_world, world_rules}
 use Rattle.lq_script_desk.specs.Session.{Session}
 use Rattle.lq_script_desk.specs.History.{IsReplied, answer_after, answers_to, event_of, events_asked, events_before, events_of, question_of, question_read, replies_of, session_after, turns_of, world_after}
 
@@ -85,22 +85,22 @@ turns_of-append w (x ∷ xs) ys =
 -- ---- sessions
 
 -- the session after the turn of an event that a line asked for
-abbrev pub session_turn : Session World → Event → Session World
+abbrev pub session_turn : Session → Event → Session
 session_turn s e = (answered_event (slot_of e) s.folds (turn_outcome s.core e)).1
 
-abbrev pub session_turns : Session World → List Event → Session World
+abbrev pub session_turns : Session → List Event → Session
 session_turns s [] = s
 session_turns s (e ∷ asked) = session_turns (session_turn s e) asked
 
 -- turns and then others lead where both in a row lead
-session_turns-append : (s : Session World) (xs ys : List Event)
+session_turns-append : (s : Session) (xs ys : List Event)
     → session_turns s (xs ++ ys) ≡ session_turns (session_turns s xs) ys
 session_turns-append s [] ys = refl
 session_turns-append s (x ∷ xs) ys = session_turns-append (session_turn s x) xs ys
 
 -- a question that was read, or not, leads where the turn of its event leads
-read-turns : (s : Session World) (r : Result Question Refusal)
-    → (answered turn_outcome volume_of s r).1 ≡ session_turns s (event_of (question_read r))
+read-turns : (s : Session) (r : Result Question Refusal)
+    → (answered s r).1 ≡ session_turns s (event_of (question_read r))
 read-turns s (Err e) = refl
 read-turns s (Ok (question.Event e)) = refl
 read-turns s (Ok (question.Find dir name)) = refl
@@ -109,14 +109,14 @@ read-turns s (Ok (question.Fetch q)) = refl
 read-turns s (Ok (question.Rebuilt slot)) = refl
 
 -- so does a line
-line-turns : (s : Session World) (l : Line)
+line-turns : (s : Session) (l : Line)
     → state_after world_rules s l ≡ session_turns s (event_of (question_of l))
 line-turns s long = refl
 line-turns s empty = refl
 line-turns s (whole bytes) = read-turns s (question_in bytes)
 
 -- and several lines
-pub lines-turns : (s : Session World) (lines : List (List ℕ))
+pub lines-turns : (s : Session) (lines : List (List ℕ))
     → state_after_all world_rules s lines ≡ session_turns s (events_asked lines)
 lines-turns s [] = refl
 lines-turns s (bytes ∷ lines) =
@@ -126,7 +126,7 @@ lines-turns s (bytes ∷ lines) =
     ∙ sym (session_turns-append s es (events_asked lines)))
 
 -- the core of a session is where the events of the turns lead
-pub turns-core : (s : Session World) (asked : List Event)
+pub turns-core : (s : Session) (asked : List Event)
     → (session_turns s asked).core ≡ after_all outcome s.core (turns_of s.core asked)
 turns-core s [] = refl
 turns-core s (e ∷ asked) =
@@ -139,7 +139,7 @@ turns-core s (e ∷ asked) =
 -- the core after a script's lines is the world after their events
 pub session-world : (lines : List (List ℕ)) → (session_after lines).core ≡ world_after lines
 session-world lines =
-    ap (λ (s : Session World). s.core) (lines-turns script_session lines)
+    ap (λ (s : Session). s.core) (lines-turns script_session lines)
     ∙ turns-core script_session (events_asked lines)
 
 -- ---- replies
@@ -179,25 +179,25 @@ reply-place lines before after bytes is =
     )
 
 -- the response to an event that was read
-read-event : (s : Session World) (r : Result Question Refusal) (e : Event)
+read-event : (s : Session) (r : Result Question Refusal) (e : Event)
     → question_read r ≡ Some (question.Event e)
-    → (answered turn_outcome volume_of s r).0 ≡ Answers (slot_of e) (turn_outcome s.core e).0
+    → (answered s r).0 ≡ Answers (slot_of e) (turn_outcome s.core e).0
 read-event s (Err x) e is = absurd (let no : ⊥ = cc in no)
 read-event s (Ok q) e is =
     let same : q ≡ question.Event e = cc in
-    ap (λ p. (responds turn_outcome volume_of s p).0) same
+    ap (λ p. (responds s p).0) same
 
 -- and to a slot's result
-read-rebuilt : (s : Session World) (r : Result Question Refusal) (slot : ℕ)
+read-rebuilt : (s : Session) (r : Result Question Refusal) (slot : ℕ)
     → question_read r ≡ Some (question.Rebuilt slot)
-    → (answered turn_outcome volume_of s r).0 ≡ rebuilt (fold_at s.folds slot)
+    → (answered s r).0 ≡ rebuilt (fold_at s.folds slot)
 read-rebuilt s (Err x) slot is = absurd (let no : ⊥ = cc in no)
 read-rebuilt s (Ok q) slot is =
     let same : q ≡ question.Rebuilt slot = cc in
-    ap (λ p. (responds turn_outcome volume_of s p).0) same
+    ap (λ p. (responds s p).0) same
 
 -- the reply to a line that asks for an event
-line-event : (s : Session World) (l : Line) (e : Event)
+line-event : (s : Session) (l : Line) (e : Event)
     → question_of l ≡ Some (question.Event e)
     → reply_to world_rules s l ≡ reply_text (Answers (slot_of e) (turn_outcome s.core e).0)
 line-event s long e is = absurd (let no : ⊥ = cc in no)
@@ -205,7 +205,7 @@ line-event s empty e is = absurd (let no : ⊥ = cc in no)
 line-event s (whole bytes) e is = ap reply_text (read-event s (question_in bytes) e is)
 
 -- and to one that asks for a slot's result
-pub line-rebuilt : (s : Session World) (l : Line) (slot : ℕ)
+pub line-rebuilt : (s : Session) (l : Line) (slot : ℕ)
     → question_of l ≡ Some (question.Rebuilt slot)
     → reply_to world_rules s l ≡ reply_text (rebuilt (fold_at s.folds slot))
 line-rebuilt s long slot is = absurd (let no : ⊥ = cc in no)

@@ -1,10 +1,8 @@
--- Read in this order. Compact texts: FrontLemmas, EscapeLemmas. Replies: PieceLemmas. Whole runs:
--- ScriptLemmas, and what they tell readers: HistoryLemmas, FoldLemmas, TellLemmas;
--- of a session SessionLemmas.
+-- Read in this order. Compact texts: FrontLemmas, EscapeLemmas. Replies: PieceLemmas. What whole
+-- runs tell readers: HistoryLemmas, FoldLemmas, TellLemmas; of a session SessionLemmas.
 pub mod FrontLemmas
 pub mod EscapeLemmas
 pub mod PieceLemmas
-pub mod ScriptLemmas
 pub mod HistoryLemmas
 pub mod FoldLemmas
 pub mod TellLemmas

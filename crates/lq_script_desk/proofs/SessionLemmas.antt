@@ -6,12 +6,10 @@ use Rattle.lq_desk_world.specs.declared.event.Event.{Event}
 use Rattle.lq_desk_world.specs.Events.{Answer}
 use Rattle.lq_desk_world.specs.Runs.{Run}
 use Rattle.lq_desk_world.specs.Turns.{events_in, ports_of, turn_of}
-use Rattle.lq_desk_world.specs.Laws.{FirstWorldsAreFair, RunsTellReaders}
-use Rattle.lq_desk.specs.Kept.{Kept, Shows}
+use Rattle.lq_desk_world.specs.Laws.{RunsTellReaders}
 use Rattle.lq_desk.specs.Turn.{TurnRuns}
 use Rattle.lq_script_request.specs.declared.question.Question.{Question}
 use Rattle.lq_script_request.specs.declared.question.Question.TheVariants as question
-use Rattle.lq_script_desk.specs.Keeps.{first_kept}
 use Rattle.lq_script_desk.specs.Script.{script_world}
 use Rattle.lq_script_desk.specs.SessionHistory.{KeepsHistory, LineKeepsHistory, SessionsTell}
 
@@ -26,25 +24,19 @@ run-append w mid end (e ∷ events) more [] mores first rest = absurd first
 run-append w mid end (e ∷ events) more (a ∷ answers) mores first rest =
     (first.0, first.1, run-append first.0 mid end events more answers mores first.2 rest)
 
--- a turn that is a run from every world shown keeps the history
-pub turn-history : (old new : Kept) (e : Event) (a : Answer)
-    → ((w : World) → Shows old w → TurnRuns new w e a) → KeepsHistory old new e a
-turn-history old new e a runs events answers was =
-    let turn = runs was.world was.shows in record {
-      befores = turn.before;
-      afters = turn.after;
-      place = turn.place;
-      history = record {
-        world = turn.runs.end;
-        run = run-append script_world was.world turn.runs.end events
-            (events_in (turn_of (ports_of was.world) e)) answers
-            (turn.before ++ a ∷ turn.after) was.run turn.runs.run;
-        shows = turn.runs.shows;
-      };
-    }
+-- a turn that is a run keeps the history
+pub turn-history : (old new : World) (e : Event) (a : Answer)
+    → TurnRuns old e a new → KeepsHistory old new e a
+turn-history old new e a turn events answers was = record {
+  befores = turn.before;
+  afters = turn.after;
+  place = turn.place;
+  history = run-append script_world old new events (events_in (turn_of (ports_of old) e)) answers
+      (turn.before ++ a ∷ turn.after) was turn.run;
+}
 
 -- a line that was refused for want of memory, and left the desk
-pub line-barred : (old new : Kept) (result : Result (Unit {0}) Refusal) (q : Option Question)
+pub line-barred : (old new : World) (result : Result (Unit {0}) Refusal) (q : Option Question)
     → IsErr result → new ≡ old → LineKeepsHistory old new result q
 line-barred old new result None bad same = same
 line-barred old new result (Some (question.Event e)) bad same = inl (bad, same)
@@ -54,14 +46,10 @@ line-barred old new result (Some (question.Fetch q)) bad same = same
 line-barred old new result (Some (question.Rebuilt slot)) bad same = same
 
 -- the law of sessions
-pub sessions : FirstWorldsAreFair → RunsTellReaders → SessionsTell first_kept.core
-sessions fair law = record {
-  begins = record {
-    world = script_world;
-    run = refl;
-    shows = record { fair = fair script_world.book; kept = refl };
-  };
-  readers = λ k events answers h. law script_world h.world events answers h.run;
+pub sessions : RunsTellReaders → SessionsTell script_world
+sessions law = record {
+  begins = refl;
+  readers = λ w events answers h. law script_world w events answers h;
 }
 
 -- what is true is true where a call succeeded
@@ -70,7 +58,7 @@ ok-any (Ok x) P p = p
 ok-any (Err e) P p = tt
 
 -- an answer that isn't a want of memory is the outcome's
-pub answer-own : (a : Answer) (none : Answer) (k : Kept) (p : Answer × Kept)
+pub answer-own : (a : Answer) (none : Answer) (k : World) (p : Answer × World)
     → (a ≡ none) ⊎ ((a, k) ≡ p) → (a ≡ none → ⊥) → a ≡ p.0
 answer-own a none k p (inl is) not = absurd (not is)
-answer-own a none k p (inr is) not = ap (λ (q : Answer × Kept). q.0) is
+answer-own a none k p (inr is) not = ap (λ (q : Answer × World). q.0) is

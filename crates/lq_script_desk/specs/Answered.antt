@@ -1,4 +1,4 @@
--- The answer to a question over a volume and the folds of the slots, and the session after it.
+-- The answer to a question in a session, and the session after it.
 use Rattle.std.specs.Prelude.{ℕ, List, Option, Some, None, Result, Ok, Err}
 use Rattle.lq_value.specs.declared.refusal.Refusal.{Refusal}
 use Rattle.lq_value.specs.declared.refusal.Refusal.TheVariants.{NoNode, NoEntry, NotOpen}
@@ -9,12 +9,14 @@ use Rattle.lq_volume.specs.Result.{result_of}
 use Rattle.lq_desk_world.specs.declared.event.Event.{Event}
 use Rattle.lq_desk_world.specs.declared.event.Event.TheVariants.{Change, Open, Put, Take, HangUp, Notice, Close, Finish}
 use Rattle.lq_desk_world.specs.Events.{Answer}
+use Rattle.lq_desk_world.specs.Turns.{turn_outcome}
+use Rattle.lq_desk_world.specs.World.{World}
 use Rattle.lq_update.specs.Fold.{Folding}
 use Rattle.lq_script_request.specs.declared.question.Question.{Question}
 use Rattle.lq_script_request.specs.declared.question.Question.TheVariants as question
 use Rattle.lq_script_desk.specs.Response.{Response, Answers, Refuses, Found, Listed, Fetched, Rebuilt}
 use Rattle.lq_script_desk.specs.Folds.{Folds, fold_at, folds_after}
-use Rattle.lq_script_desk.specs.Session.{Session, session_with}
+use Rattle.lq_script_desk.specs.Session.{Session, session_with, volume_of}
 
 -- the answer to a look-up of a place: its refusal, or the node there
 abbrev pub found : Option Refusal → Option ℕ → Response
@@ -53,21 +55,18 @@ rebuilt None = Refuses NotOpen
 rebuilt (Some f) = Rebuilt f.change f.entries f.settled
 
 -- an event's answer and the session after it: the answer updates the folds
-abbrev pub answered_event : {Core : Type 0} → ℕ → Folds → Answer × Core → Response × Session Core
+abbrev pub answered_event : ℕ → Folds → Answer × World → Response × Session
 answered_event slot folds p = (Answers slot p.0, session_with p.1 (folds_after slot p.0 folds))
 
 -- the answer to a question, and the session after it: only an event changes it
-abbrev pub responds : {Core : Type 0} → (Core → Event → Answer × Core) → (Core → State)
-    → Session Core → Question → Response × Session Core
-responds step volume s (question.Event e) = answered_event (slot_of e) s.folds (step s.core e)
-responds step volume s (question.Find dir name) = (found_in (volume s.core) dir name, s)
-responds step volume s (question.Entry node) = (shown_in (volume s.core) node, s)
-responds step volume s (question.Fetch q) =
-    (Fetched (volume s.core).number (result_of q (volume s.core)), s)
-responds step volume s (question.Rebuilt slot) = (rebuilt (fold_at s.folds slot), s)
+abbrev pub responds : Session → Question → Response × Session
+responds s (question.Event e) = answered_event (slot_of e) s.folds (turn_outcome s.core e)
+responds s (question.Find dir name) = (found_in (volume_of s) dir name, s)
+responds s (question.Entry node) = (shown_in (volume_of s) node, s)
+responds s (question.Fetch q) = (Fetched (volume_of s).number (result_of q (volume_of s)), s)
+responds s (question.Rebuilt slot) = (rebuilt (fold_at s.folds slot), s)
 
 -- a line without a question is refused, and nothing changes
-abbrev pub answered : {Core : Type 0} → (Core → Event → Answer × Core) → (Core → State)
-    → Session Core → Result Question Refusal → Response × Session Core
-answered step volume s (Err e) = (Refuses e, s)
-answered step volume s (Ok q) = responds step volume s q
+abbrev pub answered : Session → Result Question Refusal → Response × Session
+answered s (Err e) = (Refuses e, s)
+answered s (Ok q) = responds s q

@@ -77,7 +77,7 @@ world_after lines = after_all outcome script_world (events_of lines)
 abbrev pub replies_of : List (List ℕ) → List ℕ
 replies_of lines = replies_to world_rules script_session lines
 
-abbrev pub session_after : List (List ℕ) → Session World
+abbrev pub session_after : List (List ℕ) → Session
 session_after lines = state_after_all world_rules script_session lines
 
 -- ---- a line that asks for an event
@@ -166,8 +166,8 @@ abbrev pub ScriptsTellReaders : Type 0
 ScriptsTellReaders = (lines : List (List ℕ)) → IsScript lines
 
 -- What a run over a script read and wrote: on Ok the replies to all lines of what it read, and
--- after a fault a prefix of them. The first lines, as many as one likes and all of them too, are a script
--- of which the above is true; so it is true of the lines that were answered.
+-- after a fault a prefix of them. The first lines, as many as one likes and all of them too, are a
+-- script of which the above is true; so it is true of the lines that were answered.
 pub record TellsReaders (result : Result (Unit {0}) RunFault) (r : ReaderLog) (w : WriterLog)
     : Type 0 where
   pub given : List ℕ

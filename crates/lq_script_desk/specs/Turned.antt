@@ -1,11 +1,10 @@
 -- A turn that comes without a line: its answer, and the session after it.
 use Rattle.std.specs.Prelude.{◌≡◌, ◌⊎◌, ℕ, None}
 use Rattle.lq_value.specs.declared.refusal.Refusal.TheVariants.{NoMemory}
-use Rattle.lq_desk_world.specs.World.{World}
 use Rattle.lq_desk_world.specs.declared.event.Event.{Event}
 use Rattle.lq_desk_world.specs.Events.{Answer, Opened, Refused}
-use Rattle.lq_desk.specs.Kept.{Kept, Shows}
-use Rattle.lq_desk.specs.Turn.{TurnRuns, kept_turn_outcome}
+use Rattle.lq_desk_world.specs.Turns.{turn_outcome}
+use Rattle.lq_desk.specs.Turn.{TurnRuns}
 use Rattle.lq_script_desk.specs.SessionHistory.{KeepsHistory}
 use Rattle.lq_script_desk.specs.Folds.{Folds, folds_after, with_fold}
 use Rattle.lq_script_desk.specs.Session.{Session}
@@ -21,11 +20,11 @@ abbrev pub Follow : ℕ → Answer → Folds → Folds → Type 0
 Follow slot a old new =
     (new ≡ folds_after slot a old) ⊎ (new ≡ with_fold old (folded_slot slot a) None)
 
--- The answer and the core are those of the event's turn, as after a line that asks for it. Where
--- memory ran out for the event, the rest of its turn stands: the turn is a run from whatever world
--- the core shows. Whatever history the session had, the turn goes on from it.
-pub record Turned (old new : Session Kept) (e : Event) (a : Answer) : Type 0 where
-  pub run : (w : World) → Shows old.core w → TurnRuns new.core w e a
-  pub outcome : (a ≡ Refused NoMemory) ⊎ ((a, new.core) ≡ kept_turn_outcome old.core e)
+-- The answer and the world are those of the event's turn, as after a line that asks for it. Where
+-- memory ran out for the event, the rest of its turn stands: the turn is a run to the new world.
+-- Whatever history the session had, the turn goes on from it.
+pub record Turned (old new : Session) (e : Event) (a : Answer) : Type 0 where
+  pub run : TurnRuns old.core e a new.core
+  pub outcome : (a ≡ Refused NoMemory) ⊎ ((a, new.core) ≡ turn_outcome old.core e)
   pub folds : Follow (slot_of e) a old.folds new.folds
   pub history : KeepsHistory old.core new.core e a

@@ -1,12 +1,12 @@
 //! The laws of scripts and of sessions: each is the contract of a function that does nothing.
 ghost use denote.Param.Send.{IsSend};
 ghost use Rattle.lq_script_desk.specs.History.{ScriptsTellReaders};
-ghost use Rattle.lq_script_desk.specs.Keeps.{first_kept};
+ghost use Rattle.lq_script_desk.specs.Script.{script_world};
 ghost use Rattle.lq_script_desk.specs.SessionHistory.{SessionsTell};
 ghost use Rattle.lq_script_desk.specs.contracts.session.Session as sessions;
 
 use lq_desk::desks_may_be_sent;
-use lq_desk_world::{first_worlds_are_fair, readers_are_told};
+use lq_desk_world::readers_are_told;
 use lq_script_request::Scratch;
 use lq_update::{IndexedRebuild, foldings_follow, rebuilds_take_all};
 
@@ -28,9 +28,8 @@ pub fn scripts_tell_readers()
 /// Each call of a session goes on from its history (`specs/SessionHistory`), lines and typed calls
 /// alike. So what was read of a slot since its opening is as the headline says, at every moment.
 pub fn sessions_tell_readers()
-    ensures { SessionsTell first_kept.core }
+    ensures { SessionsTell script_world }
 {
-    first_worlds_are_fair();
     readers_are_told();
 }
 

@@ -7,7 +7,7 @@ ghost use Rattle.lq_script_desk.specs.History.{TellsReaders};
 use crate::laws::scripts_tell_readers;
 use crate::rebuilds::no_rebuilds;
 use crate::session::Session;
-use lq_desk::{Desk, kept_turns_show_worlds};
+use lq_desk::Desk;
 use lq_script_lines::{Client, RunFault, Sink, out_of_memory, run_lines};
 use lq_volume::{MAX_CHANGES, Volume};
 use std::alloc::Global;
@@ -43,9 +43,7 @@ pub fn run<R: Client, W: Sink>(
         (writer_log (W.written writer.old) (W.written writer.new)
         (W.failed writer.new) (W.stalled writer.new) (W.flushed writer.new)) }
 {
-    // Two calls for what they prove: a desk answers each turn as the world that it shows, and a
-    // script tells its readers what the headline says.
-    kept_turns_show_worlds();
+    // For what it proves: a script tells its readers what the headline says.
     scripts_tell_readers();
     let Ok(desk) = Desk::new(alloc, Volume::new(alloc, MAX_CHANGES)) else {
         return Err(out_of_memory(writer));

@@ -2,7 +2,7 @@
 ghost use Rattle.std.specs.Prelude.{◌≡◌, ◌++◌, IfErr, OnOk, OnErr};
 ghost use Rattle.lq_value.specs.Refusal.{FailsOnlyForMemory};
 ghost use Rattle.lq_value.specs.declared.refusal.Refusal.TheVariants.{NoMemory};
-ghost use Rattle.lq_desk.specs.Turn.{kept_turn_outcome};
+ghost use Rattle.lq_desk_world.specs.Turns.{turn_outcome};
 ghost use Rattle.lq_volume.specs.Result.{result_of};
 ghost use Rattle.lq_script_lines.specs.Lines.{Begins};
 ghost use Rattle.lq_script_desk.specs.Response.{Fetched, Refuses};
@@ -10,7 +10,6 @@ ghost use Rattle.lq_script_desk.specs.Reply.{reply_text};
 ghost use Rattle.lq_script_desk.specs.Answered.{found_in, answered_event, rebuilt, shown_in, slot_of};
 ghost use Rattle.lq_script_desk.specs.Folds.{fold_at};
 ghost use Rattle.lq_script_desk.specs.Session.{session_with};
-ghost use Rattle.lq_script_desk.specs.Script.{kept_volume};
 ghost use Rattle.lq_script_desk.specs.SessionHistory.{KeepsHistory};
 ghost use Rattle.lq_desk_world.specs.Events.{Answer};
 
@@ -67,14 +66,14 @@ impl Session {
     fn carry_out(&mut self, event: &Event, out: &mut Vec<u8>) -> Result<(), Refusal>
         ensures ok { OnOk result (out.new.items ≡ out.old.items
             ++ reply_text (answered_event (slot_of event.now) self.old.rebuilds.items
-            (kept_turn_outcome self.old.desk event.now)).0) }
+            (turn_outcome self.old.desk event.now)).0) }
         ensures after { OnOk result (session_with self.new.desk self.new.rebuilds.items ≡
             (answered_event (slot_of event.now) self.old.rebuilds.items
-            (kept_turn_outcome self.old.desk event.now)).1) }
+            (turn_outcome self.old.desk event.now)).1) }
         ensures err { OnErr result (Begins out.new.items out.old.items) }
         ensures memory { IfErr result (λ e. e ≡ NoMemory) }
         ensures history { (a : Answer) × KeepsHistory self.old.desk self.new.desk event.now a
-            × OnOk result (a ≡ (kept_turn_outcome self.old.desk event.now).0) }
+            × OnOk result (a ≡ (turn_outcome self.old.desk event.now).0) }
     {
         // Two calls for what they prove: a result rises by node, and the desk's volume is a tree.
         results_rise();
@@ -182,25 +181,24 @@ fn put_rebuilt(
 }
 
 impl Responder for Session {
-    ghost use Rattle.lq_desk.specs.Kept.{Kept};
     ghost use Rattle.lq_script_desk.specs.Session as spec;
-    ghost use Rattle.lq_script_desk.specs.Script.{kept_rules};
+    ghost use Rattle.lq_script_desk.specs.Script.{world_rules};
     ghost use Rattle.lq_script_desk.specs.History.{question_read};
     ghost use Rattle.lq_script_desk.specs.SessionHistory.{LineKeepsHistory};
     ghost use Rattle.lq_script_request.specs.Request.{question_in};
 
-    ghost State = { spec.Session Kept };
+    ghost State = { spec.Session };
 
     ghost state = { λ s. session_with s.desk s.rebuilds.items };
 
-    ghost rules = { kept_rules };
+    ghost rules = { world_rules };
 
     // The trait's clauses, and the history.
     fn respond(&mut self, line: &[u8], out: &mut Vec<u8>) -> Result<(), Refusal>
-        ensures ok { OnOk result (out.new.items ≡ out.old.items ++ kept_rules.reply
+        ensures ok { OnOk result (out.new.items ≡ out.old.items ++ world_rules.reply
             (session_with self.old.desk self.old.rebuilds.items) line.now) }
         ensures after { OnOk result (session_with self.new.desk self.new.rebuilds.items
-            ≡ kept_rules.after (session_with self.old.desk self.old.rebuilds.items) line.now) }
+            ≡ world_rules.after (session_with self.old.desk self.old.rebuilds.items) line.now) }
         ensures err { OnErr result (Begins out.new.items out.old.items) }
         ensures memory { IfErr result (λ e. e ≡ NoMemory) }
         ensures history { LineKeepsHistory self.old.desk self.new.desk result

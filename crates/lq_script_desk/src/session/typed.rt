@@ -2,11 +2,13 @@
 ghost use Rattle.std.specs.Prelude.{◌≡◌, IfOk};
 ghost use Rattle.std.specs.Option.{option_map};
 ghost use Rattle.lq_value.specs.Refusal.{FailsOnlyForMemory};
-ghost use Rattle.lq_desk.specs.Kept.{ShowsSome};
+ghost use Rattle.lq_desk_world.specs.Fair.{IsFairWorld};
 ghost use Rattle.lq_desk.specs.Ready.{TellsReady};
 ghost use Rattle.lq_desk.specs.Reply.{answer_of};
 ghost use Rattle.lq_script_desk.specs.Folds.{fold_at};
-ghost use Rattle.lq_script_desk.specs.Keeps.{first_kept, keeps, without_fold};
+ghost use Rattle.lq_script_desk.specs.Keeps.{keeps, without_fold};
+ghost use Rattle.lq_script_desk.specs.Script.{script_session};
+ghost use Rattle.lq_script_desk.specs.Session.{volume_of};
 ghost use Rattle.lq_script_desk.specs.Turned.{Turned};
 
 use crate::rebuilds::{follow, no_rebuilds, put, rebuild_at};
@@ -23,18 +25,16 @@ impl Session {
     /// Refused: `NoMemory`.
     pub fn start(alloc: Global) -> Result<Session, Refusal>
         ensures refused { FailsOnlyForMemory result }
-        ensures value { IfOk result (λ session. keeps session ≡ first_kept) }
+        ensures value { IfOk result (λ session. keeps session ≡ script_session) }
     {
         let desk = Desk::new(alloc, Volume::new(alloc, MAX_CHANGES))?;
         Ok(Session::new(alloc, desk, no_rebuilds(alloc)?))
     }
 
     /// The volume as it is now. It takes no memory.
-    ///
-    /// The desk of every session shows some world, whose book leads to this volume.
     pub fn volume(&self) -> &Volume
-        ensures volume { result.now ≡ (keeps self.now).core.volume }
-        ensures world { ShowsSome (keeps self.now).core }
+        ensures volume { result.now ≡ volume_of (keeps self.now) }
+        ensures fair { IsFairWorld (keeps self.now).core }
     {
         self.desk.volume()
     }

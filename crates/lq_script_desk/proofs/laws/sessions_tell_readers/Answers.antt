@@ -2,4 +2,4 @@ use Rattle.lq_script_desk.proofs.SessionLemmas.{sessions}
 use Rattle.lq_script_desk.proofs.laws.sessions_tell_readers.Goals as goal
 
 pub returns : goal.returns
-returns c = sessions c.first_worlds_are_fair.ensures c.readers_are_told.ensures
+returns c = sessions c.readers_are_told.ensures

@@ -1,18 +1,13 @@
-use Rattle.std.proofs.Common.{◌≡◌, List, ℕ, [], subst, refl, ap, ◌∙◌, ◌⊎◌, Err, inr}
+use Rattle.std.proofs.Common.{◌≡◌, List, ℕ, [], refl, ap, ◌∙◌, ◌⊎◌, Err, inr}
 use Rattle.std.proofs.KnownBytes.{Appends-nil, Consumes-nil}
 use Rattle.std.specs.Io.KnownBytes.{Appends, Keeps}
 use Rattle.std.specs.Prelude.{Bool, Option, Some, None, Result, true, false}
-use Rattle.lq_volume.specs.State.{State}
-use Rattle.lq_desk_world.specs.World.{first_world}
-use Rattle.lq_desk.specs.Kept.{Shows}
 use Rattle.lq_script_lines.specs.Lines.{Rules}
 use Rattle.lq_script_lines.specs.Output.{output_of}
 use Rattle.lq_script_lines.specs.Outcome.{IsRunOutcome, reader_log, writer_log}
 use Rattle.lq_script_lines.specs.declared.run_fault.RunFault.{RunFault}
 use Rattle.lq_script_lines.specs.declared.run_fault.RunFault.TheVariants.{Limit, Memory, Read, Thread, Write}
-use Rattle.lq_script_desk.specs.Session.{session_with}
-use Rattle.lq_script_desk.specs.Script.{script_session, script_world, world_rules}
-use Rattle.lq_script_desk.proofs.ScriptLemmas.{Alike, ended-world, outcome-world}
+use Rattle.lq_script_desk.specs.Script.{script_session, world_rules}
 use Rattle.lq_script_desk.proofs.TellLemmas.{run-tells}
 use Rattle.lq_script_desk.proofs.script.run.Goals as goal
 
@@ -79,32 +74,27 @@ returns-in_default-no_rebuilds g c =
       readers = run-tells c.scripts_tell_readers.ensures _ _ _ outcome;
     }
 
--- the reader may be read after the desk's replies, since they are the world's
+-- the first session is the script's
 pub run_lines-requires-clause-waits : goal.run_lines-requires-clause-waits
 run_lines-requires-clause-waits g c =
-    let desk : Shows c.in-Ok.desk script_world = subst (λ (s : State). Shows c.in-Ok.desk
-    (first_world (record { start = s; changes = [] }))) c.new.ensures c.in-Ok.ensures.world in
-    let session =
-    session_with c.new-session.result.desk c.new-session.result.rebuilds.items in
-    let alike : Alike session script_session = record {
-      core = rw c.new-session.ensures.desk desk;
-      folds = c.new-session.ensures.rebuilds ∙ c.in-Ok-no_rebuilds.ensures.none;
-    } in
-    λ reader writer ended. c.requires.waits reader writer (ended-world
-    c.kept_turns_show_worlds.ensures session script_session alike _ _ _ _ ended)
+    rw (
+      c.new-session.ensures.desk,
+      c.new-session.ensures.rebuilds,
+      c.in-Ok-no_rebuilds.ensures.none,
+      c.in-Ok.ensures.world,
+      c.new.ensures,
+    ) c.requires.waits
 
 pub returns : goal.returns
 returns g c =
-    let desk : Shows c.in-Ok.desk script_world = subst (λ (s : State). Shows c.in-Ok.desk
-    (first_world (record { start = s; changes = [] }))) c.new.ensures c.in-Ok.ensures.world in
-    let session =
-    session_with c.new-session.result.desk c.new-session.result.rebuilds.items in
-    let alike : Alike session script_session = record {
-      core = rw c.new-session.ensures.desk desk;
-      folds = c.new-session.ensures.rebuilds ∙ c.in-Ok-no_rebuilds.ensures.none;
-    } in
-    let outcome = outcome-world c.kept_turns_show_worlds.ensures session script_session alike
-    _ _ _ c.run_lines.ensures.outcome in record {
+    let outcome = rw (
+      c.new-session.ensures.desk,
+      c.new-session.ensures.rebuilds,
+      c.in-Ok-no_rebuilds.ensures.none,
+      c.in-Ok.ensures.world,
+      c.new.ensures,
+    )
+    at c.run_lines.ensures.outcome in record {
       outcome = outcome;
       readers = run-tells c.scripts_tell_readers.ensures _ _ _ outcome;
     }

@@ -1,17 +1,16 @@
-use Rattle.std.proofs.Common.{subst}
-use Rattle.lq_desk.specs.Kept.{Kept, Shows}
-use Rattle.lq_desk.proofs.Shown.{moves}
-use Rattle.lq_desk.proofs.PassedLemmas.{refusal-leaves}
+use Rattle.lq_desk.proofs.Shown.{moves, refused-stays}
 use Rattle.lq_desk.proofs.desk.Desk.event.Goals as goal
 
+pub invariant_of-self : goal.invariant_of-self
+invariant_of-self c = rw (c.step-self-inside.ensures, c.self.view_is)
+    ((moves c.kept_shows_worlds.ensures c.refusals_leave_worlds.ensures _ _ _ _ _
+    c.carry_out-reply.ensures (rw c.self.view_is at c.self.invariant)).1)
+
 pub returns-clause-world : goal.returns-clause-world
-returns-clause-world c = λ w shows.
-    moves c.kept_shows_worlds.ensures _ _ w _ _ c.carry_out.ensures shows
+returns-clause-world c = rw (c.step-self-inside.ensures, c.self.view_is)
+    ((moves c.kept_shows_worlds.ensures c.refusals_leave_worlds.ensures _ _ _ _ _
+    c.carry_out-reply.ensures (rw c.self.view_is at c.self.invariant)).0)
 
 pub returns-clause-refused : goal.returns-clause-refused
 returns-clause-refused c = λ refusal is.
-    let w = c.self.invariant.world in
-    let shows : Shows c.args.self.now w =
-    subst (λ (k : Kept). Shows k w) c.self.view_is c.self.invariant.shows in
-    refusal-leaves c.refusals_leave_worlds.ensures _ _ w _ _ refusal shows
-    (returns-clause-world c w shows) is
+    refused-stays c.refusals_leave_worlds.ensures _ _ _ _ refusal (returns-clause-world c) is

@@ -1,9 +1,11 @@
-use Rattle.std.proofs.Common.{subst}
-use Rattle.lq_desk.specs.Kept.{Kept}
-use Rattle.lq_desk.specs.Ready.{MarksParcels}
-use Rattle.lq_desk.proofs.ParcelLemmas.{ready-tells}
+use Rattle.std.proofs.Common.{◌∙◌}
+use Rattle.lq_desk_world.specs.declared.event.Event.TheVariants.{Take}
+use Rattle.lq_desk.proofs.TurnLemmas.{turn-answer}
+use Rattle.std.proofs.Common.{ap}
+use Rattle.lq_desk.specs.Ready.{is_parcel}
 use Rattle.lq_desk.proofs.desk.Desk.ready.Goals as goal
 
 pub returns : goal.returns
-returns c = λ slot some. ready-tells c.args.self.now slot c.parcels.result some
-    (subst (λ (k : Kept). MarksParcels k.slots c.parcels.result) c.self.view_is c.parcels.ensures)
+returns c = λ slot some. c.ready.ensures slot some
+    ∙ ap is_parcel (turn-answer c.kept_shows_worlds.ensures _ _ (Take slot)
+    (rw c.self.view_is at c.self.invariant))

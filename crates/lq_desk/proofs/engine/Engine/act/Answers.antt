@@ -1,10 +1,9 @@
 use Rattle.lq_desk.specs.Act.{act_of}
-use Rattle.lq_desk.proofs.Desks.{IsDesk-act, at-view, few-desk}
-use Rattle.lq_desk.proofs.desk.Desk.act.Goals as goal
+use Rattle.lq_desk.proofs.Desks.{IsKept-act, at-view, few-desk}
+use Rattle.lq_desk.proofs.engine.Engine.act.Goals as goal
 
 pub invariant_of-self : goal.invariant_of-self
-invariant_of-self c = IsDesk-act c.kept_shows_worlds.ensures _ _ c.args.act c.args.slot _ _
-    c.self.invariant c.changes-number.ensures.number c.act.ensures
+invariant_of-self c = IsKept-act _ _ c.args.act c.args.slot _ _ c.self.invariant c.act.ensures
 
 pub returns : goal.returns
 returns c = at-view (λ n. act_of n c.args.act) _ _ _ c.args.slot _ _ c.self.view_is

@@ -1,9 +1,9 @@
 use Rattle.std.proofs.Common.{refl, inl, inr}
 use Rattle.lq_desk_world.specs.declared.event.Event.TheVariants.{Open, Put, HangUp, Notice, Finish}
 use Rattle.lq_desk.specs.Act.{close_turn, read_turn}
-use Rattle.lq_desk.proofs.Desks.{IsDesk-close, IsDesk-filled, IsDesk-noticed, IsDesk-read, at-view, few-desk, filled-view, noticed-view}
+use Rattle.lq_desk.proofs.Desks.{IsKept-close, IsKept-filled, IsKept-noticed, IsKept-read, at-view, few-desk, filled-view, noticed-view}
 use Rattle.lq_desk.proofs.TurnLemmas.{alone-like, change-turn, close-step, read-step}
-use Rattle.lq_desk.proofs.desk.Desk.carry_out_turn.Goals as goal
+use Rattle.lq_desk.proofs.engine.Engine.carry_out_turn.Goals as goal
 
 pub notice_all-requires : goal.notice_all-requires
 notice_all-requires c = few-desk _ c.changes-number.ensures.volume c.self.invariant
@@ -15,20 +15,19 @@ pub close-requires : goal.close-requires
 close-requires c = few-desk _ c.changes-number.ensures.volume c.self.invariant
 
 pub invariant_of-self : goal.invariant_of-self
-invariant_of-self c = IsDesk-noticed c.kept_shows_worlds.ensures _ _ _ c.self.invariant
-    c.changes-number.ensures.number c.notice_all.ensures
+invariant_of-self c = IsKept-noticed _ _ _ c.self.invariant c.notice_all.ensures
 
 pub invariant_of-self-in-Change-1 : goal.invariant_of-self-in-Change-1
-invariant_of-self-in-Change-1 c = IsDesk-filled c.kept_shows_worlds.ensures _ _
-    c.self-in-Change.invariant c.fill_all.ensures
+invariant_of-self-in-Change-1 c = IsKept-filled _ _ c.self-in-Change.invariant
+    c.fill_all.ensures
 
 pub invariant_of-self-in-Take-1 : goal.invariant_of-self-in-Take-1
-invariant_of-self-in-Take-1 c = IsDesk-read c.kept_shows_worlds.ensures _ _ c.in-Take.slot _ _
-    c.self.invariant c.changes-number.ensures.number c.read.ensures
+invariant_of-self-in-Take-1 c = IsKept-read _ _ c.in-Take.slot _ _ c.self.invariant
+    c.read.ensures
 
 pub invariant_of-self-in-Close-1 : goal.invariant_of-self-in-Close-1
-invariant_of-self-in-Close-1 c = IsDesk-close c.kept_shows_worlds.ensures _ _ c.in-Close.slot _ _
-    c.self.invariant c.changes-number.ensures.number c.close.ensures
+invariant_of-self-in-Close-1 c = IsKept-close _ _ c.in-Close.slot _ _ c.self.invariant
+    c.close.ensures
 
 pub returns-in-Change : goal.returns-in-Change
 returns-in-Change c =

@@ -1,10 +1,10 @@
-use Rattle.std.proofs.Common.{refl, ◌≡◌, ◌+◌, ◌<◌, None, Some, length, arith, ap, ◌∙◌, sym, map, subst}
+use Rattle.std.proofs.Common.{refl, ◌≡◌, ◌+◌, Some, ap, ◌∙◌, sym, map, subst}
 use Rattle.std.specs.Prelude.{slice_set}
 use Rattle.lq_desk.specs.Slot.{KeptSlot, slot_of, fresh_slot}
-use Rattle.lq_desk.specs.Kept.{Kept, IsDesk, first_free, opening_refusal, opened}
-use Rattle.lq_desk.proofs.Desks.{IsDesk-open, opens, slots-opened}
+use Rattle.lq_desk.specs.Kept.{Kept, IsKept, first_free, opened}
+use Rattle.lq_desk.proofs.Desks.{IsKept-open, slots-opened}
 use Rattle.lq_desk.proofs.SlotsLemmas.{kept_slot}
-use Rattle.lq_desk.proofs.desk.Desk.open.Goals as goal
+use Rattle.lq_desk.proofs.engine.Engine.open.Goals as goal
 
 pub invariant_of-self : goal.invariant_of-self
 invariant_of-self c =
@@ -18,20 +18,12 @@ invariant_of-self c =
     fresh_slot c.args.predicate.now c.args.moved k.volume.number c.args.port c.args.backlog in
     let same : slot_of c.in_ok-slot.slot ≡ fresh =
     rw (← c.changes-at.ensures.number) c.in_ok-slot.ensures.value in
-    let place : c.first_free-place.result ≡ first_free k.slots = c.first_free-place.ensures in
-    let free : first_free k.slots < length k.slots =
-    omega (arith, c.if-place-ge-SLOTS.false, place, c.self.invariant.slots) in
-    let none : opening_refusal k c.args.port c.args.backlog ≡ None =
-    opens k c.args.port c.args.backlog (omega (arith, c.if-port-lt1.false))
-    (omega (arith, c.if-port-gt-MAX_PORT.false)) (omega (arith, c.if-backlog-gt-MAX_BACKLOG.false))
-    free (omega (arith, c.if-limit-self.false, c.limit.ensures)) in
     let made : map kept_slot c.open.new.self ≡ slice_set k.slots (first_free k.slots) (Some fresh) =
     slots-opened xs c.open.new.self
     (first_free k.slots) c.in_ok-slot.slot fresh c.open.ensures same refl in
-    subst (λ ks. IsDesk (record { volume = k.volume; openings = k.openings + 1; slots = ks }))
+    subst (λ ks. IsKept (record { volume = k.volume; openings = k.openings + 1; slots = ks }))
     (sym made)
-    (IsDesk-open c.kept_shows_worlds.ensures k c.args.predicate.now c.args.port c.args.backlog
-    c.args.moved c.self.invariant none)
+    (IsKept-open k c.args.predicate.now c.args.port c.args.backlog c.args.moved c.self.invariant)
 
 pub returns-clause-ok : goal.returns-clause-ok
 returns-clause-ok c =

@@ -1,8 +1,8 @@
 use Rattle.std.proofs.Common.{ap}
 use Rattle.std.proofs.lemmas.Result.{err_from_is_err_and}
 use Rattle.lq_desk.specs.Kept.{Kept, changed}
-use Rattle.lq_desk.proofs.Desks.{IsDesk-change, few-desk}
-use Rattle.lq_desk.proofs.desk.Desk.change.Goals as goal
+use Rattle.lq_desk.proofs.Desks.{IsKept-change, few-desk}
+use Rattle.lq_desk.proofs.engine.Engine.change.Goals as goal
 
 pub invariant_of-self : goal.invariant_of-self
 invariant_of-self c = rw c.ready.ensures.kept c.self.invariant
@@ -37,8 +37,8 @@ invariant_of-self-2 c =
       c.in_ok-planned.ensures.value,
       c.in_ok-applied.ensures.ok,
     )
-    (IsDesk-change c.kept_shows_worlds.ensures c.steps_are_few.ensures c.changes_are_counted.ensures
-    _ c.args.change.now c.self.invariant c.changes.ensures.volume c.in_ok-planned.ensures.ok)
+    (IsKept-change c.steps_are_few.ensures c.changes_are_counted.ensures _ c.args.change.now
+    c.self.invariant c.changes.ensures.volume c.in_ok-planned.ensures.ok)
 
 pub returns-clause-ok : goal.returns-clause-ok
 returns-clause-ok c =

@@ -1,0 +1,195 @@
+//! What a desk keeps, and what it does: events, and turns of them.
+ghost use Rattle.std.specs.Prelude.{◌≡◌, ◌+◌, None, IfOk, OnOk, OnErr, replicate};
+ghost use Rattle.lq_value.specs.Refusal.{FailsOnlyForMemory, IsRefusedBy};
+ghost use Rattle.lq_volume.specs.Change.{refused, node_of};
+
+mod turn;
+
+use crate::reply::Reply;
+use crate::slot::Slot;
+use crate::slots::{SLOTS, Slots};
+use lq_desk_sub::MAX_BACKLOG;
+use lq_desk_world::{Act, Event};
+use lq_predicate::Predicate;
+use lq_update::steps_are_few;
+use lq_value::Refusal;
+use lq_volume::{Applied, Change, Volume, changes_are_counted};
+use std::alloc::Global;
+use std::marker::Model;
+
+/// The most places of a port.
+const MAX_PORT: u64 = 1024;
+
+/// The volume and its live queries with their ports; it takes one event at a time.
+///
+/// Contracts see it as the state that it keeps (`Kept`).
+pub struct Engine {
+    volume: Volume,
+    openings: u64,
+    alloc: Global,
+    slots: Slots,
+}
+
+// Dropping one is a single call, instead of code at each place.
+impl Drop for Engine {
+    fn drop(self) {
+        let Engine {
+            volume: _,
+            openings: _,
+            alloc: _,
+            slots: _,
+        } = self;
+    }
+}
+
+impl Model for Engine {
+    ghost use Rattle.std.specs.Prelude.{map};
+    ghost use Rattle.std.specs.Option.{option_map};
+    ghost use Rattle.lq_desk.specs.Kept.{Kept, IsKept};
+    ghost use Rattle.lq_desk.specs.Slot.{slot_of};
+    ghost use Rattle.std.specs.Coded.{codes};
+    ghost use Rattle.lq_predicate.specs.QueryCode.{coded_query};
+
+    ghost Value = { Kept };
+
+    ghost coded = { Prim.hlevel (codes, coded_query) };
+
+    ghost view = { λ d. record {
+      volume = d.volume;
+      openings = d.openings;
+      slots = map (option_map slot_of) d.slots;
+    } };
+
+    ghost invariant = { λ d. IsKept (record {
+      volume = d.volume;
+      openings = d.openings;
+      slots = map (option_map slot_of) d.slots;
+    }) };
+}
+
+impl Engine {
+    ghost use Rattle.lq_volume.specs.Result.{result_of};
+    ghost use Rattle.lq_desk_world.specs.Events.{Opened};
+    ghost use Rattle.lq_desk.specs.Slot.{fresh_slot};
+    ghost use Rattle.lq_desk.specs.Kept.{KeptStep, changed, opened, opening_refusal, kept_act};
+    ghost use Rattle.lq_desk.specs.Kept as kept;
+    ghost use Rattle.lq_desk.specs.Reply.{answer_of};
+
+    /// One over a volume, with 64 free slots. Refused: `NoMemory`.
+    pub fn new(alloc: Global, volume: Volume) -> Result<Engine, Refusal>
+        ensures refused { FailsOnlyForMemory result }
+        ensures kept { IfOk result (λ engine. engine ≡
+            record { volume = volume; openings = 0; slots = replicate 64 None }) }
+    {
+        Ok(Engine {
+            volume,
+            openings: 0,
+            alloc,
+            slots: Slots::new(alloc)?,
+        })
+    }
+
+    /// The volume as it is now. It takes no memory.
+    pub fn volume(&self) -> &Volume
+        ensures { result.now ≡ self.now.volume }
+    {
+        &self.volume
+    }
+
+    /// Carries out one event and answers it.
+    pub fn carry_out(&mut self, event: &Event) -> Reply
+        ensures { KeptStep self.old event.now (answer_of result) self.new }
+    {
+        match event {
+            Event::Change(change) => match self.change(change) {
+                Ok(applied) => Reply::Changed(applied),
+                Err(refusal) => Reply::Refused(refusal),
+            },
+            Event::Open {
+                predicate,
+                port,
+                backlog,
+                moved,
+            } => match self.open(predicate, *port, *backlog, *moved) {
+                Ok(reply) => reply,
+                Err(refusal) => Reply::Refused(refusal),
+            },
+            Event::Put(slot) => self.act(*slot, Act::Put),
+            Event::Take(slot) => self.act(*slot, Act::Take),
+            Event::HangUp(slot) => self.act(*slot, Act::HangUp),
+            Event::Notice(slot) => self.act(*slot, Act::Notice),
+            Event::Close(slot) => self.act(*slot, Act::Close),
+            Event::Finish(slot) => self.act(*slot, Act::Finish),
+        }
+    }
+
+    // Makes a change and notifies each live query. It first makes the messages, which may fail for
+    // lack of memory, then makes the change, then commits the messages.
+    fn change(&mut self, change: &Change) -> Result<Applied, Refusal>
+        ensures refused { IsRefusedBy result (refused self.old.volume change.now) }
+        ensures value { IfOk result (λ applied. applied ≡ record {
+          change = self.old.volume.number + 1;
+          node = node_of self.old.volume change.now;
+        }) }
+        ensures ok { OnOk result (self.new ≡ changed self.old change.now) }
+        ensures err { OnErr result (self.new ≡ self.old) }
+    {
+        steps_are_few();
+        changes_are_counted();
+        let _ = self.volume.changes();
+        let planned = self.volume.plan(change)?;
+        let told = self.slots.ready(&planned)?;
+        let applied = self.volume.make(change)?;
+        self.slots.commit(told);
+        Ok(applied)
+    }
+
+    // Opens a live query in the lowest free slot.
+    fn open(
+        &mut self,
+        predicate: &Predicate,
+        port: u64,
+        backlog: u64,
+        moved: bool,
+    ) -> Result<Reply, Refusal>
+        ensures refused { IsRefusedBy result (opening_refusal self.old port backlog) }
+        ensures reply { IfOk result (λ reply. answer_of reply ≡
+            Opened (kept.first_free self.old.slots + 1) self.old.volume.number
+            (result_of predicate.now self.old.volume)) }
+        ensures ok { OnOk result (self.new ≡ opened self.old
+            (fresh_slot predicate.now moved self.old.volume.number port backlog)) }
+        ensures err { OnErr result (self.new ≡ self.old) }
+    {
+        if port < 1 || port > MAX_PORT {
+            return Err(Refusal::BadPort);
+        }
+        if backlog > MAX_BACKLOG {
+            return Err(Refusal::BadBacklog);
+        }
+        let place = self.slots.first_free();
+        if place >= SLOTS {
+            return Err(Refusal::NoSlot);
+        }
+        if self.volume.limit() <= self.openings {
+            return Err(Refusal::Exhausted);
+        }
+        let at = self.volume.changes();
+        let result = self.volume.fetch(predicate)?;
+        let slot = Slot::new(self.alloc, predicate, at, port, backlog, moved)?;
+        self.slots.open(slot);
+        self.openings += 1;
+        Ok(Reply::Opened {
+            slot: place as u64 + 1,
+            at,
+            result,
+        })
+    }
+
+    // Carries out an act at a slot.
+    fn act(&mut self, slot: u64, act: Act) -> Reply
+        ensures { (answer_of result, self.new) ≡ kept_act self.old slot act }
+    {
+        let number = self.volume.changes();
+        self.slots.act(slot, act, number)
+    }
+}
