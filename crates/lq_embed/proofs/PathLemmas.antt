@@ -11,10 +11,8 @@ use Rattle.lq_volume.specs.Folder.{Leads}
 use Rattle.lq_volume.specs.Lookup.{find_refusals}
 use Rattle.lq_volume.specs.State as volume
 use Rattle.lq_volume.specs.State.{Record, node_in}
-use Rattle.lq_desk.specs.Turn.{kept_turn_outcome}
 use Rattle.lq_script_request.specs.declared.question.Question.TheVariants.{Find}
 use Rattle.lq_script_desk.specs.Answered.{answered, found}
-use Rattle.lq_script_desk.specs.Script.{kept_volume}
 use Rattle.lq_script_desk.specs.Response.{Response, Refuses, Found}
 use Rattle.lq_embed.proofs.CallLemmas.{finds-as}
 use Rattle.lq_embed.specs.Calls.{Finds, Responds}
@@ -178,7 +176,7 @@ there-refused es dir name e ok = absurd (coded e ok)
 
 -- the response to the question of a name, whatever the tests of its bytes give
 named-there : (old : State) (dir : ℕ) (name : List ℕ) (long utf8 valid : Bool)
-    → IsThere (answered kept_turn_outcome kept_volume old.session (if long then Err BadName
+    → IsThere (answered old.session (if long then Err BadName
     else (if utf8 then (if valid then Ok (Find dir name) else Err BadName) else Err NotUtf8))).0
     (volume_in old).records dir name
 named-there old dir name true utf8 valid =
