@@ -278,8 +278,10 @@ pub answered_over : (old under : ServerSlots) (start : State) (was now : SeatTok
     → old.openings ≤ start.limit → IsOpeningTabled old start.limit port backlog result
     → IfOk result (λ (r : ReaderHold).
     (j : ℕ) → 0 < j → j < r.slot → IsSome (slot_in old.subscriptions.items j))
+    → IfOk result (λ (r : ReaderHold). r.reading.port.floor.book.value ≡ under.keeper)
     → IsAnsweredOver under start now.book port backlog result
-answered_over old under start was now port backlog result same stands seat within table lowest =
+answered_over old under start was now port backlog result same stands seat within table lowest
+    keeper =
     let keeps : under.keeper.book ≡ now.book =
     same.book ∙ sym (ap (λ (s : SeatToken Identity). s.book) seat) in
     let items : old.subscriptions.items ≡ under.subscriptions.items =
@@ -299,6 +301,7 @@ answered_over old under start was now port backlog result same stands seat withi
           (λ (l : List (Option Subscription)). IfOk result (λ (r : ReaderHold).
           (j : ℕ) → 0 < j → j < r.slot → IsSome (slot_in l j)))
           items lowest;
+      keeper = keeper;
     }
 
 -- what was received is a front of the updates over the known book
