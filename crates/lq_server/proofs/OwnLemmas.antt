@@ -63,11 +63,7 @@ and_name : (o : Option Identity) (P : Identity → Type 0) → IsSomeAnd o P →
 and_name (Some t) P h = h
 and_name None P h = absurd h
 
--- the seat of an own reader has a name
-pub own_named : (r : ReaderHold) → IsOwn r → IsSome r.seat.name
-own_named r own = and_some r.seat.name (IsNameOf r) own.name
-
--- and has asked as often as its reader
+-- the seat of an own reader has asked as often as the reader
 pub own_asked : (r : ReaderHold) → IsOwn r
     → IsSomeAnd r.seat.name (λ t. r.seat.asks ≡ asks_after t.asks r.hang_up_asked)
 own_asked r own =
