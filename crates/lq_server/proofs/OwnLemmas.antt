@@ -53,12 +53,7 @@ and_then : {A : Type 0} (o : Option A) (P Q : A → Type 0) → ((a : A) → P a
 and_then (Some a) P Q f h = f a h
 and_then None P Q f h = absurd h
 
--- where something is so of what is there, it is there
-and_some : {A : Type 0} (o : Option A) (P : A → Type 0) → IsSomeAnd o P → IsSome o
-and_some (Some a) P h = refl
-and_some None P h = absurd h
-
--- and it is so of the name that is there
+-- what is so of what is there is so of the name that is there
 and_name : (o : Option Identity) (P : Identity → Type 0) → IsSomeAnd o P → P (name_or o)
 and_name (Some t) P h = h
 and_name None P h = absurd h
