@@ -1,12 +1,12 @@
 -- A query that was followed: what its reader received, and the volume.
-use Rattle.std.proofs.Common.{◌≡◌, ℕ, zero, suc, ◌<◌, ◌≤◌, false, true≢false, List, [], length, map, Option, Some, None, refl, sym, ap, ◌∙◌, subst, arith, length-append}
+use Rattle.std.proofs.Common.{◌≡◌, ℕ, zero, suc, ◌<◌, ◌≤◌, Bool, cond, eq-eqb, false, true≢false, List, [], ◌∷◌, length, Option, Some, None, refl, sym, ap, ◌∙◌, subst, arith, length-append}
 use Rattle.std.specs.Prelude.{IsSome, IsSomeAnd}
 use Rattle.lq_predicate.specs.Query.{Query}
 use Rattle.lq_volume.specs.State.{State}
 use Rattle.lq_volume.specs.declared.change.Change.{Change}
 use Rattle.lq_volume.specs.Book.{Book, Extends, state_at}
 use Rattle.lq_volume.specs.Result.{result_of}
-use Rattle.lq_board.specs.Roll.{numbers}
+use Rattle.lq_board.specs.Roll.{numbers, without}
 use Rattle.lq_board.specs.Token.{BoardName, SeatToken}
 use Rattle.lq_update.specs.declared.mark.Mark.{Mark}
 use Rattle.lq_update.specs.Updates.{updates_of}
@@ -36,6 +36,10 @@ extends_length b c e =
 pub none_counted : (n : ℕ) → [] ≡ numbers n → n ≡ 0
 none_counted zero h = refl
 none_counted (suc k) h = absurd (omega (arith, ap (λ (l : List ℕ). length l) h))
+
+-- nobody is left of a list of one
+pub alone : (k : ℕ) → without k (k ∷ []) ≡ []
+alone k = ap (λ (b : Bool). cond b [] (k ∷ [])) (eq-eqb k k refl)
 
 -- a mark is there, where the test says so
 some_there : (o : Option Mark) → IsSome o → (k : Mark) × (o ≡ Some k)

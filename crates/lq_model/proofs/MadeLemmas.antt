@@ -1,9 +1,14 @@
 -- The changes that a seat made, in the book that it knows.
-use Rattle.std.proofs.Common.{◌≡◌, ℕ, zero, suc, ◌+◌, ◌-◌, List, [], ◌∷◌, ◌++◌, length, map, slice_get, Option, Some, refl, sym, ap, ap₂, ◌∙◌, subst, arith, length-append, append_assoc}
+use Rattle.std.proofs.Common.{◌≡◌, ℕ, zero, suc, ◌+◌, ◌-◌, ◌<◌, ◌≤◌, List, [], ◌∷◌, ◌++◌, length, map, take, slice_get, get_or, Option, Some, None, Result, Ok, Err, refl, sym, ap, ap₂, ◌∙◌, subst, arith, length-append, append_assoc, ◌⊎◌, inl, inr, ⊎_elim}
+use Rattle.std.specs.Prelude.{unwrap_or}
 use Rattle.std.proofs.lemmas.List.{map-append}
+use Rattle.lq_value.specs.declared.refusal.Refusal.{Refusal}
+use Rattle.lq_value.specs.declared.refusal.Refusal.TheVariants.{NoMemory}
+use Rattle.lq_volume.specs.State.{State}
 use Rattle.lq_volume.specs.declared.change.Change.{Change}
 use Rattle.lq_volume.specs.declared.change.Applied.{Applied}
-use Rattle.lq_volume.specs.Book.{Book, Extends}
+use Rattle.lq_volume.specs.Change.{refused}
+use Rattle.lq_volume.specs.Book.{Book, Extends, state_of}
 use Rattle.lq_board.specs.declared.views.Author.{Author}
 use Rattle.lq_board.specs.Roll.{numbers, numbers_after}
 use Rattle.lq_board.specs.Author.{with_change}
@@ -11,7 +16,7 @@ use Rattle.lq_board.specs.Token.{SeatToken}
 use Rattle.lq_server_slots.specs.declared.identity.Identity.{Identity}
 use Rattle.lq_server.specs.Applied.{IsAdded}
 use Rattle.lq_server_slots.specs.Slots.{before_of}
-use Rattle.lq_model.specs.Followed.{changes_at, HasMade}
+use Rattle.lq_model.specs.Followed.{book_of, changes_at, AreRefused, HasApplied, HasMade, HasStopped, IsRefusedAt}
 
 -- what stands at a place of a list stands there when more is added at its end
 slice_get-before : (xs ys : List Change) (i : ℕ) (c : Change) → slice_get xs i ≡ Some c
@@ -139,3 +144,107 @@ made_all old new met changes book n fresh m stays later all number =
     (sym own ∙ all ∙ ap numbers number)
     (changes_at-later new.book book m.numbers changes later m.made) in
     somes_same book.changes changes (sym (all_after [] book.changes) ∙ each)
+
+-- what stands at a place of a list is within it
+get_within : (xs : List Change) (i : ℕ) (c : Change) → slice_get xs i ≡ Some c → i < length xs
+get_within [] i c h = cc
+get_within (x ∷ xs) zero c h = omega arith
+get_within (x ∷ xs) (suc i) c h = let lt = get_within xs i c h in omega arith
+
+-- what is read at a place of a list stands there
+pub get_here : (xs : List Change) (i : ℕ) (d : Change) → i < length xs
+    → slice_get xs i ≡ Some (get_or xs i d)
+get_here [] i d lt = absurd (omega arith)
+get_here (x ∷ xs) zero d lt = refl
+get_here (x ∷ xs) (suc i) d lt = get_here xs i d (omega arith)
+
+-- numbers under which a list has changes are no more than the list has
+numbers_within : (ys xs : List Change) (k n : ℕ) → k ≤ length ys
+    → map (λ n. slice_get ys (n - 1)) (numbers_after k n) ≡ map (λ c. Some c) xs
+    → k + n ≤ length ys
+numbers_within ys xs k zero le h = omega arith
+numbers_within ys [] k (suc n) le h = cc
+numbers_within ys (x ∷ xs) k (suc n) le h =
+    let back : k + 1 - 1 ≡ k = omega arith in
+    let here : slice_get ys k ≡ Some x =
+    subst (λ (i : ℕ). slice_get ys i ≡ Some x) back (head_same _ _ _ _ h) in
+    let lt = get_within ys k x here in
+    let rest = numbers_within ys xs (k + 1) n (omega arith) (tail_same _ _ _ _ h) in
+    omega arith
+
+-- Where a seat's changes are all that were made, no fewer than the book that it knows has, it knows
+-- just those.
+made_then : (book : Book) (ns : List ℕ) (changes : List Change) (n : ℕ)
+    → changes_at book ns ≡ map (λ c. Some c) changes → ns ≡ numbers n → length book.changes ≤ n
+    → book.changes ≡ changes
+made_then book ns changes n made all most =
+    let each : changes_at book (numbers n) ≡ map (λ c. Some c) changes =
+    subst (λ (l : List ℕ). changes_at book l ≡ map (λ c. Some c) changes) all made in
+    let least = numbers_within book.changes changes 0 n (omega arith) each in
+    let whole : n ≡ length book.changes = omega arith in
+    somes_same book.changes changes
+    (sym (all_after [] book.changes)
+    ∙ subst (λ (k : ℕ). changes_at book (numbers k) ≡ map (λ c. Some c) changes) whole each)
+
+-- a change was refused after just those before it, where the seat's changes are all that were made
+pub stopped_so : (seat : SeatToken Identity) (start : State) (changes : List Change)
+    (e : Refusal) (n : ℕ) → HasStopped seat start changes e → seat.author.changes ≡ numbers n
+    → length seat.book.changes ≤ n → AreRefused start changes e
+stopped_so seat start changes e n s all most =
+    let made : seat.book.changes ≡ take s.accepted changes =
+    made_then seat.book seat.author.changes (take s.accepted changes) n s.made all most in
+    let book : seat.book ≡ book_of start (take s.accepted changes) =
+    λ i. record { start = s.begins i; changes = made i } in
+    ⊎_elim (λ (h : e ≡ NoMemory). inl h)
+    (λ (r : IsRefusedAt seat.book changes s.accepted e).
+    inr (s.accepted, subst (λ (b : Book). IsRefusedAt b changes s.accepted e) book r))
+    s.refused
+
+-- a refused change is refused by the volume, or for want of memory
+pub refused_or : (o : Option Refusal) (e : Refusal) → e ≡ unwrap_or o NoMemory
+    → (e ≡ NoMemory) ⊎ (o ≡ Some e)
+refused_or None e h = inl h
+refused_or (Some r) e h = inr (ap (λ (x : Refusal). Some x) (sym h))
+
+-- so is one of those given
+pub refused_here : (book : Book) (changes : List Change) (i : ℕ) (x : Change) (e : Refusal)
+    → slice_get changes i ≡ Some x → e ≡ unwrap_or (refused (state_of book) x) NoMemory
+    → (e ≡ NoMemory) ⊎ IsRefusedAt book changes i e
+refused_here book changes i x e place h =
+    ⊎_elim (λ (n : e ≡ NoMemory). inl n)
+    (λ (r : refused (state_of book) x ≡ Some e).
+    inr (record { change = x; place_is = place; refused = r }))
+    (refused_or (refused (state_of book) x) e h)
+
+-- a seat that only knows a later book has made the same
+pub made_still : (old mid new : SeatToken Identity) (changes : List Change)
+    → HasMade old mid changes → new.author ≡ mid.author → Extends new.book mid.book
+    → HasMade old new changes
+made_still old mid new changes m author later = record {
+  numbers = m.numbers;
+  author = author ∙ m.author;
+  made = changes_at-later mid.book new.book m.numbers changes later m.made;
+}
+
+-- where none was refused, the seat made all
+pub made_ok : (old new : SeatToken Identity) (changes : List Change)
+    (r : Result (Unit {0}) Refusal) → HasApplied old new changes r
+    → ((x : Refusal) → r ≡ Err x → ⊥) → HasMade old new changes
+made_ok old new changes (Ok u) a never = subst (HasMade old new) a.ok a.made
+made_ok old new changes (Err e) a never = absurd (never e refl)
+
+-- a seat that had made nothing, and stopped at a refused change
+pub has_stopped : (old new : SeatToken Identity) (start : State) (changes : List Change)
+    (e : Refusal) → old.author.changes ≡ [] → old.book.start ≡ start
+    → HasApplied old new changes (Err e) → HasStopped new start changes e
+has_stopped old new start changes e fresh begins a =
+    let own : new.author.changes ≡ a.made.numbers =
+    ap (λ (x : Author). x.changes) a.made.author
+    ∙ ap (λ (ns : List ℕ). ns ++ a.made.numbers) fresh in
+    record {
+      accepted = a.accepted;
+      made = subst (λ (ns : List ℕ). changes_at new.book ns
+          ≡ map (λ c. Some c) (take a.accepted changes)) (sym own) a.made.made;
+      begins = a.start ∙ begins;
+      refused = a.err;
+    }

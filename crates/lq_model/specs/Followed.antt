@@ -1,12 +1,12 @@
 -- What is left after a query was followed, or why it isn't.
-use Rattle.std.specs.Prelude.{◌≡◌, ◌⊎◌, ℕ, ◌+◌, ◌-◌, ◌≤◌, List, ◌++◌, true, false, length, map, slice_get, Option, Some, IsSome, Contains}
+use Rattle.std.specs.Prelude.{◌≡◌, ◌⊎◌, ℕ, ◌+◌, ◌-◌, ◌≤◌, List, ◌++◌, true, false, length, map, take, slice_get, Option, Some, IsSome, Result, OnOk, IfErr}
 use Rattle.lq_value.specs.declared.refusal.Refusal.{Refusal}
-use Rattle.lq_value.specs.declared.refusal.Refusal.TheVariants.{NoSeat, NoMemory}
+use Rattle.lq_value.specs.declared.refusal.Refusal.TheVariants.{NoMemory}
 use Rattle.lq_predicate.specs.Query.{Query}
 use Rattle.lq_volume.specs.State.{State}
 use Rattle.lq_volume.specs.declared.change.Change.{Change}
 use Rattle.lq_volume.specs.Change.{refused}
-use Rattle.lq_volume.specs.Book.{Book, Extends, state_at}
+use Rattle.lq_volume.specs.Book.{Book, Extends, state_at, state_of}
 use Rattle.lq_volume.specs.Result.{result_of}
 use Rattle.lq_board.specs.Book.{IsFullBook}
 use Rattle.lq_board.specs.Token.{SeatToken}
@@ -77,17 +77,46 @@ pub record IsFollowed (start : State) (q : Query) (changes : List Change) (f : F
   pub made : retired.book.changes ≡ changes
   pub first : f.reader.reading.port.floor.opened ≡ 0
 
--- one of these changes is refused so, in some state
-pub record IsOneRefused (changes : List Change) (e : Refusal) : Type 0 where
+-- the book of a volume after these changes
+abbrev pub book_of : State → List Change → Book
+book_of start changes = record { start = start; changes = changes }
+
+-- the change at this place is refused so after this book
+pub record IsRefusedAt (book : Book) (changes : List Change) (place : ℕ) (e : Refusal)
+    : Type 0 where
   pub change : Change
-  pub among : Contains changes change
-  pub before : State
-  pub refused : refused before change ≡ Some e
+  pub place_is : slice_get changes place ≡ Some change
+  pub refused : refused (state_of book) change ≡ Some e
+
+-- one of these changes is refused so after a first volume and just the changes before it
+abbrev pub IsOneRefused : State → List Change → Refusal → Type 0
+IsOneRefused start changes e =
+    (place : ℕ) × IsRefusedAt (book_of start (take place changes)) changes place e
 
 -- memory is wanting, or one of these changes is refused so
-abbrev pub AreRefused : List Change → Refusal → Type 0
-AreRefused changes e = (e ≡ NoMemory) ⊎ IsOneRefused changes e
+abbrev pub AreRefused : State → List Change → Refusal → Type 0
+AreRefused start changes e = (e ≡ NoMemory) ⊎ IsOneRefused start changes e
 
--- no seat is left, the opening is refused, or one of these changes
-abbrev pub IsFollowRefused : List Change → Refusal → Type 0
-IsFollowRefused changes e = (e ≡ NoSeat) ⊎ IsOpeningRefused e ⊎ AreRefused changes e
+-- the opening is refused, or one of these changes
+abbrev pub IsFollowRefused : State → List Change → Refusal → Type 0
+IsFollowRefused start changes e = IsOpeningRefused e ⊎ AreRefused start changes e
+
+-- A seat made the first of these changes, as many as were accepted: all of them, or those before
+-- the one that is refused so after the book that the seat then knows.
+pub record HasApplied (old new : SeatToken Identity) (changes : List Change)
+    (result : Result (Unit {0}) Refusal) : Type 0 where
+  pub accepted : ℕ
+  pub made : HasMade old new (take accepted changes)
+  pub start : new.book.start ≡ old.book.start
+  pub ok : OnOk result (take accepted changes ≡ changes)
+  pub err : IfErr result (λ e. (e ≡ NoMemory) ⊎ IsRefusedAt new.book changes accepted e)
+
+-- All changes that a seat made are the first of these. Its book begins with this volume. The next
+-- change is refused so after that book, or memory was wanting.
+pub record HasStopped (seat : SeatToken Identity) (start : State) (changes : List Change)
+    (e : Refusal) : Type 0 where
+  pub accepted : ℕ
+  pub made : changes_at seat.book seat.author.changes
+      ≡ map (λ c. Some c) (take accepted changes)
+  pub begins : seat.book.start ≡ start
+  pub refused : (e ≡ NoMemory) ⊎ IsRefusedAt seat.book changes accepted e

@@ -1,12 +1,12 @@
 //! A server from its beginning to its end: one thread makes changes, another reads the updates.
-ghost use Rattle.std.specs.Prelude.{◌≡◌, [], ◌∷◌, IfOk, IfErr, true};
+ghost use Rattle.std.specs.Prelude.{◌≡◌, [], ◌∷◌, IfOk, IfErr, OnOk, true};
 ghost use Rattle.lq_value.specs.Refusal.{FailsOnlyForMemory};
 ghost use Rattle.lq_board.specs.Author.{leader, with_roll};
 ghost use Rattle.lq_board.specs.Roll.{numbers};
 ghost use Rattle.lq_board.specs.Token.{counted_board};
 ghost use Rattle.lq_server.specs.Own.{IsOwn};
 ghost use Rattle.lq_server.specs.Retired.{IsRetired};
-ghost use Rattle.lq_model.specs.Followed.{AreRefused, GoesOut, HasMade, IsFollowRefused, IsFollowed};
+ghost use Rattle.lq_model.specs.Followed.{AreRefused, GoesOut, HasApplied, HasStopped, IsFollowRefused, IsFollowed};
 
 use lq_board::Seat;
 use lq_desk_sub::Read;
@@ -33,8 +33,8 @@ pub struct Followed {
 /// changes, which are just the changes given, in their order. The reader opened its query before
 /// the first of them. It has received the query's whole update list over the book up to the mark.
 /// Its entries are the query's result after the mark's change. The volume is the state after the
-/// book, from the base's volume on. Refused: `NoSeat`, `NoSlot`, `Exhausted`, `NoMemory`, or as one
-/// of the changes is refused.
+/// book, from the base's volume on. Refused: `NoSlot`, `Exhausted`, `NoMemory`, or as one of the
+/// changes is refused after just those before it.
 pub fn follow<N: Named + Send + Sync, R: Threads + Wait + Sync>(
     rt: &R,
     base: Base,
@@ -44,18 +44,22 @@ pub fn follow<N: Named + Send + Sync, R: Threads + Wait + Sync>(
 ) -> Result<Followed, Refusal>
     requires { (N.board ≡ counted_board base.board) × (base.volume ≡ N.start) }
     ensures followed { IfOk result (IsFollowed N.start predicate.now changes.now) }
-    ensures refused { IfErr result (IsFollowRefused changes.now) }
+    ensures refused { IfErr result (IsFollowRefused N.start changes.now) }
 {
-    let (server, mut head): (Server<N>, Seat<Identity>) = Server::counted(base);
+    let (server, mut head, mut seat): (Server<N>, Seat<Identity>, Seat<Identity>) =
+        Server::counted_with_seat(base);
     let reader = server.open(rt, &mut head, predicate, 16, 1024, false)?;
     // For the proof: no change was made yet, since no seat is enlisted.
     server.latest(&mut head);
-    let mut seat = server.seat(rt)?;
     server.enlist(&mut head, &mut seat);
     let reads = Reads { reader, reads };
-    let (reader, seat) = join_over(rt, &server, reads, Applies { seat, changes });
+    let (reader, applied) = join_over(rt, &server, reads, Applies { seat, changes });
     let mut reader = reader?;
-    let mut seat = seat?;
+    let Applied { mut seat, result } = applied;
+    if let Err(refusal) = result {
+        gather(rt, &server, &mut head, &mut seat, changes, refusal);
+        return Err(refusal);
+    }
     updates_stay();
     books_extend_on();
     states_stay();
@@ -96,6 +100,38 @@ fn leave<N: Named, R: Wait>(
     }
 }
 
+// For the proof: the leading seat gathers the changes of the one seat that it has enlisted, and they
+// are all changes. So a change was refused after just those before it.
+fn gather<N: Named, R: Wait>(
+    rt: &R,
+    server: &Server<N>,
+    head: &mut Seat<Identity>,
+    seat: &mut Seat<Identity>,
+    changes: &[Change],
+    refusal: Refusal,
+)
+    requires boards { (head.old.board ≡ N.board) × (seat.old.board ≡ N.board) }
+    requires slot { head.old.slot ≡ 0 }
+    requires leads { head.old.author ≡ with_roll leader (seat.old.author.number ∷ []) [] }
+    requires signs { seat.old.author.signs ≡ true }
+    requires stopped { HasStopped seat.old N.start changes.now refusal }
+    ensures { AreRefused N.start changes.now refusal }
+{
+    // For the contract alone, which says what the changes were, and how one was refused.
+    let _ = changes;
+    let _ = refusal;
+    server.meet(rt, seat, head);
+    server.dismiss(head, seat);
+    server.latest(head);
+}
+
+// What is left of a work that makes changes: its seat, and why a change was refused.
+#[derive(Drop)]
+struct Applied {
+    seat: Seat<Identity>,
+    result: Result<(), Refusal>,
+}
+
 // The work of one thread: it makes changes.
 #[derive(Drop)]
 struct Applies<'a> {
@@ -104,23 +140,19 @@ struct Applies<'a> {
 }
 
 impl<'a> Work for Applies<'a> {
-    type Given = Result<Seat<Identity>, Refusal>;
+    type Given = Applied;
 
     ghost can = { λ applies board. (applies.seat.board ≡ board) × (applies.seat.slot ≡ 0)
         × (applies.seat.author.signs ≡ true) };
 
     ghost gives = { λ applies board given.
-        IfOk given (λ seat. (seat.board ≡ board) × (seat.slot ≡ 0)
-        × HasMade applies.seat seat applies.changes.now)
-        × IfErr given (AreRefused applies.changes.now) };
+        (given.seat.board ≡ board) × (given.seat.slot ≡ 0)
+        × HasApplied applies.seat given.seat applies.changes.now given.result };
 
-    fn work<N: Named, R: Wait>(
-        self,
-        rt: &R,
-        server: &Server<N>,
-    ) -> Result<Seat<Identity>, Refusal> {
-        let Applies { seat, changes } = self;
-        apply_all(rt, server, seat, changes)
+    fn work<N: Named, R: Wait>(self, rt: &R, server: &Server<N>) -> Applied {
+        let Applies { mut seat, changes } = self;
+        let result = apply_all(rt, server, &mut seat, changes);
+        Applied { seat, result }
     }
 }
 
@@ -144,21 +176,21 @@ impl Work for Reads {
     }
 }
 
+// Makes changes until one is refused.
 fn apply_all<N: Named, R: Wait>(
     rt: &R,
     server: &Server<N>,
-    mut seat: Seat<Identity>,
+    seat: &mut Seat<Identity>,
     changes: &[Change],
-) -> Result<Seat<Identity>, Refusal>
-    requires { (seat.board ≡ N.board) × (seat.slot ≡ 0) × (seat.author.signs ≡ true) }
-    ensures ok { IfOk result (λ after. (after.board ≡ N.board) × (after.slot ≡ 0)
-        × HasMade seat after changes.now) }
-    ensures refused { IfErr result (AreRefused changes.now) }
+) -> Result<(), Refusal>
+    requires { (seat.old.board ≡ N.board) × (seat.old.slot ≡ 0) × (seat.old.author.signs ≡ true) }
+    ensures board { (seat.new.board ≡ N.board) × (seat.new.slot ≡ 0) }
+    ensures applied { HasApplied seat.old seat.new changes.now result }
 {
     for change in changes {
-        server.apply(rt, &mut seat, change)?;
+        server.apply(rt, seat, change)?;
     }
-    Ok(seat)
+    Ok(())
 }
 
 // Makes `reads` reads, then hangs up so that the mark comes, and reads on to the mark.

@@ -63,7 +63,8 @@ module _ {T F : Type 0} (follows : List T → F → T → Type 0) where
       subst (λ (z : List T × F). follows z.0 z.1 x) (λ i. (m.2 i, m.1 i)) ok in
       let all : put_of w ≡ put =
       sym (append_assoc v.taken v.ahead (x ∷ [])) ∙ ap (λ l. l ++ x ∷ []) m.2 in
-      let fits : AllAt (Fits follows h.input h.output h.room h.floor put h.taken) (set views pass w) =
+      let fits : AllAt (Fits follows h.input h.output h.room h.floor put h.taken)
+      (set views pass w) =
       AllAt-set (Fits follows h.input h.output h.room h.floor put h.taken) views pass w (
         (λ _. (m.0, m.1, all, m.3, m.4)),
         (λ p. absurd (true≢false (sym p))),
@@ -112,7 +113,8 @@ module _ {T F : Type 0} (follows : List T → F → T → Type 0) where
       let begin : put_of w ++ f.1.0 ≡ h.put =
       append_assoc (v.taken ++ x ∷ []) (drop 1 v.ahead) f.1.0
       ∙ (λ i. same i ++ f.1.1 i) ∙ sym step in
-      let fits : AllAt (Fits follows h.input h.output h.room h.floor h.put taken) (set views pass w) =
+      let fits : AllAt (Fits follows h.input h.output h.room h.floor h.put taken)
+      (set views pass w) =
       AllAt-set (Fits follows h.input h.output h.room h.floor h.put taken) views pass w (
         (λ p. absurd (true≢false (sym p))),
         (λ _. (t.0, t.1, same, (f.1.0, begin))),
@@ -253,7 +255,8 @@ module _ {T F : Type 0} (follows : List T → F → T → Type 0) where
       → put_of v ≡ []
       → Forks (Kept follows) pass v (putter n f v) (taker n f v)
   opens pass v n f a b none =
-      cuts pass v n f a b (λ k less long. omega (arith, ap length none)) (λ _. subst (IsLegal follows f) (sym none) (nil_is_legal f))
+      cuts pass v n f a b (λ k less long. omega (arith, ap length none))
+      (λ _. subst (IsLegal follows f) (sym none) (nil_is_legal f))
 
   -- All that the end for takes knows leaves it.
   pub leaves :

@@ -98,9 +98,9 @@ module _ {T F : Type 0} (follows : List T → F → T → Type 0) where
       × ((v.ahead ≡ []) ⊎ (v.ahead ≡ x ∷ drop 1 v.ahead))
       × follows v.taken v.floor x
 
-  -- Only the pass `input` may put, and it knows all puts and the room. Only the pass `output` may take, and it
-  -- knows all takes. What each knows of the other is a prefix. A pass that may do both keeps what
-  -- the two knew.
+  -- Only the pass `input` may put, and it knows all puts and the room. Only the pass `output` may
+  -- take, and it knows all takes. What each knows of the other is a prefix. A pass that may do both
+  -- keeps what the two knew.
   abbrev pub Fits : ℕ → ℕ → ℕ → F → List T → List T → ℕ → Known T F → Type 0
   Fits input output room floor put taken pass v =
       (v.puts ≡ true

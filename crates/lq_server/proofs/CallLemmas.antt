@@ -1,13 +1,13 @@
 -- The calls by which the changes of a book were made.
-use Rattle.std.proofs.Common.{◌≡◌, ◌≢◌, ℕ, zero, suc, ◌+◌, ◌-◌, ◌<◌, ◌≤◌, Bool, true, false, cond, eqb, eqb-true, eq-eqb, ne_eqb, Contains, List, [], ◌∷◌, ◌++◌, length, slice_get, Some, refl, sym, ap, ◌∙◌, subst, arith, length-append}
+use Rattle.std.proofs.Common.{◌≡◌, ◌≢◌, ℕ, zero, suc, ◌+◌, ◌<◌, ◌≤◌, Bool, true, false, cond, eqb, eqb-true, eq-eqb, ne_eqb, Contains, List, [], ◌∷◌, ◌++◌, length, slice_get, Some, refl, sym, ap, ◌∙◌, subst, arith, length-append}
 use Rattle.std.proofs.lemmas.List.Elements.{All-contains}
 use Rattle.lq_volume.specs.declared.change.Change.{Change}
 use Rattle.lq_volume.specs.declared.change.Applied.{Applied}
-use Rattle.lq_volume.specs.Book.{Book, Extends}
-use Rattle.lq_board.specs.Roll.{numbers, numbers_after, times}
+use Rattle.lq_volume.specs.Book.{Book}
+use Rattle.lq_board.specs.Roll.{numbers_after, times}
 use Rattle.lq_server_slots.specs.Slots.{before_of}
 use Rattle.lq_server.specs.Applied.{IsAdded}
-use Rattle.lq_server.specs.Counted.{Call, IsCallIn, IsOneCalls, CallsMakeTheBook, answers_of}
+use Rattle.lq_server.specs.Counted.{Call, IsCallIn, CallsMakeTheBook, answers_of}
 
 -- what is in a list is there when more is added at its end
 get_before : (xs ys : List Change) (i : ℕ) (c : Change) → slice_get xs i ≡ Some c

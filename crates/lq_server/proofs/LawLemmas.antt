@@ -1,14 +1,12 @@
 -- What follows of the answers of a reader's calls.
-use Rattle.std.proofs.Common.{◌≡◌, ℕ, Bool, true, false, true≢false, ⊎_elim, length, Option, Some, None, Ok, Err, refl, sym, ap, ◌∙◌, subst}
-use Rattle.std.specs.Prelude.{IfSome, IsSomeAnd, IsSome}
+use Rattle.std.proofs.Common.{◌≡◌, false, true≢false, ⊎_elim, length, Option, Some, None, Ok, Err, refl, sym, ap, ◌∙◌, subst}
+use Rattle.std.specs.Prelude.{IfSome, IsSomeAnd}
 use Rattle.lq_value.specs.declared.refusal.Refusal.{Refusal}
 use Rattle.lq_volume.specs.Book.{Book, Extends}
 use Rattle.lq_update.specs.declared.mark.Mark.{Mark}
 use Rattle.lq_update.specs.declared.mark.Cause.{Cause}
 use Rattle.lq_update.specs.declared.mark.Cause.TheVariants.{Closed, HungUp, Overrun}
 use Rattle.lq_desk_sub.specs.declared.read.Read.{Read}
-use Rattle.lq_desk_sub.specs.declared.read.Read.TheVariants.{Ended}
-use Rattle.lq_server_slots.specs.declared.delivery.Delivery.{Delivery}
 use Rattle.lq_server_slots.specs.declared.identity.Identity.{Identity}
 use Rattle.lq_server_slots.specs.declared.identity.FirstClose.{FirstClose}
 use Rattle.lq_server_slots.specs.declared.identity.FirstClose.TheVariants.{Never, Late}

@@ -53,21 +53,12 @@ and_then : {A : Type 0} (o : Option A) (P Q : A → Type 0) → ((a : A) → P a
 and_then (Some a) P Q f h = f a h
 and_then None P Q f h = absurd h
 
--- where something is so of what is there, it is there
-and_some : {A : Type 0} (o : Option A) (P : A → Type 0) → IsSomeAnd o P → IsSome o
-and_some (Some a) P h = refl
-and_some None P h = absurd h
-
--- and it is so of the name that is there
+-- what is so of what is there is so of the name that is there
 and_name : (o : Option Identity) (P : Identity → Type 0) → IsSomeAnd o P → P (name_or o)
 and_name (Some t) P h = h
 and_name None P h = absurd h
 
--- the seat of an own reader has a name
-pub own_named : (r : ReaderHold) → IsOwn r → IsSome r.seat.name
-own_named r own = and_some r.seat.name (IsNameOf r) own.name
-
--- and has asked as often as its reader
+-- the seat of an own reader has asked as often as the reader
 pub own_asked : (r : ReaderHold) → IsOwn r
     → IsSomeAnd r.seat.name (λ t. r.seat.asks ≡ asks_after t.asks r.hang_up_asked)
 own_asked r own =
@@ -278,8 +269,10 @@ pub answered_over : (old under : ServerSlots) (start : State) (was now : SeatTok
     → old.openings ≤ start.limit → IsOpeningTabled old start.limit port backlog result
     → IfOk result (λ (r : ReaderHold).
     (j : ℕ) → 0 < j → j < r.slot → IsSome (slot_in old.subscriptions.items j))
+    → IfOk result (λ (r : ReaderHold). r.reading.port.floor.book.value ≡ under.keeper)
     → IsAnsweredOver under start now.book port backlog result
-answered_over old under start was now port backlog result same stands seat within table lowest =
+answered_over old under start was now port backlog result same stands seat within table lowest
+    keeper =
     let keeps : under.keeper.book ≡ now.book =
     same.book ∙ sym (ap (λ (s : SeatToken Identity). s.book) seat) in
     let items : old.subscriptions.items ≡ under.subscriptions.items =
@@ -299,6 +292,7 @@ answered_over old under start was now port backlog result same stands seat withi
           (λ (l : List (Option Subscription)). IfOk result (λ (r : ReaderHold).
           (j : ℕ) → 0 < j → j < r.slot → IsSome (slot_in l j)))
           items lowest;
+      keeper = keeper;
     }
 
 -- what was received is a front of the updates over the known book

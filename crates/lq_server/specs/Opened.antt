@@ -24,7 +24,8 @@ pub record IsNewReader (r : ReaderHold) (board : BoardName) (book : Book) (q : Q
   pub opened : IsOpened (opened_of r) board book q mv port backlog
 
 -- Over these slots an opening is answered so. They stand over this book, no more were opened than
--- the limit, and a slot that is given is the lowest that is free.
+-- the limit, and a slot that is given is the lowest that is free. Then they are those of the keeper
+-- that the reader's floor has, so which of them are taken is what the keeper knew.
 pub record IsAnsweredOver (under : ServerSlots) (start : State) (book : Book) (port backlog : ℕ)
     (result : Result ReaderHold Refusal) : Type 0 where
   pub keeps : under.keeper.book ≡ book
@@ -33,3 +34,4 @@ pub record IsAnsweredOver (under : ServerSlots) (start : State) (book : Book) (p
   pub table : IsOpeningTabled under start.limit port backlog result
   pub lowest : IfOk result (λ r.
       (j : ℕ) → 0 < j → j < r.slot → IsSome (slot_in under.subscriptions.items j))
+  pub keeper : IfOk result (λ r. r.reading.port.floor.book.value ≡ under.keeper)

@@ -1,5 +1,5 @@
 //! The state under the lock.
-ghost use Rattle.std.specs.Prelude.{◌≡◌, ◌<◌, ◌≤◌, [], length, IfOk, IfErr};
+ghost use Rattle.std.specs.Prelude.{◌≡◌, ◌+◌, ◌-◌, ◌<◌, ◌≤◌, [], length, IfOk, IfErr, OnOk, OnErr};
 ghost use Rattle.lq_value.specs.declared.refusal.Refusal.TheVariants.{NoSeat};
 ghost use Rattle.lq_volume.specs.Book.{Extends, state_of};
 ghost use Rattle.lq_board.specs.Book.{IsFullBook};
@@ -29,8 +29,8 @@ pub struct Found {
 
 /// The volume, the subscriptions and the keeper of N's board.
 ///
-/// A contract sees the slots: the keeper with its book, the subscriptions, and the number of
-/// openings.
+/// A contract sees the slots, with the keeper and its book, the subscriptions and the number of
+/// openings, and how many seats are out.
 pub struct Locked<N: Named> {
     slots: ServerSlots,
     volume: Volume,
@@ -57,15 +57,15 @@ impl<N: Named> Model for Locked<N> {
     ghost use Rattle.std.specs.Coded.{codes};
     ghost use Rattle.lq_volume.specs.Book.{state_of};
     ghost use Rattle.lq_board.specs.Book.{IsFullBook};
-    ghost use Rattle.lq_server_slots.specs.declared.slots.ServerSlots.{ServerSlots as SlotsOf};
     ghost use Rattle.lq_server_slots.specs.contracts.slots.ServerSlots as some_slots;
     ghost use Rattle.lq_server_slots.specs.Slots.{SlotsStand};
+    ghost use Rattle.lq_server.specs.Hold.{LockHold};
 
-    ghost Value = { SlotsOf };
+    ghost Value = { LockHold };
 
     ghost coded = { Prim.hlevel (codes, some_slots.the_row.coded) };
 
-    ghost view = { λ l. l.slots };
+    ghost view = { λ l. record { slots = l.slots; seats = l.seats } };
 
     ghost invariant = { λ l. (l.slots.keeper.board ≡ N.board)
         × (l.volume ≡ state_of l.slots.keeper.book)
@@ -85,7 +85,8 @@ impl<N: Named> Locked<N> {
         requires start { (slots.keeper.book.start ≡ N.start) × (volume.limit ≡ N.start.limit) }
         requires openings { slots.openings ≡ 0 }
         requires holding { SlotsStand slots slots.keeper.book }
-        ensures { result ≡ slots }
+        ensures slots { result.slots ≡ slots }
+        ensures seats { result.seats ≡ 0 }
     {
         Locked {
             slots,
@@ -97,16 +98,22 @@ impl<N: Named> Locked<N> {
     }
 
     /// A seat that knows the book and made no change. It may make changes where each seat may.
-    /// Refused: `NoSeat`, as tests show just where 16 seats are out. It takes no memory.
+    /// Refused: `NoSeat`, just where 16 seats are out. It takes no memory.
     pub fn seat(&mut self, board: &Board<Identity>) -> Result<Seat<Identity>, Refusal>
         requires { board.now ≡ N.board }
-        ensures same { SameButKnown self.old self.new }
+        ensures same { SameButKnown self.old.slots self.new.slots }
         ensures seat { IfOk result (λ seat.
-            (seat.board ≡ N.board) × (seat.slot ≡ 0) × (seat.book ≡ self.old.keeper.book)) }
+            (seat.board ≡ N.board) × (seat.slot ≡ 0) × (seat.book ≡ self.old.slots.keeper.book)) }
         ensures author { IfOk result (λ seat. seat.author.changes ≡ []) }
         ensures signs { IfOk result (λ seat. seat.author.signs ≡ N.board.free) }
         ensures start { IfOk result (λ seat. seat.book.start ≡ N.start) }
         ensures refused { IfErr result (λ e. e ≡ NoSeat) }
+
+        // Just where 16 are out, and one more is out then.
+        ensures out { OnOk result
+            ((self.old.seats < 16) × (self.new.seats ≡ self.old.seats + 1)) }
+        ensures many { OnErr result
+            ((16 ≤ self.old.seats) × (self.new.seats ≡ self.old.seats)) }
     {
         if self.seats >= MAX_SEATS {
             return Err(Refusal::NoSeat);
@@ -118,8 +125,9 @@ impl<N: Named> Locked<N> {
     /// Takes a seat back, so that another can be given out. It takes no memory.
     pub fn give_back(&mut self, board: &Board<Identity>, seat: Seat<Identity>)
         requires { (board.now ≡ N.board) × (seat.board ≡ N.board) × (seat.slot ≡ 0) }
-        ensures same { SameButKnown self.old self.new }
-        ensures later { Extends self.old.keeper.book seat.book }
+        ensures same { SameButKnown self.old.slots self.new.slots }
+        ensures later { Extends self.old.slots.keeper.book seat.book }
+        ensures out { self.new.seats ≡ self.old.seats - 1 }
     {
         board.join(&mut self.slots.keeper, seat);
         self.seats = self.seats.saturating_sub(1);
@@ -130,13 +138,14 @@ impl<N: Named> Locked<N> {
     /// It may be the seat of a slot. Nothing else of the seat changes.
     pub fn meet(&mut self, board: &Board<Identity>, seat: &mut Seat<Identity>) -> u64
         requires { (board.now ≡ N.board) × (seat.old.board ≡ N.board) }
-        ensures same { SameButKnown self.old self.new }
+        ensures same { SameButKnown self.old.slots self.new.slots }
         ensures plain { seat.old.slot ≡ 0 → self.new ≡ self.old }
-        ensures seat { seat.new ≡ record seat.old { book = self.old.keeper.book } }
+        ensures seat { seat.new ≡ record seat.old { book = self.old.slots.keeper.book } }
         ensures known { 0 < seat.old.slot
-            → seat.old.asks ≤ (slot_at self.new.keeper.slots seat.old.slot).asks }
+            → seat.old.asks ≤ (slot_at self.new.slots.keeper.slots seat.old.slot).asks }
         ensures later { Extends seat.new.book seat.old.book }
-        ensures number { result ≡ length self.old.keeper.book.changes }
+        ensures number { result ≡ length self.old.slots.keeper.book.changes }
+        ensures seats { self.new.seats ≡ self.old.seats }
     {
         if seat.slot() == 0 {
             return board.meet(&mut self.slots.keeper, seat);
@@ -147,9 +156,9 @@ impl<N: Named> Locked<N> {
     /// The keeper and the volume.
     pub fn into_parts(self) -> (Keeper<Identity>, Volume)
         ensures board { result.0.board ≡ N.board }
-        ensures book { result.0.book ≡ self.keeper.book }
-        ensures start { self.keeper.book.start ≡ N.start }
-        ensures state { result.1 ≡ state_of self.keeper.book }
+        ensures book { result.0.book ≡ self.slots.keeper.book }
+        ensures start { self.slots.keeper.book.start ≡ N.start }
+        ensures state { result.1 ≡ state_of self.slots.keeper.book }
         ensures limit { result.1.limit ≡ N.start.limit }
     {
         let Locked {

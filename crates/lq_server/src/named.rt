@@ -120,6 +120,7 @@ impl Base {
     pub fn into_counted<N: Named>(self) -> (Board<Identity>, Locked<N>, Seat)
         requires { (N.board ≡ counted_board self.board) × (self.volume ≡ N.start) }
         ensures board { result.0 ≡ N.board }
+        ensures seats { result.1.seats ≡ 0 }
         ensures head { result.2 ≡ leading_seat N.board N.start }
     {
         let Base {

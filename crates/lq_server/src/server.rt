@@ -106,6 +106,29 @@ impl<N: Named> Server<N> {
         (server, head)
     }
 
+    /// As `counted`, with a seat besides, as `seat` gives one. It counts among the 16.
+    ///
+    /// A caller who makes all changes by this seat is never refused one.
+    pub fn counted_with_seat(base: Base) -> (Server<N>, Seat, Seat)
+        requires { (N.board ≡ counted_board base.board) × (base.volume ≡ N.start) }
+        ensures head { result.1 ≡ leading_seat N.board N.start }
+        ensures seat { (result.2.board ≡ N.board) × (result.2.slot ≡ 0) }
+        ensures author { result.2.author.changes ≡ [] }
+        ensures signs { result.2.author.signs ≡ false }
+        ensures start { result.2.book.start ≡ N.start }
+    {
+        let (board, mut locked, head) = base.into_counted();
+        // No seat is out, so none is refused.
+        let Ok(seat) = locked.seat(&board) else {
+            unreachable!()
+        };
+        let server = Server {
+            state: Mutex::new(locked),
+            board,
+        };
+        (server, head, seat)
+    }
+
     /// The leading seat enlists another, which made no change and may make changes from then on.
     ///
     /// The other may be a reader's seat. It is for contracts alone: it takes no lock and no memory.
@@ -152,8 +175,9 @@ impl<N: Named> Server<N> {
     /// A seat of no slot, which made no change. Its book begins with the volume of the base.
     ///
     /// It may make changes where each seat of the server may, else once it is enlisted. It knows
-    /// the changes so far, which no clause of this call says. Refused: `NoSeat`, as tests show just
-    /// where 16 seats are out. A dropped seat still counts as out. It takes no memory.
+    /// the changes so far, which no clause of this call says. Refused: `NoSeat`, just where 16
+    /// seats are out: a clause of the call under the lock says so, since this call is given no seat
+    /// that could know it. A dropped seat still counts as out. It takes no memory.
     pub fn seat<R: Wait>(&self, rt: &R) -> Result<Seat, Refusal>
         ensures seat { IfOk result (λ seat. (seat.board ≡ N.board) × (seat.slot ≡ 0)) }
         ensures author { IfOk result (λ seat. seat.author.changes ≡ []) }

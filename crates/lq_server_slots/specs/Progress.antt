@@ -14,8 +14,8 @@ use Rattle.lq_server_slots.specs.Reading.{ReadingHold}
 use Rattle.lq_server_slots.specs.Standing.{StandsAt, IsDrained, SideBySide, told_by}
 use Rattle.lq_server_slots.specs.declared.sync.Progress.{Progress}
 
--- What a sync shows of a subscription; s is the subscription under the lock, once its port is filled
--- and before its reader is told. The seat's name then says what it was told.
+-- What a sync shows of a subscription; s is the subscription under the lock, once its port is
+-- filled and before its reader is told. The seat's name then says what it was told.
 pub record ShowsProgress (s : Subscription) (seat0 seat1 : SeatToken Identity) (d e : ReadingHold)
     (x : Progress) : Type 0 where
   pub stands : StandsAt s seat1.book

@@ -23,9 +23,9 @@ use std::sync::Wait;
 /// messages and mark were put until none was left or its port was full. Both hold even where the
 /// change was refused.
 ///
-/// The seat is the change's author, and then knows the book. It has to be one that may make changes.
-/// Before, it has to know the book, and the keeper how often the seat of a slot has asked, as they
-/// do after `meet_in`.
+/// The seat is the change's author, and then knows the book. It has to be one that may make
+/// changes. Before, it has to know the book, and the keeper how often the seat of a slot has asked,
+/// as they do after `meet_in`.
 ///
 /// A refused change walks over the taken slots once, or twice where memory ran out. An accepted one
 /// walks over them twice.

@@ -73,6 +73,7 @@ fn begin(
     ensures refused { FailsOnlyForMemory result }
     ensures begun { IfOk result (λ r. IsBegun r.0 r.1 keeper.now.book
         asked.now.predicate.now asked.now.moved asked.now.port asked.now.backlog) }
+    ensures keeper { IfOk result (λ r. r.1.port.floor.book.value ≡ keeper.now) }
 {
     // For the proof: a result's nodes rise, and a new subscription stands over the book.
     results_rise();
@@ -183,6 +184,7 @@ fn settle(
     ensures openings { OnOk result (slots.new.openings ≡ slots.old.openings + 1) }
     ensures holding { SlotsStand slots.new slots.new.keeper.book }
     ensures slot { IfOk result (λ o. o.slot ≡ place) }
+    ensures reading { IfOk result (λ o. o.reading ≡ reading) }
     ensures opened { IfOk result (λ o. IsOpened o slots.old.keeper.board slots.old.keeper.book
         slot.sub.held.query slot.sub.held.moved slot.places slot.sub.held.backlog) }
 {
@@ -224,6 +226,9 @@ pub fn open_in(
     ensures holding { SlotsStand slots.new slots.new.keeper.book }
     ensures opened { IfOk result (λ o. IsOpened o slots.old.keeper.board slots.old.keeper.book
         asked.now.predicate.now asked.now.moved asked.now.port asked.now.backlog) }
+
+    // The reader's floor has the keeper that gave the slot.
+    ensures keeper { IfOk result (λ o. o.reading.port.floor.book.value ≡ slots.old.keeper) }
 
     // The first refusal that fits and no other, or the lowest free slot.
     ensures answered { IsOpeningAnswer slots.old volume.now.limit asked.now.port asked.now.backlog

@@ -1,4 +1,5 @@
-//! Calls that are given again where memory ran out: with any one growth refused, all is as without.
+//! Calls that are made again where memory ran out: whichever growth is refused, the answers are the
+//! same.
 use crate::one_thread::{EACH, WINDOW_ALONE};
 use crate::scenario::{Scenario, base, stage};
 use std::alloc::Global;
@@ -7,8 +8,8 @@ use std::sync::Wait;
 use std::test::Fail;
 use std::thread::Threads;
 
-/// Plays a scenario, each call given again where memory ran out: whether each is answered as its
-/// tables say, and so many changes were made.
+/// Plays a scenario, where each call is made again if memory ran out: whether each is answered as
+/// its tables say, and this number of changes was made.
 fn is_made_good<R: Threads + Wait + Sync>(
     rt: &R,
     alloc: Global,

@@ -32,20 +32,23 @@ impl<N: Named> Locked<N> {
         asked: &Asked,
     ) -> Result<Opened, Refusal>
         requires { (board.now ≡ N.board) × (seat.old.board ≡ N.board) }
-        ensures book { self.new.keeper.book ≡ self.old.keeper.book }
-        ensures seat { seat.new ≡ record seat.old { book = self.old.keeper.book } }
+        ensures book { self.new.slots.keeper.book ≡ self.old.slots.keeper.book }
+        ensures seat { seat.new ≡ record seat.old { book = self.old.slots.keeper.book } }
+        ensures seats { self.new.seats ≡ self.old.seats }
         ensures later { Extends seat.new.book seat.old.book }
         ensures opened { IfOk result (λ o.
             IsOpened o N.board seat.new.book asked.now.predicate.now asked.now.moved
             asked.now.port asked.now.backlog) }
-        ensures counted { OnOk result (self.new.openings ≡ self.old.openings + 1) }
-        ensures err { OnErr result (SameButKnown self.old self.new) }
+        ensures counted { OnOk result (self.new.slots.openings ≡ self.old.slots.openings + 1) }
+        ensures err { OnErr result (SameButKnown self.old.slots self.new.slots) }
 
-        // The first refusal that fits and no other, or the lowest free slot.
-        ensures over { (under : SlotsOf) × SameButKnown self.old under
-            × SlotsStand under under.keeper.book }
-        ensures within { self.old.openings ≤ N.start.limit }
-        ensures answered { IsOpeningAnswer self.old N.start.limit asked.now.port
+        // The first refusal that fits and no other, or the lowest free slot, by the keeper that the
+        // reader's floor has.
+        ensures over { (under : SlotsOf) × SameButKnown self.old.slots under
+            × SlotsStand under under.keeper.book
+            × IfOk result (λ o. o.reading.port.floor.book.value ≡ under.keeper) }
+        ensures within { self.old.slots.openings ≤ N.start.limit }
+        ensures answered { IsOpeningAnswer self.old.slots N.start.limit asked.now.port
             asked.now.backlog result }
     {
         self.meet(board, seat);
@@ -65,9 +68,10 @@ impl<N: Named> Locked<N> {
         requires board { (board.now ≡ N.board) × (seat.old.board ≡ N.board) }
         requires seat { (0 < seat.old.slot)
             × IsSomeAnd seat.old.name (λ t. IdentityFits t reading.old.port) }
-        ensures same { self.new.keeper.book ≡ self.old.keeper.book }
-        ensures openings { self.new.openings ≡ self.old.openings }
-        ensures book { seat.new.book ≡ self.old.keeper.book }
+        ensures same { self.new.slots.keeper.book ≡ self.old.slots.keeper.book }
+        ensures openings { self.new.slots.openings ≡ self.old.slots.openings }
+        ensures seats { self.new.seats ≡ self.old.seats }
+        ensures book { seat.new.book ≡ self.old.slots.keeper.book }
         ensures progress { (s : SubscriptionOf)
             × ShowsProgress s seat.old seat.new reading.old reading.new result }
     {
@@ -89,9 +93,10 @@ impl<N: Named> Locked<N> {
         requires board { (board.now ≡ N.board) × (seat.old.board ≡ N.board) }
         requires seat { (0 < seat.old.slot)
             × IsSomeAnd seat.old.name (λ t. IdentityFits t reading.old.port) }
-        ensures same { self.new.keeper.book ≡ self.old.keeper.book }
-        ensures openings { self.new.openings ≡ self.old.openings }
-        ensures book { seat.new.book ≡ self.old.keeper.book }
+        ensures same { self.new.slots.keeper.book ≡ self.old.slots.keeper.book }
+        ensures openings { self.new.slots.openings ≡ self.old.slots.openings }
+        ensures seats { self.new.seats ≡ self.old.seats }
+        ensures book { seat.new.book ≡ self.old.slots.keeper.book }
         ensures closed { IsClosing seat.old seat.new reading.old reading.new result }
     {
         let closed = close_in(board, &mut self.slots, seat);
@@ -107,13 +112,14 @@ impl<N: Named> Locked<N> {
         requires board { (board.now ≡ N.board) × (seat.board ≡ N.board) }
         requires seat { (0 < seat.slot)
             × IsSomeAnd seat.name (λ t. seat.asks ≡ asks_after t.asks asked) }
-        ensures same { self.new.keeper.book ≡ self.old.keeper.book }
-        ensures openings { self.new.openings ≡ self.old.openings }
-        ensures taken { IsSome (slot_in self.old.subscriptions.items seat.slot) }
-        ensures freed { slot_in self.new.subscriptions.items seat.slot ≡ None }
-        ensures others { (k : ℕ) → k ≢ seat.slot → slot_in self.new.subscriptions.items k
-            ≡ slot_in self.old.subscriptions.items k }
-        ensures later { Extends self.old.keeper.book seat.book }
+        ensures same { self.new.slots.keeper.book ≡ self.old.slots.keeper.book }
+        ensures openings { self.new.slots.openings ≡ self.old.slots.openings }
+        ensures seats { self.new.seats ≡ self.old.seats }
+        ensures taken { IsSome (slot_in self.old.slots.subscriptions.items seat.slot) }
+        ensures freed { slot_in self.new.slots.subscriptions.items seat.slot ≡ None }
+        ensures others { (k : ℕ) → k ≢ seat.slot → slot_in self.new.slots.subscriptions.items k
+            ≡ slot_in self.old.slots.subscriptions.items k }
+        ensures later { Extends self.old.slots.keeper.book seat.book }
     {
         free_in(board, &mut self.slots, seat, asked);
     }

@@ -27,8 +27,9 @@ impl<N: Named> Locked<N> {
         predicate: &Predicate,
     ) -> Result<Found, Refusal>
         requires { (board.now ≡ N.board) × (seat.old.board ≡ N.board) }
-        ensures same { SameButKnown self.old self.new }
-        ensures seat { seat.new ≡ record seat.old { book = self.old.keeper.book } }
+        ensures same { SameButKnown self.old.slots self.new.slots }
+        ensures seats { self.new.seats ≡ self.old.seats }
+        ensures seat { seat.new ≡ record seat.old { book = self.old.slots.keeper.book } }
         ensures later { Extends seat.new.book seat.old.book }
         ensures at { IfOk result (λ found. found.at ≡ length seat.new.book.changes) }
         ensures entries { IfOk result (λ found.
@@ -51,8 +52,9 @@ impl<N: Named> Locked<N> {
         name: &Name,
     ) -> Result<u64, Refusal>
         requires { (board.now ≡ N.board) × (seat.old.board ≡ N.board) }
-        ensures same { SameButKnown self.old self.new }
-        ensures seat { seat.new ≡ record seat.old { book = self.old.keeper.book } }
+        ensures same { SameButKnown self.old.slots self.new.slots }
+        ensures seats { self.new.seats ≡ self.old.seats }
+        ensures seat { seat.new ≡ record seat.old { book = self.old.slots.keeper.book } }
         ensures later { Extends seat.new.book seat.old.book }
         ensures value { IfOk result (λ node.
             node_in (state_of seat.new.book).records dir name.now ≡ Some node) }
@@ -75,8 +77,9 @@ impl<N: Named> Locked<N> {
         node: u64,
     ) -> Result<Listing, Refusal>
         requires { (board.now ≡ N.board) × (seat.old.board ≡ N.board) }
-        ensures same { SameButKnown self.old self.new }
-        ensures seat { seat.new ≡ record seat.old { book = self.old.keeper.book } }
+        ensures same { SameButKnown self.old.slots self.new.slots }
+        ensures seats { self.new.seats ≡ self.old.seats }
+        ensures seat { seat.new ≡ record seat.old { book = self.old.slots.keeper.book } }
         ensures later { Extends seat.new.book seat.old.book }
         ensures value { IfOk result (λ listing.
             record_at (state_of seat.new.book) node ≡ Some (listed listing)) }
@@ -101,14 +104,16 @@ impl<N: Named> Locked<N> {
     ) -> Result<Applied, Refusal>
         requires board { (board.now ≡ N.board) × (seat.old.board ≡ N.board) }
         requires signs { seat.old.author.signs ≡ true }
-        ensures applied { IsApplied change.now self.new.keeper.book seat.old seat.new result }
+        ensures applied { IsApplied change.now self.new.slots.keeper.book seat.old seat.new result }
         ensures grown { OnOk result
-            (self.new.keeper.book ≡ grown self.old.keeper.book (change.now ∷ [])) }
-        ensures same { OnErr result (self.new.keeper.book ≡ self.old.keeper.book) }
-        ensures openings { self.new.openings ≡ self.old.openings }
-        ensures served { SlotsAre IsServed self.new.subscriptions.items self.new.keeper.slots }
+            (self.new.slots.keeper.book ≡ grown self.old.slots.keeper.book (change.now ∷ [])) }
+        ensures same { OnErr result (self.new.slots.keeper.book ≡ self.old.slots.keeper.book) }
+        ensures openings { self.new.slots.openings ≡ self.old.slots.openings }
+        ensures seats { self.new.seats ≡ self.old.seats }
+        ensures served { SlotsAre IsServed self.new.slots.subscriptions.items
+            self.new.slots.keeper.slots }
         ensures number { IfOk result (λ a.
-            a.change ≡ length self.old.keeper.book.changes + 1) }
+            a.change ≡ length self.old.slots.keeper.book.changes + 1) }
     {
         // The seat meets the keeper before the change, since it has to know the book of a refused
         // one too. A change that is made meets once more, when the seat signs it.

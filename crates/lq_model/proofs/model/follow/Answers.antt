@@ -1,5 +1,5 @@
 -- No change was made before the one seat was enlisted, and then just those that it made.
-use Rattle.std.proofs.Common.{◌≡◌, ℕ, true, List, [], ◌∷◌, refl, sym, ap, ◌∙◌, subst, arith}
+use Rattle.std.proofs.Common.{◌≡◌, ℕ, [], ◌∷◌, refl, sym, ap, ◌∙◌, subst, arith}
 use Rattle.std.specs.Prelude.{IfOk}
 use Rattle.lq_volume.specs.Book.{Book, Extends}
 use Rattle.lq_board.specs.declared.views.Author.{Author}
@@ -7,23 +7,22 @@ use Rattle.lq_board.specs.Author.{IsWhole, leader, with_roll}
 use Rattle.lq_board.specs.Token.{SeatToken}
 use Rattle.lq_server_slots.specs.declared.identity.Identity.{Identity}
 use Rattle.lq_model.specs.declared.model.Followed.{Followed}
-use Rattle.lq_model.specs.Followed.{GoesOut, HasMade, IsFollowed}
+use Rattle.lq_model.specs.Followed.{GoesOut, IsFollowed}
 use Rattle.lq_model.proofs.FollowLemmas.{Meets, extends_length, none_counted, followed}
-use Rattle.lq_model.proofs.MadeLemmas.{made_all}
+use Rattle.lq_model.proofs.MadeLemmas.{made_all, made_ok}
 use Rattle.lq_model.proofs.model.follow.Goals as goal
 
 pub leave-requires-clause-leads : goal.leave-requires-clause-leads
 leave-requires-clause-leads g c =
-    let made = subst (λ o. IfOk o (λ (s : SeatToken Identity). (s.board ≡ g.N.Named.board)
-    × (s.slot ≡ 0) × HasMade c.enlist.new.other s c.args.changes.now))
-    c.in_ok-seat-2.was c.join_over-reader.ensures.second.0 in
+    let made = made_ok c.enlist.new.other c.join_over-reader.result.1.seat c.args.changes.now
+    c.join_over-reader.result.1.result c.join_over-reader.ensures.second.2 c.in_default.not-Err in
     let author = λ (s : SeatToken Identity). s.author in
     let first = ap author c.latest.ensures.same ∙ ap author c.in_ok-reader.ensures.seat
-    ∙ ap author c.counted-server.ensures.head in
-    let k : ℕ = c.in_ok-seat.seat.author.number in
+    ∙ ap author c.counted_with_seat-server.ensures.head in
+    let k : ℕ = c.counted_with_seat-server.result.2.author.number in
     let number : c.meet.new.one.author.number ≡ k =
     ap (λ (s : SeatToken Identity). s.author.number) c.meet.ensures.one
-    ∙ ap (λ (a : Author). a.number) made.2.author
+    ∙ ap (λ (a : Author). a.number) made.author
     ∙ ap (λ (s : SeatToken Identity). s.author.number) c.enlist.ensures.other in
     ap author c.meet-2.ensures.two ∙ ap author c.meet.ensures.two
     ∙ ap author c.enlist.ensures.head
@@ -32,11 +31,10 @@ leave-requires-clause-leads g c =
 
 pub leave-requires-clause-signs : goal.leave-requires-clause-signs
 leave-requires-clause-signs g c =
-    let made = subst (λ o. IfOk o (λ (s : SeatToken Identity). (s.board ≡ g.N.Named.board)
-    × (s.slot ≡ 0) × HasMade c.enlist.new.other s c.args.changes.now))
-    c.in_ok-seat-2.was c.join_over-reader.ensures.second.0 in
+    let made = made_ok c.enlist.new.other c.join_over-reader.result.1.seat c.args.changes.now
+    c.join_over-reader.result.1.result c.join_over-reader.ensures.second.2 c.in_default.not-Err in
     ap (λ (s : SeatToken Identity). s.author.signs) c.meet.ensures.one
-    ∙ ap (λ (a : Author). a.signs) made.2.author
+    ∙ ap (λ (a : Author). a.signs) made.author
     ∙ ap (λ (s : SeatToken Identity). s.author.signs) c.enlist.ensures.other
 
 pub returns-clause-followed : goal.returns-clause-followed
@@ -48,13 +46,12 @@ returns-clause-followed g c =
     let m = c.meet-2.ensures in
     let met = subst (λ (s : SeatToken Identity). Meets s c.meet-2.new.one) c.seat-2.ensures.now
     (record { seat = m.one; later = m.first }) in
-    let made = subst (λ o. IfOk o (λ (s : SeatToken Identity). (s.board ≡ g.N.Named.board)
-    × (s.slot ≡ 0) × HasMade c.enlist.new.other s c.args.changes.now))
-    c.in_ok-seat-2.was c.join_over-reader.ensures.second.0 in
+    let made = made_ok c.enlist.new.other c.join_over-reader.result.1.seat c.args.changes.now
+    c.join_over-reader.result.1.result c.join_over-reader.ensures.second.2 c.in_default.not-Err in
     let fresh = ap (λ (s : SeatToken Identity). s.author.changes) c.enlist.ensures.other
-    ∙ c.in_ok-seat.ensures.author in
+    ∙ c.counted_with_seat-server.ensures.author in
     let r = c.leave.ensures.retired in
-    let made_book : Book = c.in_ok-seat-2.seat.book in
+    let made_book : Book = c.join_over-reader.result.1.seat.book in
     let head_book : Book = c.meet.new.two.book in
     let last_book : Book = c.meet-2.new.one.book in
     let one : Extends head_book made_book =
@@ -64,7 +61,7 @@ returns-clause-followed g c =
     let later = on made_book last_book r.book (on made_book head_book last_book one two) r.later in
     let author = λ (s : SeatToken Identity). s.author in
     let first = ap author c.latest.ensures.same ∙ ap author c.in_ok-reader.ensures.seat
-    ∙ ap author c.counted-server.ensures.head in
+    ∙ ap author c.counted_with_seat-server.ensures.head in
     let n : ℕ = c.latest.result in
     let none : n ≡ 0 =
     none_counted n (subst (λ (a : Author). IsWhole a n) first c.latest.ensures.whole refl refl) in
@@ -78,7 +75,7 @@ returns-clause-followed g c =
     c.args.changes.now
     c.in_ok-reader.ensures.opened out
     c.sync-synced.ensures c.headline.ensures met r
-    (made_all c.enlist.new.other c.in_ok-seat-2.seat c.meet.new.one c.args.changes.now r.book
-    c.leave.result.retired.changes fresh made.2 c.meet.ensures.one later c.leave.ensures.all
+    (made_all c.enlist.new.other c.join_over-reader.result.1.seat c.meet.new.one c.args.changes.now r.book
+    c.leave.result.retired.changes fresh made c.meet.ensures.one later c.leave.ensures.all
     r.number)
     (omega (arith, none, number, long)))

@@ -1,5 +1,5 @@
 -- The leading seat has gathered what the one enlisted seat made, and no other is enlisted.
-use Rattle.std.proofs.Common.{◌≡◌, ℕ, Bool, cond, eq-eqb, eqb, true, List, [], ◌∷◌, refl, sym, ap, ◌∙◌, subst}
+use Rattle.std.proofs.Common.{ℕ, List, sym, ap, ◌∙◌, subst}
 use Rattle.lq_volume.specs.Book.{Book}
 use Rattle.lq_board.specs.declared.views.Author.{Author}
 use Rattle.lq_board.specs.Author.{with_roll}
@@ -7,11 +7,8 @@ use Rattle.lq_board.specs.Roll.{without}
 use Rattle.lq_board.specs.Token.{SeatToken}
 use Rattle.lq_server_slots.specs.declared.identity.Identity.{Identity}
 use Rattle.lq_server.specs.Retired.{IsRetired}
+use Rattle.lq_model.proofs.FollowLemmas.{alone}
 use Rattle.lq_model.proofs.model.leave.Goals as goal
-
--- nobody is left of a list of one
-alone : (k : ℕ) → without k (k ∷ []) ≡ []
-alone k = ap (λ (b : Bool). cond b [] (k ∷ [])) (eq-eqb k k refl)
 
 pub returns-clause-retired : goal.returns-clause-retired
 returns-clause-retired g c =

@@ -49,3 +49,11 @@ new-reading-requires-clause-full c =
     subst IsFullBook (sym (ap (λ (e : End Delivery Opening). floor_of e.floor) m.ends
     ∙ ap floor_of m.floor ∙ ap (λ (k : KeeperToken Identity). k.book) c.of-2.ensures))
     c.requires.full
+
+pub returns-clause-keeper : goal.returns-clause-keeper
+returns-clause-keeper c =
+    let m = c.in_ok-input.ensures in
+    ap (λ (r : ReadingHold). r.port.floor.book.value) c.new-reading.ensures
+    ∙ ap (λ (e : End Delivery Opening). e.floor.book.value) m.ends
+    ∙ ap (λ (f : Opening). f.book.value) m.floor
+    ∙ c.of-2.ensures

@@ -1,6 +1,6 @@
 -- The book that the close went over is the one that the seat then knows, and so is that of the
 -- sync.
-use Rattle.std.proofs.Common.{◌≡◌, ◌<◌, ◌∙◌, ℕ, sym, ap, subst}
+use Rattle.std.proofs.Common.{◌<◌, ◌∙◌, ℕ, sym, ap, subst}
 use Rattle.lq_volume.specs.Book.{Book}
 use Rattle.lq_board.specs.Token.{SeatToken}
 use Rattle.lq_server_slots.specs.declared.identity.Identity.{Identity}

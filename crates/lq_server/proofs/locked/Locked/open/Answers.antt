@@ -1,13 +1,18 @@
-use Rattle.std.proofs.Common.{rules, subst}
-use Rattle.lq_server_slots.specs.declared.slots.ServerSlots.{ServerSlots}
+use Rattle.std.proofs.Common.{◌≡◌, rules, subst}
+use Rattle.std.specs.Prelude.{IfOk}
+use Rattle.lq_server_slots.specs.declared.open.Opened.{Opened}
 use Rattle.lq_server_slots.specs.Slots.{SlotsStand}
+use Rattle.lq_server.specs.Hold.{LockHold}
 use Rattle.lq_server.proofs.locked.Locked.open.Goals as goal
 
 pub returns-clause-over : goal.returns-clause-over
 returns-clause-over g c = (
-  c.meet.new.self,
+  c.meet.new.self.slots,
   c.meet.ensures.same,
-  subst (λ (z : ServerSlots). SlotsStand z z.keeper.book) c.self.view_is c.self.invariant.6,
+  subst (λ (z : LockHold). SlotsStand z.slots z.slots.keeper.book) c.self.view_is
+      c.self.invariant.6,
+  subst (λ (z : LockHold). IfOk c.open_in.result (λ (o : Opened).
+      o.reading.port.floor.book.value ≡ z.slots.keeper)) c.self.view_is c.open_in.ensures.keeper,
 )
 
 pub returns-clause-answered : goal.returns-clause-answered

@@ -25,18 +25,20 @@ returns-in_err-opened-clause-table g c =
       f.over.0,
       answered_over _ f.over.0 g.N.Named.start c.args.seat.now c.open.new.seat c.args.port
           c.args.backlog
-          c.from_residual.result f.over.1 f.over.2 f.seat f.within (search rules) (search rules),
+          c.from_residual.result f.over.1 f.over.2 f.seat f.within (search rules) (search rules)
+          (search rules),
     )
 
 pub returns-clause-table : goal.returns-clause-table
 returns-clause-table g c =
     let f = c.open.ensures in
-    let o = c.in_ok-opened.opened in (
-      f.over.0,
-      answered_over _ f.over.0 g.N.Named.start c.args.seat.now c.open.new.seat c.args.port
+    let o = c.in_ok-opened.opened in
+    let a = c.in_ok-opened.ensures in (
+      a.over.0,
+      answered_over _ a.over.0 g.N.Named.start c.args.seat.now c.open.new.seat c.args.port
           c.args.backlog
-          (Ok (hold o.reading o.seat o.slot false)) f.over.1 f.over.2 f.seat f.within
-          c.in_ok-opened.ensures.answered.table c.in_ok-opened.ensures.answered.lowest,
+          (Ok (hold o.reading o.seat o.slot false)) a.over.1 a.over.2 f.seat f.within
+          a.answered.table a.answered.lowest a.over.3,
     )
 
 pub returns-clause-own : goal.returns-clause-own

@@ -1,0 +1,44 @@
+-- The one seat's changes are all changes, so it knew all of them when one was refused.
+use Rattle.std.proofs.Common.{◌≡◌, ◌≤◌, ℕ, List, length, sym, ap, ◌∙◌, arith}
+use Rattle.lq_volume.specs.Book.{Book}
+use Rattle.lq_board.specs.declared.views.Author.{Author}
+use Rattle.lq_board.specs.Author.{with_roll}
+use Rattle.lq_board.specs.Roll.{without, numbers}
+use Rattle.lq_board.specs.Token.{SeatToken}
+use Rattle.lq_server_slots.specs.declared.identity.Identity.{Identity}
+use Rattle.lq_model.proofs.FollowLemmas.{alone, extends_length}
+use Rattle.lq_model.proofs.MadeLemmas.{stopped_so}
+use Rattle.lq_model.proofs.model.gather.Goals as goal
+
+pub returns : goal.returns
+returns g c =
+    let author = λ (s : SeatToken Identity). s.author in
+    let k : ℕ = c.args.seat.now.author.number in
+    let d = c.dismiss.ensures in
+    let gathered : List ℕ = c.dismiss.new.head.author.gathered in
+    let met : c.meet.new.one.author ≡ c.args.seat.now.author = ap author c.meet.ensures.one in
+    let lead = ap author c.meet.ensures.two ∙ c.requires.leads in
+    let number : c.meet.new.one.author.number ≡ k = ap (λ (a : Author). a.number) met in
+    let now =
+    ap author c.latest.ensures.same ∙ ap author d.head
+    ∙ ap (λ (n : ℕ). with_roll c.meet.new.two.author
+    (without n c.meet.new.two.author.enlisted) gathered) number
+    ∙ ap (λ (a : Author). with_roll a (without k a.enlisted) gathered) lead in
+    let whole : gathered ≡ numbers c.latest.result =
+    sym (ap (λ (a : Author). a.gathered) (ap author c.latest.ensures.same ∙ ap author d.head))
+    ∙ c.latest.ensures.whole (ap (λ (a : Author). a.leads) now)
+    (ap (λ (a : Author). a.enlisted) now ∙ alone k) in
+    let all : c.args.seat.now.author.changes ≡ numbers c.latest.result =
+    sym (ap (λ (a : Author). a.changes) met)
+    ∙ sym (d.merged.alone (ap (λ (a : Author). a.gathered) lead)) ∙ whole in
+    let one = extends_length c.args.seat.now.book c.meet.new.one.book c.meet.ensures.first in
+    let same = ap (λ (b : Book). length b.changes) c.meet.ensures.same in
+    let head =
+    ap (λ (s : SeatToken Identity). length s.book.changes) d.head in
+    let last =
+    extends_length c.dismiss.new.head.book c.latest.new.seat.book c.latest.ensures.later in
+    let number = c.latest.ensures.number in
+    let most : length c.args.seat.now.book.changes ≤ c.latest.result =
+    omega (arith, one, same, head, last, number) in
+    stopped_so c.args.seat.now g.N.Named.start c.args.changes.now c.args.refusal c.latest.result
+    c.requires.stopped all most
