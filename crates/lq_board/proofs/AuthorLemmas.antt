@@ -2,8 +2,8 @@
 use Rattle.std.proofs.Common.{◌≡◌, ◌≢◌, ℕ, ◌+◌, ◌<◌, List, [], ◌∷◌, ◌++◌, length, refl, sym, ap, ◌∙◌, subst, arith, length-append, Contains}
 use Rattle.lq_volume.specs.declared.change.Change.{Change}
 use Rattle.lq_volume.specs.Book.{Book, grown}
-use Rattle.lq_board.specs.declared.views.Author.{Author}
-use Rattle.lq_board.specs.declared.views.Register.{Register}
+use Rattle.lq_board.specs.declared.token_views.Author.{Author}
+use Rattle.lq_board.specs.declared.token_views.Register.{Register}
 use Rattle.lq_board.specs.Roll.{changes_by}
 use Rattle.lq_board.specs.Author.{IsSigned, IsAuthor, AreDisjoint, with_seat, new_author, with_author, with_change}
 use Rattle.lq_board.proofs.RollLemmas.{own_more, else_more, seats_more, seats_later, none_by, one_author}

@@ -5,23 +5,23 @@ use mathlib.Core.Option.{some}
 use lib.ListN.{get_elem?}
 use Rattle.atomic_table.specs.Table.{Joins}
 use Rattle.atomic_table.proofs.Lists.{at_set}
-use Rattle.lq_board.specs.declared.views.KnownSlot.{KnownSlot}
-use Rattle.lq_board.specs.declared.views.Sitting.{Sitting}
-use Rattle.lq_board.specs.declared.views.Keeping.{Keeping}
-use Rattle.lq_board.specs.declared.views.TokenView.{TokenView}
-use Rattle.lq_board.specs.declared.views.TokenView.TheVariants.{Keeper, Seat, Spent}
+use Rattle.lq_board.specs.declared.token_views.KnownSlot.{KnownSlot}
+use Rattle.lq_board.specs.declared.token_views.Sitting.{Sitting}
+use Rattle.lq_board.specs.declared.token_views.Keeping.{Keeping}
+use Rattle.lq_board.specs.declared.token_views.TokenView.{TokenView}
+use Rattle.lq_board.specs.declared.token_views.TokenView.TheVariants.{Keeper, Seat, Spent}
 use Rattle.lq_board.specs.Slot.{slot_at, come_back}
 use Rattle.lq_board.specs.View.{taken}
-use Rattle.lq_board.specs.Rule.{Fits, Roll, Signs, Kept, IsKept}
+use Rattle.lq_board.specs.Rule.{ViewFits, Roll, ViewSigns, BoardRule, IsKept}
 use Rattle.lq_board.proofs.SlotLemmas.{agrees_slot}
 use Rattle.lq_board.proofs.ViewLemmas.{moved, owns_moved, owns_here, fits_set, sits_slot, fits_other, signs_other}
 
 module _ {M : Type 0} where
   -- the view of the seat that comes back, where the keeper's changed already
-  theirs : (words : List ℕ) (views : List (TokenView M)) (k : Kept words views) (id other : ℕ)
+  theirs : (words : List ℕ) (views : List (TokenView M)) (k : BoardRule words views) (id other : ℕ)
       (x : TokenView M) (w : Sitting M)
       → other ≢ id → get_elem? (slice_set views id x) other ≡ some (Seat w)
-      → Fits k.id k.book k.slots k.owner words other (Seat w)
+      → ViewFits k.id k.book k.slots k.owner words other (Seat w)
   theirs words views k id other x w apart there =
       ⊎_elim
       (λ (t : (other ≡ id) × (x ≡ Seat w)). absurd (apart t.0))
@@ -29,10 +29,11 @@ module _ {M : Type 0} where
       (at_set views id other x (Seat w) there)
 
   -- its author
-  theirs_own : (words : List ℕ) (views : List (TokenView M)) (k : Kept words views) (id other : ℕ)
+  theirs_own : (words : List ℕ) (views : List (TokenView M)) (k : BoardRule words views)
+      (id other : ℕ)
       (x : TokenView M) (w : Sitting M)
       → other ≢ id → get_elem? (slice_set views id x) other ≡ some (Seat w)
-      → Signs k.id k.register k.roll other (Seat w)
+      → ViewSigns k.id k.register k.roll other (Seat w)
   theirs_own words views k id other x w apart there =
       ⊎_elim
       (λ (t : (other ≡ id) × (x ≡ Seat w)). absurd (apart t.0))
@@ -40,9 +41,10 @@ module _ {M : Type 0} where
       (at_set views id other x (Seat w) there)
 
   -- the keeper is now the author that the seat was
-  signs_back : (words : List ℕ) (views : List (TokenView M)) (k : Kept words views) (id other : ℕ)
+  signs_back : (words : List ℕ) (views : List (TokenView M)) (k : BoardRule words views)
+      (id other : ℕ)
       (v : Keeping M) (slots : List (KnownSlot M)) (was : KnownSlot M) (w : Sitting M)
-      → get_elem? views id ≡ some (Keeper v) → Signs k.id k.register k.roll other (Seat w)
+      → get_elem? views id ≡ some (Keeper v) → ViewSigns k.id k.register k.roll other (Seat w)
       → (by : ℕ) (u : TokenView M)
       → get_elem? (slice_set (slice_set views id (Keeper (record {
         book = v.book;
@@ -51,7 +53,7 @@ module _ {M : Type 0} where
         back = w;
         was = was;
       }))) other Spent) by ≡ some u
-      → Signs k.id k.register (moved k.roll w.author.number id) by u
+      → ViewSigns k.id k.register (moved k.roll w.author.number id) by u
   signs_back words views k id other v slots was w at seat =
       let own = k.signs id (Keeper v) at in
       let x : TokenView M =
@@ -63,7 +65,7 @@ module _ {M : Type 0} where
         was = was;
       }) in
       let roll : Roll = moved k.roll w.author.number id in
-      let after = Signs k.id k.register roll in
+      let after = ViewSigns k.id k.register roll in
       fits_set after (slice_set views id x) other Spent
       (λ by u away e. fits_set (λ by' u'. by' ≢ other → after by' u') views id x
       (λ by' u' apart' e' away'.
@@ -99,7 +101,7 @@ module _ {M : Type 0} where
       }) in
       let mine = kept.fits id (Keeper v) at in
       let seat = theirs s.words s.views kept id other x w apart there in
-      let fit = Fits kept.id kept.book kept.slots kept.owner s.words in
+      let fit = ViewFits kept.id kept.book kept.slots kept.owner s.words in
       record {
         id = kept.id;
         book = kept.book;
@@ -142,7 +144,7 @@ module _ {M : Type 0} where
       ap (slice_index s.words) (sym is) ∙ t.word in
       let old : (slot_at kept.slots w.slot).asks ≤ slice_index s.words w.slot =
       kept.agrees.known w.slot pos t.within in
-      let after = Fits kept.id kept.book (slice_set kept.slots (suc k) q) kept.owner s.words in
+      let after = ViewFits kept.id kept.book (slice_set kept.slots (suc k) q) kept.owner s.words in
       record {
         id = kept.id;
         book = kept.book;

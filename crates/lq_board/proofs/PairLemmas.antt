@@ -5,13 +5,13 @@ use mathlib.Core.Option.{none, some}
 use lib.ListN.{get_elem?}
 use Rattle.atomic_table.specs.Table.{keeps, Me, Step, step, Allows, Splits, Joins}
 use Rattle.atomic_table.proofs.Lists.{at_set}
-use Rattle.lq_board.specs.declared.views.Sitting.{Sitting}
-use Rattle.lq_board.specs.declared.views.TokenView.{TokenView}
-use Rattle.lq_board.specs.declared.views.TokenView.TheVariants.{Seat, Pair, Spent}
-use Rattle.lq_board.specs.Roll.{IsMerged, has, without, changes_of_others}
+use Rattle.lq_board.specs.declared.token_views.Sitting.{Sitting}
+use Rattle.lq_board.specs.declared.token_views.TokenView.{TokenView}
+use Rattle.lq_board.specs.declared.token_views.TokenView.TheVariants.{Seat, Pair, Spent}
+use Rattle.lq_board.specs.Roll.{IsMerged, is_listed, without_number, changes_of_others}
 use Rattle.lq_board.specs.Author.{with_signs, with_roll}
 use Rattle.lq_board.specs.View.{sitting_of, paired, of_no_slot, first_seat, second_seat}
-use Rattle.lq_board.specs.Rule.{Fits, Roll, Owns, Signs, IsKept}
+use Rattle.lq_board.specs.Rule.{ViewFits, Roll, Owns, ViewSigns, IsKept}
 use Rattle.lq_board.specs.Step.{Compares, Enlists, Dismisses}
 use Rattle.lq_board.proofs.RollLemmas.{seats_without, has_here, has_else, without_here, without_else, others_enlisted, others_dismissed}
 use Rattle.lq_board.proofs.AuthorLemmas.{author_same, share_none}
@@ -36,8 +36,8 @@ module _ {M : Type 0} where
       λ i. apart (own_two.only ∙ sym (ap kept.roll.who i) ∙ sym own_one.only) in
       let roll : Roll = moved kept.roll b.author.number id in
       let owner : ℕ → ℕ = owner_set kept.owner b.slot id in
-      let fit = Fits kept.id kept.book kept.slots owner s.words in
-      let after = Signs kept.id kept.register roll in
+      let fit = ViewFits kept.id kept.book kept.slots owner s.words in
+      let after = ViewSigns kept.id kept.register roll in
       record {
         id = kept.id;
         book = kept.book;
@@ -117,7 +117,7 @@ module _ {M : Type 0} where
         author = with_roll a.author (k ∷ a.author.enlisted) a.author.gathered;
       })
       (record b { author = with_signs b.author true }) in
-      let fit = Fits kept.id kept.book kept.slots kept.owner s.words in (
+      let fit = ViewFits kept.id kept.book kept.slots kept.owner s.words in (
         w,
         keeps,
         tt,
@@ -139,7 +139,7 @@ module _ {M : Type 0} where
                   kept.gathered counted
                   ∙ sym (others_enlisted k kept.roll.enlisted kept.register.authors
                   (sym two.author.changes ∙ fresh));
-              signs = fits_set (Signs kept.id kept.register roll) s.views id w
+              signs = fits_set (ViewSigns kept.id kept.register roll) s.views id w
                   (λ by u apart e.
                   signs_moved kept.id kept.register kept.roll roll by u
                   (λ o r.
@@ -184,16 +184,16 @@ module _ {M : Type 0} where
       let two = own.1 in
       let l = one.leads leads in
       let k : ℕ = b.author.number in
-      let enlisted : List ℕ = without k kept.roll.enlisted in
+      let enlisted : List ℕ = without_number k kept.roll.enlisted in
       let gathered : List ℕ = changes_of_others enlisted kept.register.authors in
       let roll : Roll =
       record { who = kept.roll.who; enlisted = enlisted; gathered = gathered } in
-      let is_out : has k kept.roll.enlisted ≡ true = sym (two.signs l.counted) ∙ signs in
+      let is_out : is_listed k kept.roll.enlisted ≡ true = sym (two.signs l.counted) ∙ signs in
       let w : TokenView M =
       Pair
-      (record a { author = with_roll a.author (without k a.author.enlisted) gathered })
+      (record a { author = with_roll a.author (without_number k a.author.enlisted) gathered })
       (record b { author = with_signs b.author false }) in
-      let fit = Fits kept.id kept.book kept.slots kept.owner s.words in (
+      let fit = ViewFits kept.id kept.book kept.slots kept.owner s.words in (
         w,
         keeps,
         tt,
@@ -213,7 +213,7 @@ module _ {M : Type 0} where
               enlisted =
                   seats_without kept.register.seats k kept.roll.enlisted kept.enlisted;
               gathered = λ counted. refl;
-              signs = fits_set (Signs kept.id kept.register roll) s.views id w
+              signs = fits_set (ViewSigns kept.id kept.register roll) s.views id w
                   (λ by u apart e.
                   signs_moved kept.id kept.register kept.roll roll by u
                   (λ o r.
@@ -231,7 +231,7 @@ module _ {M : Type 0} where
                       leads = λ _. record {
                         number = l.number;
                         counted = l.counted;
-                        enlisted = ap (without k) l.enlisted;
+                        enlisted = ap (without_number k) l.enlisted;
                         gathered = refl;
                       };
                     },
@@ -267,8 +267,8 @@ module _ {M : Type 0} where
       let own = kept.signs id (Pair a b) at in
       let roll : Roll = moved kept.roll b.author.number n in
       let owner : ℕ → ℕ = owner_set kept.owner b.slot n in
-      let fit = Fits kept.id kept.book kept.slots owner s.words in
-      let after = Signs kept.id kept.register roll in
+      let fit = ViewFits kept.id kept.book kept.slots owner s.words in
+      let after = ViewSigns kept.id kept.register roll in
       record {
         id = kept.id;
         book = kept.book;

@@ -12,20 +12,20 @@ use Rattle.lq_volume.specs.State.{State}
 use Rattle.lq_volume.specs.Change.{IsLawful}
 use Rattle.lq_volume.specs.Laws.{ChangesKeepTrees}
 use Rattle.lq_volume.specs.Book.{Book, grown, state_of, Extends}
-use Rattle.lq_board.specs.declared.views.Author.{Author}
-use Rattle.lq_board.specs.declared.views.Register.{Register}
-use Rattle.lq_board.specs.declared.views.KnownSlot.{KnownSlot}
-use Rattle.lq_board.specs.declared.views.Sitting.{Sitting}
-use Rattle.lq_board.specs.declared.views.Keeping.{Keeping}
-use Rattle.lq_board.specs.declared.views.TokenView.{TokenView}
-use Rattle.lq_board.specs.declared.views.TokenView.TheVariants.{Keeper, Seat, Pair, Spent}
+use Rattle.lq_board.specs.declared.token_views.Author.{Author}
+use Rattle.lq_board.specs.declared.token_views.Register.{Register}
+use Rattle.lq_board.specs.declared.token_views.KnownSlot.{KnownSlot}
+use Rattle.lq_board.specs.declared.token_views.Sitting.{Sitting}
+use Rattle.lq_board.specs.declared.token_views.Keeping.{Keeping}
+use Rattle.lq_board.specs.declared.token_views.TokenView.{TokenView}
+use Rattle.lq_board.specs.declared.token_views.TokenView.TheVariants.{Keeper, Seat, Pair, Spent}
 use Rattle.lq_board.specs.Book.{IsFullBook}
 use Rattle.lq_board.specs.Roll.{numbers, changes_of_others}
 use Rattle.lq_board.specs.Author.{IsSigned, IsAuthor, IsWhole, no_register, with_author, with_change}
 use Rattle.lq_board.specs.Slot.{unused_slots, slot_at, counted}
 use Rattle.lq_board.specs.View.{keeper, newborn}
-use Rattle.lq_board.specs.Rule.{CameBack, Sits, Fits, Roll, Owns, Signs, Kept, IsKept}
-use Rattle.lq_board.specs.Step.{Adds, Sees, Checks, Counts, Asks}
+use Rattle.lq_board.specs.Rule.{CameBack, Sits, ViewFits, Roll, Owns, ViewSigns, BoardRule, IsKept}
+use Rattle.lq_board.specs.Step.{AddsChange, Sees, Checks, Counts, AsksAgain}
 use Rattle.lq_board.proofs.RollLemmas.{others_added, others_all}
 use Rattle.lq_board.proofs.AuthorLemmas.{signed_more, author_more}
 use Rattle.lq_board.proofs.BookLemmas.{extends_self, extends_more, full_more, room_of}
@@ -35,7 +35,7 @@ use Rattle.lq_board.proofs.ViewLemmas.{fits_set, came_self, sits_word, sits_slot
 module _ {M : Type 0} where
   -- the words of a new board
   pub opens : (start : State) → IsFullBook (record { start = start; changes = [] })
-      → Kept {M = M} (replicate 65 0) (newborn start ∷ [])
+      → BoardRule {M = M} (replicate 65 0) (newborn start ∷ [])
   opens start full =
       record {
         id = 0;
@@ -64,16 +64,16 @@ module _ {M : Type 0} where
       lt n h = h
 
       one : (by : ℕ) (v : TokenView M) → get_elem? (newborn start ∷ []) by ≡ some v
-          → Fits 0 book unused_slots (λ _. 0) (replicate 65 0) by v
+          → ViewFits 0 book unused_slots (λ _. 0) (replicate 65 0) by v
       one zero v e =
-          subst (Fits 0 book unused_slots (λ _. 0) (replicate 65 0) 0) (some-injective _ _ e)
+          subst (ViewFits 0 book unused_slots (λ _. 0) (replicate 65 0) 0) (some-injective _ _ e)
           (refl, refl, refl, came_self book book refl)
       one (suc by) v e = absurd (some-ne-none v (sym e))
 
       first : (by : ℕ) (v : TokenView M) → get_elem? (newborn start ∷ []) by ≡ some v
-          → Signs 0 no_register none_called by v
+          → ViewSigns 0 no_register none_called by v
       first zero v e =
-          subst (Signs 0 no_register none_called 0) (some-injective _ _ e)
+          subst (ViewSigns 0 no_register none_called 0) (some-injective _ _ e)
           (refl, refl, λ (lt : 0 < 0). absurd (omega arith))
       first (suc by) v e = absurd (some-ne-none v (sym e))
 
@@ -81,7 +81,7 @@ module _ {M : Type 0} where
   pub adds : (slots id : ℕ) (v : Keeping M) (x : Change) → ChangesKeepTrees
       → 0 < v.back.author.number → v.back.author.signs ≡ true → IsLawful (state_of v.book) x
       → Allows IsKept slots id (Keeper v, []) 0 (λ n. (n + 1) % 2 ^ 64)
-      (Adds (Some x) (step slots 0 1 0 none) (Keeper v, []))
+      (AddsChange (Some x) (step slots 0 1 0 none) (Keeper v, []))
   adds slots id v x keeps_trees pos may lawful s kept len at small =
       let mine = kept.fits id (Keeper v) at in
       let own = kept.signs id (Keeper v) at in
@@ -133,7 +133,7 @@ module _ {M : Type 0} where
           full = full;
           agrees = agrees_word s.words kept.slots 0 n (λ (lt : 0 < 0). absurd (omega arith))
               kept.agrees;
-          fits = fits_set (Fits kept.id book kept.slots kept.owner (slice_set s.words 0 n))
+          fits = fits_set (ViewFits kept.id book kept.slots kept.owner (slice_set s.words 0 n))
               s.views id w
               (λ by u apart e.
               fits_other kept.id kept.book book kept.slots kept.slots kept.owner kept.owner s.words
@@ -155,7 +155,7 @@ module _ {M : Type 0} where
               kept.gathered counted
               ∙ sym (others_added me.number kept.roll.enlisted kept.register.authors
               (sym (o.signs counted) ∙ may));
-          signs = fits_set (Signs kept.id register kept.roll) s.views id w
+          signs = fits_set (ViewSigns kept.id register kept.roll) s.views id w
               (λ by u apart e.
               signs_other kept.id kept.register register kept.roll kept.roll by u
               (λ a r.
@@ -188,16 +188,16 @@ module _ {M : Type 0} where
       )
 
   -- a step that leaves its word
-  pub loaded : (words : List ℕ) (i : ℕ) (views : List (TokenView M)) → Kept words views
-      → Kept (slice_set words i (slice_index words i)) views
+  pub loaded : (words : List ℕ) (i : ℕ) (views : List (TokenView M)) → BoardRule words views
+      → BoardRule (slice_set words i (slice_index words i)) views
   loaded words i views k =
-      subst (λ (l : List ℕ). Kept l views) (sym (set-get_or words i 0)) k
+      subst (λ (l : List ℕ). BoardRule l views) (sym (set-get_or words i 0)) k
 
   -- one view changes, and no word, book or slot
   pub viewed : (words : List ℕ) (views : List (TokenView M)) (id : ℕ) (w : TokenView M)
-      (k : Kept words views)
-      → Fits k.id k.book k.slots k.owner words id w
-      → Signs k.id k.register k.roll id w → Kept words (slice_set views id w)
+      (k : BoardRule words views)
+      → ViewFits k.id k.book k.slots k.owner words id w
+      → ViewSigns k.id k.register k.roll id w → BoardRule words (slice_set views id w)
   viewed words views id w k fits signs =
       record {
         id = k.id;
@@ -207,19 +207,19 @@ module _ {M : Type 0} where
         number = k.number;
         full = k.full;
         agrees = k.agrees;
-        fits = fits_set (Fits k.id k.book k.slots k.owner words) views id w
+        fits = fits_set (ViewFits k.id k.book k.slots k.owner words) views id w
             (λ by u apart e. k.fits by u e) fits;
         register = k.register;
         roll = k.roll;
         signed = k.signed;
         enlisted = k.enlisted;
         gathered = k.gathered;
-        signs = fits_set (Signs k.id k.register k.roll) views id w
+        signs = fits_set (ViewSigns k.id k.register k.roll) views id w
             (λ by u apart e. k.signs by u e) signs;
       }
 
   -- what the leading seat has gathered where no seat is enlisted
-  whole : (words : List ℕ) (views : List (TokenView M)) (k : Kept words views) (by : ℕ)
+  whole : (words : List ℕ) (views : List (TokenView M)) (k : BoardRule words views) (by : ℕ)
       (a : Author) → Owns k.register k.roll by a → IsWhole a (slice_index words 0)
   whole words views k by a o leads empty =
       let l = o.leads leads in
@@ -327,7 +327,8 @@ module _ {M : Type 0} where
               number = kept.number;
               full = kept.full;
               agrees = agrees_slot s.words kept.slots k q (omega arith) (λ out. refl) kept.agrees;
-              fits = fits_set (Fits kept.id kept.book (slice_set kept.slots k q) kept.owner s.words)
+              fits = fits_set (ViewFits kept.id kept.book (slice_set kept.slots k q)
+                  kept.owner s.words)
                   s.views id w
                   (λ by u apart e.
                   fits_other kept.id kept.book kept.book kept.slots (slice_set kept.slots k q)
@@ -346,7 +347,7 @@ module _ {M : Type 0} where
               signed = kept.signed;
               enlisted = kept.enlisted;
               gathered = kept.gathered;
-              signs = fits_set (Signs kept.id kept.register kept.roll) s.views id w
+              signs = fits_set (ViewSigns kept.id kept.register kept.roll) s.views id w
                   (λ by u apart e. kept.signs by u e)
                   (own.0, own.1, λ (lt : 0 < 0). absurd (omega arith));
             },
@@ -361,7 +362,8 @@ module _ {M : Type 0} where
   -- another token's view, where the word of a slot changes
   fits_asked : (id : ℕ) (book : Book) (slots : List (KnownSlot M)) (owner : ℕ → ℕ) (words : List ℕ)
       (k n me by : ℕ) (u : TokenView M) → me ≡ owner k → by ≢ me
-      → Fits id book slots owner words by u → Fits id book slots owner (slice_set words k n) by u
+      → ViewFits id book slots owner words by u
+      → ViewFits id book slots owner (slice_set words k n) by u
   fits_asked id book slots owner words k n me by (Keeper u) mine apart f = f
   fits_asked id book slots owner words k n me by (Seat w) mine apart f = (
     f.0,
@@ -385,7 +387,7 @@ module _ {M : Type 0} where
   -- a slot's seat asks
   pub asks : (slots id : ℕ) (w : Sitting M) → 0 < w.slot → w.asks < 1000000000000
       → Allows IsKept slots id (Seat w, []) w.slot (λ n. (n + 1) % 2 ^ 64)
-      (Asks (step slots w.slot 1 0 none) (Seat w, []))
+      (AsksAgain (step slots w.slot 1 0 none) (Seat w, []))
   asks slots id w pos room s kept len at small =
       let mine = kept.fits id (Seat w) at in
       let t = mine.1 pos in
@@ -414,7 +416,7 @@ module _ {M : Type 0} where
           full = kept.full;
           agrees = agrees_word s.words kept.slots k n (λ _. (t.out, omega (arith, next, t.word)))
               kept.agrees;
-          fits = fits_set (Fits kept.id kept.book kept.slots kept.owner (slice_set s.words k n))
+          fits = fits_set (ViewFits kept.id kept.book kept.slots kept.owner (slice_set s.words k n))
               s.views id (Seat now)
               (λ by u apart e.
               fits_asked kept.id kept.book kept.slots kept.owner s.words k n id by u
@@ -433,7 +435,7 @@ module _ {M : Type 0} where
           signed = kept.signed;
           enlisted = kept.enlisted;
           gathered = kept.gathered;
-          signs = fits_set (Signs kept.id kept.register kept.roll) s.views id (Seat now)
+          signs = fits_set (ViewSigns kept.id kept.register kept.roll) s.views id (Seat now)
               (λ by u apart e. kept.signs by u e) (kept.signs id (Seat w) at);
         },
         (refl, t.word),

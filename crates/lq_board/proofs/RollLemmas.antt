@@ -1,6 +1,6 @@
 -- The numbers of changes, by who made them, and the numbers of seats.
 use Rattle.std.proofs.Common.{◌≡◌, ◌≢◌, ℕ, zero, suc, ◌+◌, ◌<◌, ◌≤◌, Bool, true, false, true≢false, cond, eqb, eqb-true, eq-eqb, ne_eqb, Contains, ◌⊎◌, inl, inr, ⊎_elim, List, [], ◌∷◌, ◌++◌, length, refl, sym, ap, ◌∙◌, subst, arith}
-use Rattle.lq_board.specs.Roll.{changes_after, changes_by, AreSeats, has, without, others_after, changes_of_others, numbers_after, numbers, times, IsMerged}
+use Rattle.lq_board.specs.Roll.{changes_after, changes_by, AreSeats, is_listed, without_number, others_after, changes_of_others, numbers_after, numbers, times, IsMerged}
 
 -- what follows a list that may have one more at its head
 cond_more : (b : Bool) (x : ℕ) (p q l : List ℕ) → p ≡ q ++ l
@@ -59,10 +59,10 @@ without_seats true n x k xs pos most all = all
 without_seats false n x k xs pos most all = (pos, most, all)
 
 -- one seat fewer
-pub seats_without : (n k : ℕ) (xs : List ℕ) → AreSeats n xs → AreSeats n (without k xs)
+pub seats_without : (n k : ℕ) (xs : List ℕ) → AreSeats n xs → AreSeats n (without_number k xs)
 seats_without n k [] all = tt
 seats_without n k (x ∷ xs) all =
-    without_seats (eqb x k) n x k (without k xs) all.0 all.1 (seats_without n k xs all.2)
+    without_seats (eqb x k) n x k (without_number k xs) all.0 all.1 (seats_without n k xs all.2)
 
 -- a seat that has not gone out made no change
 none_after : (n m a : ℕ) (made : List ℕ) → m < a → AreSeats m made → changes_after n a made ≡ []
@@ -80,57 +80,61 @@ pub none_by : (m a : ℕ) (made : List ℕ) → m < a → AreSeats m made → ch
 none_by m a made above all = none_after 0 m a made above all
 
 -- and is in no list of seats
-pub none_has : (m a : ℕ) (xs : List ℕ) → m < a → AreSeats m xs → has a xs ≡ false
+pub none_has : (m a : ℕ) (xs : List ℕ) → m < a → AreSeats m xs → is_listed a xs ≡ false
 none_has m a [] above all = refl
 none_has m a (x ∷ xs) above all =
     let most = all.1 in
-    ap (λ (b : Bool). cond b true (has a xs)) (ne_eqb x a (λ e. omega (arith, e, most, above)))
+    ap (λ (b : Bool). cond b true (is_listed a xs))
+    (ne_eqb x a (λ e. omega (arith, e, most, above)))
     ∙ none_has m a xs above all.2
 
 -- a list with one more has that one
-pub has_here : (k : ℕ) (xs : List ℕ) → has k (k ∷ xs) ≡ true
-has_here k xs = ap (λ (b : Bool). cond b true (has k xs)) (eq-eqb k k refl)
+pub has_here : (k : ℕ) (xs : List ℕ) → is_listed k (k ∷ xs) ≡ true
+has_here k xs = ap (λ (b : Bool). cond b true (is_listed k xs)) (eq-eqb k k refl)
 
 -- and of others what it had
-pub has_else : (k j : ℕ) (xs : List ℕ) → k ≢ j → has k (j ∷ xs) ≡ has k xs
+pub has_else : (k j : ℕ) (xs : List ℕ) → k ≢ j → is_listed k (j ∷ xs) ≡ is_listed k xs
 has_else k j xs ne =
-    ap (λ (b : Bool). cond b true (has k xs)) (ne_eqb j k (λ e. ne (sym e)))
+    ap (λ (b : Bool). cond b true (is_listed k xs)) (ne_eqb j k (λ e. ne (sym e)))
 
 -- the list without k, by cases on its first
-gone : (b : Bool) (x k : ℕ) (xs : List ℕ) → b ≡ eqb x k → has k xs ≡ false
-    → has k (cond b xs (x ∷ xs)) ≡ false
+gone : (b : Bool) (x k : ℕ) (xs : List ℕ) → b ≡ eqb x k → is_listed k xs ≡ false
+    → is_listed k (cond b xs (x ∷ xs)) ≡ false
 gone true x k xs is e = e
-gone false x k xs is e = ap (λ (b : Bool). cond b true (has k xs)) (sym is) ∙ e
+gone false x k xs is e = ap (λ (b : Bool). cond b true (is_listed k xs)) (sym is) ∙ e
 
 -- the list without k doesn't have it
-pub without_here : (k : ℕ) (xs : List ℕ) → has k (without k xs) ≡ false
+pub without_here : (k : ℕ) (xs : List ℕ) → is_listed k (without_number k xs) ≡ false
 without_here k [] = refl
-without_here k (x ∷ xs) = gone (eqb x k) x k (without k xs) refl (without_here k xs)
+without_here k (x ∷ xs) = gone (eqb x k) x k (without_number k xs) refl (without_here k xs)
 
 -- and of others has what it had, by cases on its first
-kept : (b : Bool) (x k j : ℕ) (xs ys : List ℕ) → b ≡ eqb x k → j ≢ k → has j ys ≡ has j xs
-    → has j (cond b ys (x ∷ ys)) ≡ has j (x ∷ xs)
+kept : (b : Bool) (x k j : ℕ) (xs ys : List ℕ) → b ≡ eqb x k → j ≢ k → is_listed j ys
+    ≡ is_listed j xs
+    → is_listed j (cond b ys (x ∷ ys)) ≡ is_listed j (x ∷ xs)
 kept true x k j xs ys is ne e =
     e
-    ∙ sym (ap (λ (b : Bool). cond b true (has j xs))
+    ∙ sym (ap (λ (b : Bool). cond b true (is_listed j xs))
     (ne_eqb x j (λ i. ne (sym i ∙ eqb-true x k (sym is)))))
 kept false x k j xs ys is ne e = ap (λ (b : Bool). cond (eqb x j) true b) e
 
 -- and of others what it had
-pub without_else : (k j : ℕ) (xs : List ℕ) → j ≢ k → has j (without k xs) ≡ has j xs
+pub without_else : (k j : ℕ) (xs : List ℕ) → j ≢ k → is_listed j (without_number k xs)
+    ≡ is_listed j xs
 without_else k j [] ne = refl
 without_else k j (x ∷ xs) ne =
-    kept (eqb x k) x k j xs (without k xs) refl ne (without_else k j xs ne)
+    kept (eqb x k) x k j xs (without_number k xs) refl ne (without_else k j xs ne)
 
 -- one change more, by one who is enlisted, where n changes come before
-added_after : (n k : ℕ) (enlisted made : List ℕ) → has k enlisted ≡ true
+added_after : (n k : ℕ) (enlisted made : List ℕ) → is_listed k enlisted ≡ true
     → others_after n enlisted (made ++ k ∷ []) ≡ others_after n enlisted made
 added_after n k enlisted [] e = ap (λ (b : Bool). cond b [] ((n + 1) ∷ [])) e
 added_after n k enlisted (x ∷ made) e =
-    ap (λ (p : List ℕ). cond (has x enlisted) p ((n + 1) ∷ p)) (added_after (n + 1) k enlisted made e)
+    ap (λ (p : List ℕ). cond (is_listed x enlisted) p ((n + 1) ∷ p))
+    (added_after (n + 1) k enlisted made e)
 
 -- one change more, by one who is enlisted, is none of others
-pub others_added : (k : ℕ) (enlisted made : List ℕ) → has k enlisted ≡ true
+pub others_added : (k : ℕ) (enlisted made : List ℕ) → is_listed k enlisted ≡ true
     → changes_of_others enlisted (made ++ k ∷ []) ≡ changes_of_others enlisted made
 others_added k enlisted made e = added_after 0 k enlisted made e
 
@@ -158,9 +162,9 @@ enlisted_after : (n k : ℕ) (enlisted made : List ℕ) → changes_after n k ma
 enlisted_after n k enlisted [] none = refl
 enlisted_after n k enlisted (x ∷ made) none =
     let apart : eqb x k ≡ false = unmade (eqb x k) n (changes_after (n + 1) k made) none in
-    enlisted_at (eqb x k) (has x (k ∷ enlisted)) n (changes_after (n + 1) k made)
+    enlisted_at (eqb x k) (is_listed x (k ∷ enlisted)) n (changes_after (n + 1) k made)
     (others_after (n + 1) (k ∷ enlisted) made) (others_after (n + 1) enlisted made) none
-    (enlisted_after (n + 1) k enlisted made) apart (has x enlisted)
+    (enlisted_after (n + 1) k enlisted made) apart (is_listed x enlisted)
     (has_else x k enlisted (λ e. true≢false (sym (eq-eqb x k e) ∙ apart)))
 
 -- where one who made no change is enlisted, the changes of others stay
@@ -205,22 +209,27 @@ eqb_no : (x k : ℕ) → eqb x k ≡ false → x ≢ k
 eqb_no x k apart e = true≢false (sym (eq-eqb x k e) ∙ apart)
 
 -- one who is enlisted is dismissed, where n changes come before
-merged_after : (n k : ℕ) (enlisted made : List ℕ) → has k enlisted ≡ true
+merged_after : (n k : ℕ) (enlisted made : List ℕ) → is_listed k enlisted ≡ true
     → IsMerged (others_after n enlisted made) (changes_after n k made)
-    (others_after n (without k enlisted) made)
+    (others_after n (without_number k enlisted) made)
 merged_after n k enlisted [] e = record { long = refl; each = λ x. refl; alone = λ _. refl }
 merged_after n k enlisted (x ∷ made) e =
-    merged_at (has x enlisted) (eqb x k) (has x (without k enlisted)) (n + 1) (others_after (n + 1) enlisted made)
-    (changes_after (n + 1) k made) (others_after (n + 1) (without k enlisted) made)
+    merged_at (is_listed x enlisted) (eqb x k) (is_listed x (without_number k enlisted)) (n + 1)
+    (others_after (n + 1) enlisted made)
+    (changes_after (n + 1) k made) (others_after (n + 1) (without_number k enlisted) made)
     (λ equal.
-    let is : x ≡ k = eqb-true x k equal in
-    (ap (λ j. has j enlisted) is ∙ e, ap (λ j. has j (without k enlisted)) is ∙ without_here k enlisted))
+    let is : x ≡ k = eqb-true x k equal in (
+      ap (λ j. is_listed j enlisted) is ∙ e,
+      ap (λ j. is_listed j (without_number k enlisted)) is
+          ∙ without_here k enlisted,
+    ))
     (λ apart. without_else k x enlisted (eqb_no x k apart))
     (merged_after (n + 1) k enlisted made e)
 
 -- where one who is enlisted is dismissed, its changes are added to those of others
-pub others_dismissed : (k : ℕ) (enlisted made : List ℕ) → has k enlisted ≡ true
-    → IsMerged (changes_of_others enlisted made) (changes_by k made) (changes_of_others (without k enlisted) made)
+pub others_dismissed : (k : ℕ) (enlisted made : List ℕ) → is_listed k enlisted ≡ true
+    → IsMerged (changes_of_others enlisted made) (changes_by k made)
+    (changes_of_others (without_number k enlisted) made)
 others_dismissed k enlisted made e = merged_after 0 k enlisted made e
 
 -- where none is enlisted the changes of others are all, where n changes come before

@@ -5,18 +5,18 @@ use mathlib.Core.Option.{some}
 use lib.ListN.{get_elem?}
 use Rattle.atomic_table.specs.Table.{State, Splits}
 use Rattle.lq_volume.specs.Book.{Book, Extends}
-use Rattle.lq_board.specs.declared.views.Author.{Author}
-use Rattle.lq_board.specs.declared.views.Register.{Register}
-use Rattle.lq_board.specs.declared.views.KnownSlot.{KnownSlot}
-use Rattle.lq_board.specs.declared.views.Sitting.{Sitting}
-use Rattle.lq_board.specs.declared.views.Keeping.{Keeping}
-use Rattle.lq_board.specs.declared.views.TokenView.{TokenView}
-use Rattle.lq_board.specs.declared.views.TokenView.TheVariants.{Keeper, Seat}
+use Rattle.lq_board.specs.declared.token_views.Author.{Author}
+use Rattle.lq_board.specs.declared.token_views.Register.{Register}
+use Rattle.lq_board.specs.declared.token_views.KnownSlot.{KnownSlot}
+use Rattle.lq_board.specs.declared.token_views.Sitting.{Sitting}
+use Rattle.lq_board.specs.declared.token_views.Keeping.{Keeping}
+use Rattle.lq_board.specs.declared.token_views.TokenView.{TokenView}
+use Rattle.lq_board.specs.declared.token_views.TokenView.TheVariants.{Keeper, Seat}
 use Rattle.lq_board.specs.Roll.{changes_by, changes_of_others}
 use Rattle.lq_board.specs.Author.{IsSigned, IsAuthor, no_register, leader, leader_register, with_seat, new_author}
 use Rattle.lq_board.specs.Slot.{slot_at, go_out}
-use Rattle.lq_board.specs.View.{plain, keeper, numbered, copy_of, led, lead_of, opened, seated, parted, again_of}
-use Rattle.lq_board.specs.Rule.{Fits, Roll, Owns, Signs, IsKept}
+use Rattle.lq_board.specs.View.{plain, keeper, with_new_seat, copy_of, led, lead_of, with_slot_seat, seated, parted, again_of}
+use Rattle.lq_board.specs.Rule.{ViewFits, Roll, Owns, ViewSigns, IsKept}
 use Rattle.lq_board.proofs.RollLemmas.{seats_later, none_has}
 use Rattle.lq_board.proofs.AuthorLemmas.{signed_seat, author_new}
 use Rattle.lq_board.proofs.BookLemmas.{extends_self}
@@ -45,18 +45,18 @@ module _ {M : Type 0} where
         name = name;
         author = author;
       }) ∷ []) by ≡ some u
-      → Fits kept.id kept.book kept.slots kept.owner s.words by u
+      → ViewFits kept.id kept.book kept.slots kept.owner s.words by u
   fits_plain id v s kept at r asks name author by u e =
       let mine = kept.fits id (Keeper v) at in
       let w : TokenView M = keeper v.book v.slots r in
       let new : TokenView M =
       Seat (record { slot = 0; book = v.book; asks = asks; name = name; author = author }) in
       ⊎_elim
-      (λ was. fits_set (Fits kept.id kept.book kept.slots kept.owner s.words) s.views id w
+      (λ was. fits_set (ViewFits kept.id kept.book kept.slots kept.owner s.words) s.views id w
       (λ by' u' apart e'. kept.fits by' u' e')
       (mine.0, mine.1, mine.2, came_self kept.book v.book mine.1) by u was)
       (λ (t : (new ≡ u) × (by ≡ length (slice_set s.views id w))).
-      subst (Fits kept.id kept.book kept.slots kept.owner s.words by) t.0 (
+      subst (ViewFits kept.id kept.book kept.slots kept.owner s.words by) t.0 (
         subst (λ (b : Book). Extends b v.book) mine.1 (extends_self v.book),
         λ (lt : 0 < 0). absurd (omega arith),
       ))
@@ -73,7 +73,7 @@ module _ {M : Type 0} where
       let new : Sitting M =
       record { slot = k; book = v.book; asks = asks; name = name; author = author } in
       get_elem? (slice_set s.views id w ++ Seat new ∷ []) by ≡ some u
-      → Fits kept.id kept.book (slice_set kept.slots k q)
+      → ViewFits kept.id kept.book (slice_set kept.slots k q)
       (owner_set kept.owner k (length (slice_set s.views id w))) s.words by u)
   fits_slot id k name v s kept at pos within free r asks just author by u e =
       let mine = kept.fits id (Keeper v) at in
@@ -91,7 +91,7 @@ module _ {M : Type 0} where
       let owner : ℕ → ℕ = owner_set kept.owner k n in
       ⊎_elim
       (λ was. fits_set
-      (Fits kept.id kept.book (slice_set kept.slots k q) owner s.words) s.views id w
+      (ViewFits kept.id kept.book (slice_set kept.slots k q) owner s.words) s.views id w
       (λ by' u' apart e'.
       fits_other kept.id kept.book kept.book kept.slots (slice_set kept.slots k q)
       kept.owner owner s.words s.words by' u' (λ b p. p)
@@ -110,7 +110,7 @@ module _ {M : Type 0} where
       )
       by u was)
       (λ (t : (Seat new ≡ u) × (by ≡ n)).
-      subst (Fits kept.id kept.book (slice_set kept.slots k q) owner s.words by) t.0 (
+      subst (ViewFits kept.id kept.book (slice_set kept.slots k q) owner s.words by) t.0 (
         subst (λ (b : Book). Extends b v.book) mine.1 (extends_self v.book),
         λ _. record {
           within = within;
@@ -131,7 +131,7 @@ module _ {M : Type 0} where
       → new.author ≡ new_author v.register → (by : ℕ) (u : TokenView M)
       → (let w : TokenView M = keeper v.book slots (with_seat v.register) in
       get_elem? (slice_set s.views id w ++ Seat new ∷ []) by ≡ some u
-      → Signs kept.id (with_seat kept.register)
+      → ViewSigns kept.id (with_seat kept.register)
       (moved kept.roll (kept.register.seats + 1) (length (slice_set s.views id w))) by u)
   signs_new id v s kept at slots new is by u e =
       let own = kept.signs id (Keeper v) at in
@@ -150,7 +150,7 @@ module _ {M : Type 0} where
         leads = λ is. absurd (true≢false (sym is));
       } in
       ⊎_elim
-      (λ was. fits_set (Signs kept.id r roll) s.views id w
+      (λ was. fits_set (ViewSigns kept.id r roll) s.views id w
       (λ by' u' apart e'.
       signs_other kept.id kept.register r kept.roll roll by' u'
       (λ a o. owns_later kept.register kept.roll n by' a o)
@@ -158,7 +158,7 @@ module _ {M : Type 0} where
       (own.0, ap with_seat own.1, λ (lt : 0 < 0). absurd (omega arith))
       by u was)
       (λ (t : (Seat new ≡ u) × (by ≡ n)).
-      subst (Signs kept.id r roll by) t.0
+      subst (ViewSigns kept.id r roll by) t.0
       (subst (λ (j : ℕ). Owns r roll j new.author) (sym t.1)
       (subst (Owns r roll n) (sym (is ∙ ap new_author own.1)) mine)))
       (at_end (slice_set s.views id w) (Seat new) u by e)
@@ -170,7 +170,7 @@ module _ {M : Type 0} where
       → (by : ℕ) (u : TokenView M)
       → (let w : TokenView M = keeper v.book slots v.register in
       get_elem? (slice_set s.views id w ++ Seat new ∷ []) by ≡ some u
-      → Signs kept.id kept.register
+      → ViewSigns kept.id kept.register
       (moved kept.roll v.back.author.number (length (slice_set s.views id w))) by u)
   signs_again id v s kept at pos slots new is by u e =
       let own = kept.signs id (Keeper v) at in
@@ -182,7 +182,7 @@ module _ {M : Type 0} where
       let roll : Roll = moved kept.roll k n in
       let mine : Owns r roll n v.back.author = owns_here r kept.roll id n v.back.author o in
       ⊎_elim
-      (λ was. fits_set (Signs kept.id r roll) s.views id w
+      (λ was. fits_set (ViewSigns kept.id r roll) s.views id w
       (λ by' u' apart e'.
       signs_other kept.id r r kept.roll roll by' u'
       (λ a t. owns_moved r kept.roll k n by' a
@@ -191,14 +191,14 @@ module _ {M : Type 0} where
       (own.0, own.1, λ (lt : 0 < 0). absurd (omega arith))
       by u was)
       (λ (t : (Seat new ≡ u) × (by ≡ n)).
-      subst (Signs kept.id r roll by) t.0
+      subst (ViewSigns kept.id r roll by) t.0
       (subst (λ (j : ℕ). Owns r roll j new.author) (sym t.1)
       (subst (Owns r roll n) (sym is) mine)))
       (at_end (slice_set s.views id w) (Seat new) u by e)
 
   -- a new seat of no slot
   pub copies : (id : ℕ) (v : Keeping M)
-      → Splits IsKept id (Keeper v) (numbered (Keeper v)) (copy_of (Keeper v))
+      → Splits IsKept id (Keeper v) (with_new_seat (Keeper v)) (copy_of (Keeper v))
   copies id v s kept at =
       let new : Sitting M = plain v.book (new_author v.register) in
       record {
@@ -213,7 +213,7 @@ module _ {M : Type 0} where
         register = with_seat kept.register;
         roll =
             moved kept.roll (kept.register.seats + 1)
-            (length (slice_set s.views id (numbered (Keeper v))));
+            (length (slice_set s.views id (with_new_seat (Keeper v))));
         signed = signed_seat kept.book kept.register kept.signed;
         enlisted = seats_later kept.register.seats kept.roll.enlisted kept.enlisted;
         gathered = kept.gathered;
@@ -249,7 +249,7 @@ module _ {M : Type 0} where
         enlisted = tt;
         gathered = λ counted. refl;
         signs = λ by u e. ⊎_elim
-            (λ was. fits_set (Signs kept.id leader_register roll) s.views id w
+            (λ was. fits_set (ViewSigns kept.id leader_register roll) s.views id w
             (λ by' u' apart e'.
             signs_other kept.id kept.register leader_register kept.roll roll by' u'
             (λ a o. unseated kept.register leader_register kept.roll roll by' a first o)
@@ -257,7 +257,7 @@ module _ {M : Type 0} where
             (own.0, refl, λ (lt : 0 < 0). absurd (omega arith))
             by u was)
             (λ (t : (Seat new ≡ u) × (by ≡ n)).
-            subst (Signs kept.id leader_register roll by) t.0
+            subst (ViewSigns kept.id leader_register roll by) t.0
             record {
               author =
                   record { least = omega arith; most = omega arith; changes = refl; free = refl };
@@ -272,7 +272,7 @@ module _ {M : Type 0} where
   -- a slot's new seat
   pub sits_down : (id k : ℕ) (name : Option M) (v : Keeping M)
       → 0 < k → k < 65 → (slot_at v.slots k).out ≡ false
-      → Splits IsKept id (Keeper v) (opened k name (Keeper v)) (seated k name (Keeper v))
+      → Splits IsKept id (Keeper v) (with_slot_seat k name (Keeper v)) (seated k name (Keeper v))
   sits_down id k name v pos within free s kept at =
       let mine = kept.fits id (Keeper v) at in
       let p : KnownSlot M = slot_at v.slots k in
@@ -286,7 +286,7 @@ module _ {M : Type 0} where
         name = name;
         author = new_author v.register;
       } in
-      let n : ℕ = length (slice_set s.views id (opened k name (Keeper v))) in
+      let n : ℕ = length (slice_set s.views id (with_slot_seat k name (Keeper v))) in
       let most : q.asks ≤ slice_index s.words k =
       subst (λ (r : KnownSlot M). r.asks ≤ slice_index s.words k) (sym same)
       (kept.agrees.known k pos within) in

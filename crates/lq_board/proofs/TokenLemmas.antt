@@ -8,18 +8,18 @@ use Rattle.lq_volume.specs.declared.change.Change.{Change}
 use Rattle.lq_volume.specs.Change.{IsLawful}
 use Rattle.lq_volume.specs.Laws.{ChangesKeepTrees}
 use Rattle.lq_volume.specs.Book.{Book, state_of}
-use Rattle.lq_board.specs.declared.views.Keeping.{Keeping}
-use Rattle.lq_board.specs.declared.views.KnownSlot.{KnownSlot}
-use Rattle.lq_board.specs.declared.views.TokenView.{TokenView}
-use Rattle.lq_board.specs.declared.views.TokenView.TheVariants.{Keeper, Seat, Spent}
+use Rattle.lq_board.specs.declared.token_views.Keeping.{Keeping}
+use Rattle.lq_board.specs.declared.token_views.KnownSlot.{KnownSlot}
+use Rattle.lq_board.specs.declared.token_views.TokenView.{TokenView}
+use Rattle.lq_board.specs.declared.token_views.TokenView.TheVariants.{Keeper, Seat, Spent}
 use Rattle.lq_board.specs.Slot.{slot_at, come_back}
 use Rattle.lq_board.specs.Author.{no_register}
 use Rattle.lq_board.specs.Book.{IsFullBook}
 use Rattle.lq_board.specs.Token.{BoardName}
-use Rattle.lq_board.specs.declared.views.Sitting.{Sitting}
-use Rattle.lq_board.specs.View.{IsKeeping, IsSitting, keeping_of, sitting_of, numbered, copy_of, led, lead_of, parted, again_of, opened, seated, taken}
-use Rattle.lq_board.specs.Rule.{Kept, IsKept}
-use Rattle.lq_board.specs.Step.{Adds, Sees, Checks, Counts, Asks}
+use Rattle.lq_board.specs.declared.token_views.Sitting.{Sitting}
+use Rattle.lq_board.specs.View.{IsKeeping, IsSitting, keeping_of, sitting_of, with_new_seat, copy_of, led, lead_of, parted, again_of, with_slot_seat, seated, taken}
+use Rattle.lq_board.specs.Rule.{BoardRule, IsKept}
+use Rattle.lq_board.specs.Step.{AddsChange, Sees, Checks, Counts, AsksAgain}
 use Rattle.lq_board.proofs.SlotLemmas.{slot_here}
 use Rattle.lq_board.proofs.PlayLemmas.{adds, sees, checks, counts, asks}
 use Rattle.lq_board.proofs.SplitLemmas.{copies, leading, again, sits_down}
@@ -49,7 +49,7 @@ module _ {M : Type 0} where
       → 0 < (sitting_of you.0).author.number → (sitting_of you.0).author.signs ≡ true
       → IsLawful (state_of (keeping_of me.0).book) x
       → Allows IsKept slots id now 0 (λ n. (n + 1) % 2 ^ 64)
-      (Adds said (step slots 0 1 0 none) now)
+      (AddsChange said (step slots 0 1 0 none) now)
   adds_after slots id me you now x said keeps says was is pos may lawful =
       let rest : me.1 ≡ [] = ap (λ m. m.1) was in
       let back : Me ℕ (TokenView M) = (taken me.0 you.0, []) in
@@ -58,12 +58,13 @@ module _ {M : Type 0} where
       let x : Me ℕ (TokenView M) = (taken me.0 you.0, l) in x) rest in
       subst
       (λ (o : Option Change).
-      Allows IsKept slots id now 0 (λ n. (n + 1) % 2 ^ 64) (Adds o (step slots 0 1 0 none) now))
+      Allows IsKept slots id now 0 (λ n. (n + 1) % 2 ^ 64)
+      (AddsChange o (step slots 0 1 0 none) now))
       (sym says)
       (subst
       (λ (m : Me ℕ (TokenView M)).
       Allows IsKept slots id m 0 (λ n. (n + 1) % 2 ^ 64)
-      (Adds (Some x) (step slots 0 1 0 none) m))
+      (AddsChange (Some x) (step slots 0 1 0 none) m))
       (sym at) (adds slots id (keeping_of (taken me.0 you.0)) x keeps pos may lawful))
 
   -- a seat may read the word of the changes
@@ -102,23 +103,23 @@ module _ {M : Type 0} where
   -- a seat may add one to its own slot's word, as a hang-up is asked
   pub asks_as : (slots id k : ℕ) (me : Me ℕ (TokenView M)) → SitsAt me → k ≡ (sitting_of me.0).slot
       → 0 < (sitting_of me.0).slot → (sitting_of me.0).asks < 1000000000000
-      → Allows IsKept slots id me k (λ n. (n + 1) % 2 ^ 64) (Asks (step slots k 1 0 none) me)
+      → Allows IsKept slots id me k (λ n. (n + 1) % 2 ^ 64) (AsksAgain (step slots k 1 0 none) me)
   asks_as slots id k me is here pos room =
       subst
       (λ (i : ℕ).
-      Allows IsKept slots id me i (λ n. (n + 1) % 2 ^ 64) (Asks (step slots i 1 0 none) me))
+      Allows IsKept slots id me i (λ n. (n + 1) % 2 ^ 64) (AsksAgain (step slots i 1 0 none) me))
       (sym here)
       (subst
       (λ (m : Me ℕ (TokenView M)).
       Allows IsKept slots id m (sitting_of me.0).slot (λ n. (n + 1) % 2 ^ 64)
-      (Asks (step slots (sitting_of me.0).slot 1 0 none) m))
+      (AsksAgain (step slots (sitting_of me.0).slot 1 0 none) m))
       (sym is) (asks slots id (sitting_of me.0) pos room))
 
   -- the keeper may give out a new seat of no slot
   pub copies_as : (id : ℕ) (me : Me ℕ (TokenView M)) → Keeps me
-      → Splits IsKept id me.0 (numbered me.0) (copy_of me.0)
+      → Splits IsKept id me.0 (with_new_seat me.0) (copy_of me.0)
   copies_as id me is =
-      subst (λ (v : TokenView M). Splits IsKept id v (numbered v) (copy_of v))
+      subst (λ (v : TokenView M). Splits IsKept id v (with_new_seat v) (copy_of v))
       (sym (ap (λ m. m.0) is)) (copies id (at_rest me))
 
   -- the keeper may give out the leading seat, where no seat was given out before
@@ -140,13 +141,14 @@ module _ {M : Type 0} where
       subst IsKeeping (sym at) (refl, k.1, k.2)
 
   -- a keeper after a new seat of no slot went out
-  pub is_numbered : (me now : Me ℕ (TokenView M)) → IsKeeping me → now ≡ (numbered me.0, me.1)
+  pub is_numbered : (me now : Me ℕ (TokenView M)) → IsKeeping me → now ≡ (with_new_seat me.0, me.1)
       → IsKeeping now
   is_numbered me now k is =
       let rest : me.1 ≡ [] = ap (λ m. m.1) k.0 in
-      let after : Me ℕ (TokenView M) = (numbered me.0, []) in
+      let after : Me ℕ (TokenView M) = (with_new_seat me.0, []) in
       let at : now ≡ after =
-      is ∙ ap (λ (l : List (ℕ × ℕ)). let x : Me ℕ (TokenView M) = (numbered me.0, l) in x) rest in
+      is ∙ ap (λ (l : List (ℕ × ℕ)). let x : Me ℕ (TokenView M) = (with_new_seat me.0, l) in
+      x) rest in
       subst IsKeeping (sym at) (
         refl,
         k.1,
@@ -155,13 +157,13 @@ module _ {M : Type 0} where
 
   -- and after a slot's new seat
   pub is_opened : (k : ℕ) (name : Option M) (me now : Me ℕ (TokenView M)) → IsKeeping me
-      → now ≡ (opened k name me.0, me.1) → IsKeeping now
+      → now ≡ (with_slot_seat k name me.0, me.1) → IsKeeping now
   is_opened k name me now kept is =
       let rest : me.1 ≡ [] = ap (λ m. m.1) kept.0 in
-      let after : Me ℕ (TokenView M) = (opened k name me.0, []) in
+      let after : Me ℕ (TokenView M) = (with_slot_seat k name me.0, []) in
       let at : now ≡ after =
       is ∙ ap (λ (l : List (ℕ × ℕ)).
-      let x : Me ℕ (TokenView M) = (opened k name me.0, l) in x) rest in
+      let x : Me ℕ (TokenView M) = (with_slot_seat k name me.0, l) in x) rest in
       let slots = (keeping_of me.0).slots in
       let q : KnownSlot M = record { out = true; asks = (slot_at slots k).asks; name = name } in
       subst IsKeeping (sym at) (
@@ -219,9 +221,9 @@ module _ {M : Type 0} where
   -- the keeper may give out the seat of a slot whose seat is not out
   pub sits_down_as : (id k : ℕ) (name : Option M) (me : Me ℕ (TokenView M)) → Keeps me
       → 0 < k → k < 65 → (slot_at (keeping_of me.0).slots k).out ≡ false
-      → Splits IsKept id me.0 (opened k name me.0) (seated k name me.0)
+      → Splits IsKept id me.0 (with_slot_seat k name me.0) (seated k name me.0)
   sits_down_as id k name me is pos within free =
-      subst (λ (v : TokenView M). Splits IsKept id v (opened k name v) (seated k name v))
+      subst (λ (v : TokenView M). Splits IsKept id v (with_slot_seat k name v) (seated k name v))
       (sym (ap (λ m. m.0) is)) (sits_down id k name (at_rest me) pos within free)
 
   -- the keeper may take a seat back
@@ -241,7 +243,7 @@ module _ {M : Type 0} where
       → Final (Seen IsKept id me.0) words other
       → slice_index words 0 ≡ length (keeping_of me.0).book.changes
   closes id me words other is f =
-      let kept : Kept f.0.words f.0.views = f.1.0 in
+      let kept : BoardRule f.0.words f.0.views = f.1.0 in
       let at : get_elem? f.0.views id ≡ some (Keeper (at_rest me)) =
       f.1.1 ∙ ap (λ (m : Me ℕ (TokenView M)). some m.0) is in
       let mine = kept.fits id (Keeper (at_rest me)) at in

@@ -5,17 +5,17 @@ use mathlib.Core.Option.{some, some-injective, some-ne-none}
 use lib.ListN.{get_elem?}
 use Rattle.atomic_table.proofs.Lists.{at_set}
 use Rattle.lq_volume.specs.Book.{Book, Extends}
-use Rattle.lq_board.specs.declared.views.Author.{Author}
-use Rattle.lq_board.specs.declared.views.Register.{Register}
-use Rattle.lq_board.specs.declared.views.KnownSlot.{KnownSlot}
-use Rattle.lq_board.specs.declared.views.Sitting.{Sitting}
-use Rattle.lq_board.specs.declared.views.TokenView.{TokenView}
-use Rattle.lq_board.specs.declared.views.TokenView.TheVariants.{Keeper, Seat, Pair, Spent}
-use Rattle.lq_board.specs.Roll.{has}
+use Rattle.lq_board.specs.declared.token_views.Author.{Author}
+use Rattle.lq_board.specs.declared.token_views.Register.{Register}
+use Rattle.lq_board.specs.declared.token_views.KnownSlot.{KnownSlot}
+use Rattle.lq_board.specs.declared.token_views.Sitting.{Sitting}
+use Rattle.lq_board.specs.declared.token_views.TokenView.{TokenView}
+use Rattle.lq_board.specs.declared.token_views.TokenView.TheVariants.{Keeper, Seat, Pair, Spent}
+use Rattle.lq_board.specs.Roll.{is_listed}
 use Rattle.lq_board.specs.Author.{no_author, with_seat, with_author}
 use Rattle.lq_board.specs.Slot.{unused}
 use Rattle.lq_board.specs.View.{plain}
-use Rattle.lq_board.specs.Rule.{CameBack, Sits, SeatFits, Fits, Roll, Leads, Owns, Signs}
+use Rattle.lq_board.specs.Rule.{CameBack, Sits, SeatFits, ViewFits, Roll, LeadsBoard, Owns, ViewSigns}
 use Rattle.lq_board.proofs.AuthorLemmas.{author_else, author_later}
 use Rattle.lq_board.proofs.BookLemmas.{extends_self}
 use Rattle.lq_board.proofs.SlotLemmas.{slot_else}
@@ -46,8 +46,8 @@ moved roll k n = record roll { who = owner_set roll.who k n }
 
 -- the same token leads, where the register and the tokens of other authors may differ
 leads_same : (r r' : Register) (roll roll' : Roll) (a : Author) → r'.free ≡ r.free
-    → roll'.enlisted ≡ roll.enlisted → roll'.gathered ≡ roll.gathered → Leads r roll a
-    → Leads r' roll' a
+    → roll'.enlisted ≡ roll.enlisted → roll'.gathered ≡ roll.gathered → LeadsBoard r roll a
+    → LeadsBoard r' roll' a
 leads_same r r' roll roll' a free enlisted gathered l =
     record {
       number = l.number;
@@ -108,7 +108,8 @@ owns_here r roll by k a o =
 
 -- an author that doesn't lead, where others are enlisted or dismissed
 pub owns_called : (r : Register) (roll : Roll) (enlisted gathered : List ℕ) (by : ℕ) (a : Author)
-    → a.number ≢ 1 → has a.number enlisted ≡ has a.number roll.enlisted → Owns r roll by a
+    → a.number ≢ 1 → is_listed a.number enlisted ≡ is_listed a.number roll.enlisted
+    → Owns r roll by a
     → Owns r (record { who = roll.who; enlisted = enlisted; gathered = gathered }) by a
 owns_called r roll enlisted gathered by a ne same o =
     record {
@@ -193,8 +194,8 @@ module _ {M : Type 0} where
   pub fits_owner : (id : ℕ) (book : Book) (slots : List (KnownSlot M)) (owner : ℕ → ℕ)
       (words : List ℕ) (w : Sitting M) (n other by : ℕ) (v : TokenView M)
       → (0 < w.slot → Sits slots owner words other w.slot w.asks w.name) → by ≢ other
-      → Fits id book slots owner words by v
-      → Fits id book slots (owner_set owner w.slot n) words by v
+      → ViewFits id book slots owner words by v
+      → ViewFits id book slots (owner_set owner w.slot n) words by v
   fits_owner id book slots owner words w n other by (Keeper v) mine apart f = f
   fits_owner id book slots owner words w n other by (Seat u) mine apart f = (
     f.0,
@@ -234,7 +235,8 @@ module _ {M : Type 0} where
       → ((b : Book) → Extends book b → Extends book' b)
       → ((slot asks : ℕ) (name : Option M) → 0 < slot → Sits slots owner words by slot asks name
       → Sits slots' owner' words' by slot asks name)
-      → by ≢ id → Fits id book slots owner words by v → Fits id book' slots' owner' words' by v
+      → by ≢ id → ViewFits id book slots owner words by v
+      → ViewFits id book' slots' owner' words' by v
   fits_other id book book' slots slots' owner owner' words words' by
       (Keeper v) longer sits apart f =
       absurd (apart f.0)
@@ -248,7 +250,7 @@ module _ {M : Type 0} where
   -- another token's author, where the authors are as they were but for one
   pub signs_other : (id : ℕ) (r r' : Register) (roll roll' : Roll) (by : ℕ) (v : TokenView M)
       → ((a : Author) → Owns r roll by a → Owns r' roll' by a)
-      → by ≢ id → Signs id r roll by v → Signs id r' roll' by v
+      → by ≢ id → ViewSigns id r roll by v → ViewSigns id r' roll' by v
   signs_other id r r' roll roll' by (Keeper v) owns apart f = absurd (apart f.0)
   signs_other id r r' roll roll' by (Seat w) owns apart f = owns w.author f
   signs_other id r r' roll roll' by (Pair a b) owns apart f =
@@ -258,7 +260,7 @@ module _ {M : Type 0} where
   -- any token's author, where only one author has another token
   pub signs_moved : (id : ℕ) (r : Register) (roll roll' : Roll) (by : ℕ) (v : TokenView M)
       → ((a : Author) → Owns r roll by a → Owns r roll' by a)
-      → Signs id r roll by v → Signs id r roll' by v
+      → ViewSigns id r roll by v → ViewSigns id r roll' by v
   signs_moved id r roll roll' by (Keeper v) owns f =
       (f.0, f.1, λ pos. owns v.back.author (f.2 pos))
   signs_moved id r roll roll' by (Seat w) owns f = owns w.author f

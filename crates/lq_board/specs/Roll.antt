@@ -18,20 +18,20 @@ AreSeats n [] = Unit {0}
 AreSeats n (a ∷ authors) = (0 < a) × (a ≤ n) × AreSeats n authors
 
 -- whether k is in the list
-abbrev pub has : ℕ → List ℕ → Bool
-has k [] = false
-has k (x ∷ xs) = if x == k then true else has k xs
+abbrev pub is_listed : ℕ → List ℕ → Bool
+is_listed k [] = false
+is_listed k (x ∷ xs) = if x == k then true else is_listed k xs
 
 -- the list without k
-abbrev pub without : ℕ → List ℕ → List ℕ
-without k [] = []
-without k (x ∷ xs) = if x == k then without k xs else x ∷ without k xs
+abbrev pub without_number : ℕ → List ℕ → List ℕ
+without_number k [] = []
+without_number k (x ∷ xs) = if x == k then without_number k xs else x ∷ without_number k xs
 
 -- the numbers of the changes whose authors are not in the list, where n changes come before
 abbrev pub others_after : ℕ → List ℕ → List ℕ → List ℕ
 others_after n enlisted [] = []
 others_after n enlisted (a ∷ authors) =
-    if has a enlisted then others_after (n + 1) enlisted authors
+    if is_listed a enlisted then others_after (n + 1) enlisted authors
     else (n + 1) ∷ others_after (n + 1) enlisted authors
 
 -- the numbers of the changes whose authors are not in the list

@@ -4,15 +4,15 @@ use mathlib.Core.Option.{some}
 use lib.ListN.{get_elem?}
 use Rattle.atomic_table.specs.Table.{State}
 use Rattle.lq_volume.specs.Book.{Book, Extends}
-use Rattle.lq_board.specs.declared.views.KnownSlot.{KnownSlot}
-use Rattle.lq_board.specs.declared.views.Author.{Author}
-use Rattle.lq_board.specs.declared.views.Register.{Register}
-use Rattle.lq_board.specs.declared.views.Sitting.{Sitting}
-use Rattle.lq_board.specs.declared.views.TokenView.{TokenView}
-use Rattle.lq_board.specs.declared.views.TokenView.TheVariants.{Keeper, Seat, Pair, Spent}
+use Rattle.lq_board.specs.declared.token_views.KnownSlot.{KnownSlot}
+use Rattle.lq_board.specs.declared.token_views.Author.{Author}
+use Rattle.lq_board.specs.declared.token_views.Register.{Register}
+use Rattle.lq_board.specs.declared.token_views.Sitting.{Sitting}
+use Rattle.lq_board.specs.declared.token_views.TokenView.{TokenView}
+use Rattle.lq_board.specs.declared.token_views.TokenView.TheVariants.{Keeper, Seat, Pair, Spent}
 use Rattle.lq_board.specs.Book.{IsFullBook}
 use Rattle.lq_board.specs.Author.{IsSigned, IsAuthor}
-use Rattle.lq_board.specs.Roll.{AreSeats, changes_of_others, has}
+use Rattle.lq_board.specs.Roll.{AreSeats, changes_of_others, is_listed}
 use Rattle.lq_board.specs.Slot.{slot_at}
 
 -- which token an author's number has, which seats are enlisted, and the changes of all others
@@ -22,7 +22,7 @@ pub record Roll : Type 0 where
   pub gathered : List ℕ
 
 -- the leading seat is number 1, and knows who is enlisted and the changes of all others
-pub record Leads (r : Register) (roll : Roll) (a : Author) : Type 0 where
+pub record LeadsBoard (r : Register) (roll : Roll) (a : Author) : Type 0 where
   pub number : a.number ≡ 1
   pub counted : r.free ≡ false
   pub enlisted : a.enlisted ≡ roll.enlisted
@@ -33,8 +33,8 @@ pub record Leads (r : Register) (roll : Roll) (a : Author) : Type 0 where
 pub record Owns (r : Register) (roll : Roll) (by : ℕ) (a : Author) : Type 0 where
   pub author : IsAuthor a r
   pub only : by ≡ roll.who a.number
-  pub signs : r.free ≡ false → a.signs ≡ has a.number roll.enlisted
-  pub leads : a.leads ≡ true → Leads r roll a
+  pub signs : r.free ≡ false → a.signs ≡ is_listed a.number roll.enlisted
+  pub leads : a.leads ≡ true → LeadsBoard r roll a
 
 module _ {M : Type 0} where
   -- what holds for a seat that came back: its book is a prefix of the keeper's; a slot's seat was
@@ -63,24 +63,24 @@ module _ {M : Type 0} where
       Extends book w.book × (0 < w.slot → Sits slots owner words by w.slot w.asks w.name)
 
   -- There is one keeper. The first seat of a pair is of no slot.
-  abbrev pub Fits : ℕ → Book → List (KnownSlot M) → (ℕ → ℕ) → List ℕ → ℕ → TokenView M → Type 0
-  Fits id book slots owner words by (Keeper v) =
+  abbrev pub ViewFits : ℕ → Book → List (KnownSlot M) → (ℕ → ℕ) → List ℕ → ℕ → TokenView M → Type 0
+  ViewFits id book slots owner words by (Keeper v) =
       (by ≡ id) × (v.book ≡ book) × (v.slots ≡ slots) × CameBack book v.back v.was
-  Fits id book slots owner words by (Seat w) = SeatFits book slots owner words by w
-  Fits id book slots owner words by (Pair a b) =
+  ViewFits id book slots owner words by (Seat w) = SeatFits book slots owner words by w
+  ViewFits id book slots owner words by (Pair a b) =
       Extends book a.book × SeatFits book slots owner words by b
-  Fits id book slots owner words by Spent = Unit {0}
+  ViewFits id book slots owner words by Spent = Unit {0}
 
   -- each seat is an author of its own, and the keeper has that of the latest seat that came back
-  abbrev pub Signs : ℕ → Register → Roll → ℕ → TokenView M → Type 0
-  Signs id r roll by (Keeper v) =
+  abbrev pub ViewSigns : ℕ → Register → Roll → ℕ → TokenView M → Type 0
+  ViewSigns id r roll by (Keeper v) =
       (by ≡ id)
       × (v.register ≡ r)
       × (0 < v.back.author.number → Owns r roll by v.back.author)
-  Signs id r roll by (Seat w) = Owns r roll by w.author
-  Signs id r roll by (Pair a b) =
+  ViewSigns id r roll by (Seat w) = Owns r roll by w.author
+  ViewSigns id r roll by (Pair a b) =
       Owns r roll by a.author × Owns r roll by b.author × (a.author.number ≢ b.author.number)
-  Signs id r roll by Spent = Unit {0}
+  ViewSigns id r roll by Spent = Unit {0}
 
   -- a slot's word is at least what the keeper knows, and equals it where no seat of the slot is out
   pub record Agrees (words : List ℕ) (slots : List (KnownSlot M)) : Type 0 where
@@ -92,7 +92,7 @@ module _ {M : Type 0} where
 
   -- Word 0 is the length of the keeper's book, which is lawful, and each change has one author. On
   -- a counted board `gathered` is just the changes whose authors are not enlisted.
-  pub record Kept (words : List ℕ) (views : List (TokenView M)) : Type 0 where
+  pub record BoardRule (words : List ℕ) (views : List (TokenView M)) : Type 0 where
     pub id : ℕ
     pub book : Book
     pub slots : List (KnownSlot M)
@@ -101,7 +101,7 @@ module _ {M : Type 0} where
     pub full : IsFullBook book
     pub agrees : Agrees words slots
     pub fits : (by : ℕ) (v : TokenView M) → get_elem? views by ≡ some v
-        → Fits id book slots owner words by v
+        → ViewFits id book slots owner words by v
     pub register : Register
     pub roll : Roll
     pub signed : IsSigned book register
@@ -109,7 +109,7 @@ module _ {M : Type 0} where
     pub gathered : register.free ≡ false
         → roll.gathered ≡ changes_of_others roll.enlisted register.authors
     pub signs : (by : ℕ) (v : TokenView M) → get_elem? views by ≡ some v
-        → Signs id register roll by v
+        → ViewSigns id register roll by v
 
   abbrev pub IsKept : State ℕ (TokenView M) → Type 0
-  IsKept s = Kept s.words s.views
+  IsKept s = BoardRule s.words s.views

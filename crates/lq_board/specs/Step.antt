@@ -3,20 +3,20 @@ use Rattle.std.specs.Prelude.{◌≡◌, ◌≢◌, ℕ, ◌+◌, ◌<◌, ◌�
 use Rattle.atomic_table.specs.Table.{Step, Me}
 use Rattle.lq_volume.specs.declared.change.Change.{Change}
 use Rattle.lq_volume.specs.Book.{grown, Extends}
-use Rattle.lq_board.specs.declared.views.TokenView.{TokenView}
-use Rattle.lq_board.specs.declared.views.TokenView.TheVariants.{Keeper, Seat, Pair}
+use Rattle.lq_board.specs.declared.token_views.TokenView.{TokenView}
+use Rattle.lq_board.specs.declared.token_views.TokenView.TheVariants.{Keeper, Seat, Pair}
 use Rattle.lq_board.specs.Book.{IsFullBook}
-use Rattle.lq_board.specs.Roll.{IsMerged, without}
+use Rattle.lq_board.specs.Roll.{IsMerged, without_number}
 use Rattle.lq_board.specs.Author.{AreDisjoint, IsWhole, with_author, with_change, with_signs, with_roll}
 use Rattle.lq_board.specs.Slot.{slot_at, counted}
-use Rattle.lq_board.specs.View.{keeper, keeping_of, sitting_of, first_of, second_of}
+use Rattle.lq_board.specs.View.{keeper, keeping_of, sitting_of, first_sitting, second_of}
 use Rattle.lq_board.specs.Rule.{CameBack}
 
 module _ {M : Type 0} where
   -- a change by the latest seat that came back was added to the book
-  abbrev pub Adds :
+  abbrev pub AddsChange :
       Option Change → Step ℕ → Me ℕ (TokenView M) → ℕ → Me ℕ (TokenView M) → Type 0
-  Adds change s m found n =
+  AddsChange change s m found n =
       let was = keeping_of m.0 in
       let book = grown was.book (option_to_list change) in
       let author = with_change was.back.author (length was.book.changes + 1) in
@@ -82,8 +82,8 @@ module _ {M : Type 0} where
       × ((slot_at was.slots s.word).out ≡ false → found ≡ (slot_at was.slots s.word).asks)
 
   -- the seat has asked once more
-  abbrev pub Asks : Step ℕ → Me ℕ (TokenView M) → ℕ → Me ℕ (TokenView M) → Type 0
-  Asks s m found n =
+  abbrev pub AsksAgain : Step ℕ → Me ℕ (TokenView M) → ℕ → Me ℕ (TokenView M) → Type 0
+  AsksAgain s m found n =
       let was = sitting_of m.0 in
       (n
       ≡ (
@@ -101,14 +101,14 @@ module _ {M : Type 0} where
   -- two seats are two authors, who share no change
   abbrev pub Compares : Step ℕ → Me ℕ (TokenView M) → ℕ → Me ℕ (TokenView M) → Type 0
   Compares s m found n =
-      let one = (first_of m.0).author in
+      let one = (first_sitting m.0).author in
       let two = (second_of m.0).author in
       (n ≡ m) × (one.number ≢ two.number) × AreDisjoint one.changes two.changes
 
   -- the first seat of a pair leads, and enlists the second
   abbrev pub Enlists : Step ℕ → Me ℕ (TokenView M) → ℕ → Me ℕ (TokenView M) → Type 0
   Enlists s m found n =
-      let a = first_of m.0 in
+      let a = first_sitting m.0 in
       let b = second_of m.0 in
       let enlisted = b.author.number ∷ a.author.enlisted in
       n
@@ -122,10 +122,10 @@ module _ {M : Type 0} where
   -- the first seat of a pair leads, and dismisses the second
   abbrev pub Dismisses : Step ℕ → Me ℕ (TokenView M) → ℕ → Me ℕ (TokenView M) → Type 0
   Dismisses s m found n =
-      let a = first_of m.0 in
+      let a = first_sitting m.0 in
       let b = second_of m.0 in
-      let enlisted = without b.author.number a.author.enlisted in
-      let gathered = (first_of n.0).author.gathered in
+      let enlisted = without_number b.author.number a.author.enlisted in
+      let gathered = (first_sitting n.0).author.gathered in
       (n
       ≡ (
         Pair

@@ -3,13 +3,13 @@ use Rattle.std.specs.Prelude.{◌≡◌, ℕ, ◌<◌, List, [], length, Option,
 use Rattle.atomic_table.specs.Table.{Me}
 use Rattle.lq_volume.specs.State.{State}
 use Rattle.lq_volume.specs.Book.{Book}
-use Rattle.lq_board.specs.declared.views.Author.{Author}
-use Rattle.lq_board.specs.declared.views.Register.{Register}
-use Rattle.lq_board.specs.declared.views.KnownSlot.{KnownSlot}
-use Rattle.lq_board.specs.declared.views.Sitting.{Sitting}
-use Rattle.lq_board.specs.declared.views.Keeping.{Keeping}
-use Rattle.lq_board.specs.declared.views.TokenView.{TokenView}
-use Rattle.lq_board.specs.declared.views.TokenView.TheVariants.{Keeper, Seat, Pair, Spent}
+use Rattle.lq_board.specs.declared.token_views.Author.{Author}
+use Rattle.lq_board.specs.declared.token_views.Register.{Register}
+use Rattle.lq_board.specs.declared.token_views.KnownSlot.{KnownSlot}
+use Rattle.lq_board.specs.declared.token_views.Sitting.{Sitting}
+use Rattle.lq_board.specs.declared.token_views.Keeping.{Keeping}
+use Rattle.lq_board.specs.declared.token_views.TokenView.{TokenView}
+use Rattle.lq_board.specs.declared.token_views.TokenView.TheVariants.{Keeper, Seat, Pair, Spent}
 use Rattle.lq_board.specs.Book.{no_book, IsFullBook}
 use Rattle.lq_board.specs.Author.{no_author, no_register, leader, leader_register, with_seat, new_author}
 use Rattle.lq_board.specs.Slot.{unused, unused_slots, slot_at, gone_out, go_out, come_back}
@@ -51,11 +51,11 @@ module _ {M : Type 0} where
   sitting_of Spent = plain no_book no_author
 
   -- two seats, the first of no slot, while a call compares them
-  abbrev pub first_of : TokenView M → Sitting M
-  first_of (Keeper v) = plain no_book no_author
-  first_of (Seat w) = plain no_book no_author
-  first_of (Pair a b) = a
-  first_of Spent = plain no_book no_author
+  abbrev pub first_sitting : TokenView M → Sitting M
+  first_sitting (Keeper v) = plain no_book no_author
+  first_sitting (Seat w) = plain no_book no_author
+  first_sitting (Pair a b) = a
+  first_sitting Spent = plain no_book no_author
 
   abbrev pub second_of : TokenView M → Sitting M
   second_of (Keeper v) = plain no_book no_author
@@ -70,14 +70,14 @@ module _ {M : Type 0} where
   of_no_slot w = record w { slot = 0 }
 
   abbrev pub first_seat : TokenView M → TokenView M
-  first_seat v = Seat (of_no_slot (first_of v))
+  first_seat v = Seat (of_no_slot (first_sitting v))
 
   abbrev pub second_seat : TokenView M → TokenView M
   second_seat v = Seat (second_of v)
 
   -- the keeper and the seat after a new seat of no slot is split off
-  abbrev pub numbered : TokenView M → TokenView M
-  numbered v =
+  abbrev pub with_new_seat : TokenView M → TokenView M
+  with_new_seat v =
       keeper (keeping_of v).book (keeping_of v).slots (with_seat (keeping_of v).register)
 
   abbrev pub copy_of : TokenView M → TokenView M
@@ -91,8 +91,8 @@ module _ {M : Type 0} where
   lead_of v = Seat (plain (keeping_of v).book leader)
 
   -- the keeper and the seat after a slot's new seat is split off, under this name
-  abbrev pub opened : ℕ → Option M → TokenView M → TokenView M
-  opened k name v =
+  abbrev pub with_slot_seat : ℕ → Option M → TokenView M → TokenView M
+  with_slot_seat k name v =
       keeper (keeping_of v).book (gone_out (keeping_of v).slots k name)
       (with_seat (keeping_of v).register)
 

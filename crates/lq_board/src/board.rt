@@ -8,9 +8,9 @@ ghost use Rattle.lq_board.specs.Meeting.{GoesOut};
 ghost use Rattle.lq_board.specs.Slot.{unused_slots, slot_at, come_back, counted};
 ghost use Rattle.lq_board.specs.Token.{counted_board};
 
-use crate::steps::{Ask, Count, See};
+use crate::step_types::{Ask, Count, See};
+use crate::token_views::{Law, TokenView};
 use crate::tokens::{Keeper, Seat};
-use crate::views::{Law, TokenView};
 use atomic_table::Table;
 use lq_value::Refusal;
 use lq_volume::Volume;

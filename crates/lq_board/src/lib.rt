@@ -8,11 +8,11 @@
 #![tactic(auto)]
 
 mod board;
-mod meetings;
-mod moves;
-mod steps;
+mod meet_calls;
+mod shared_steps;
+mod step_types;
+mod token_views;
 mod tokens;
-mod views;
 
 pub use board::Board;
 pub use tokens::{Keeper, Seat};

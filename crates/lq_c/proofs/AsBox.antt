@@ -6,8 +6,8 @@ use Rattle.std_alloc.proofs.BoxSteps.Form.{Bx}
 use Rattle.std_heap.specs.contracts.Global as Heap
 use Rattle.std_heap.specs.contracts.GlobalAllocator.TheImpl.{ghosts, dict}
 use Rattle.std_heap.proofs.Global.TheLaws as heap
-use Rattle.lq_c.specs.contracts.served.Served as Served
-use Rattle.lq_c.proofs.served.Served.TheLaws as served
+use Rattle.lq_c.specs.contracts.handle_target.Served as Served
+use Rattle.lq_c.proofs.handle_target.Served.TheLaws as served
 use Rattle.lq_c.specs.contracts.handle.Lq as Lq
 
 abbrev pub E : Bx

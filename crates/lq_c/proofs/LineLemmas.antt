@@ -3,13 +3,14 @@ use Rattle.std.proofs.Common.{◌≡◌, subst, Option, Result, Ok, Err, is_err,
 use Rattle.lq_value.specs.declared.refusal.Refusal.{Refusal}
 use Rattle.lq_script_request.specs.declared.question.Question.{Question}
 use Rattle.lq_script_desk.specs.SessionHistory.{LineKeepsHistory}
-use Rattle.lq_embed.specs.State.{State}
+use Rattle.lq_embed.specs.SessionState.{SessionState}
 
 -- a line that was answered
-pub line-answered : (was old new : State) (result : Result (Unit {0}) Refusal)
+pub line-answered : (was old new : SessionState) (result : Result (Unit {0}) Refusal)
     (q : Option Question) → is_err result ≡ false → was ≡ old
     → LineKeepsHistory was.session.core new.session.core result q
     → LineKeepsHistory old.session.core new.session.core (Ok tt) q
 line-answered was old new (Ok done) q fine same keeps =
-    subst (λ (s : State). LineKeepsHistory s.session.core new.session.core (Ok tt) q) same keeps
+    subst (λ (s : SessionState). LineKeepsHistory s.session.core new.session.core (Ok tt) q)
+    same keeps
 line-answered was old new (Err e) q fine same keeps = absurd (let no : ⊥ = cc in no)

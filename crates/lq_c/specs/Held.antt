@@ -2,11 +2,11 @@
 use Rattle.std.specs.Prelude.{ℕ, ◌==◌, Result, Ok, Err, if◌then◌else◌}
 use Rattle.lq_value.specs.declared.refusal.Refusal.{Refusal}
 use Rattle.lq_value.specs.declared.refusal.Refusal.TheVariants.{NoMemory}
-use Rattle.lq_embed.specs.State.{State, holds}
+use Rattle.lq_embed.specs.SessionState.{SessionState, holds}
 use Rattle.lq_c.specs.declared.handle.Lq.{Lq}
 
-abbrev pub held : Lq → State
-held handle = holds handle.served.embedded
+abbrev pub held_state : Lq → SessionState
+held_state handle = holds handle.served.embedded
 
 -- what the status of a line says: it was answered, or memory ran out
 abbrev pub line_result : ℕ → Result (Unit {0}) Refusal

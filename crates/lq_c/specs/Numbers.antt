@@ -2,10 +2,10 @@
 use Rattle.std.specs.Prelude.{◌≡◌, ◌==◌, ◌&&◌, ◌+◌, ◌%◌, ◌^◌, ℕ, List, Bool, true, false, nat_lt, Result, Option, if◌then◌else◌}
 use Rattle.lq_value.specs.declared.refusal.Refusal.{Refusal}
 use Rattle.lq_predicate.specs.Stacked.{Stacked}
-use Rattle.lq_embed.specs.declared.outs.RowOut.{RowOut}
-use Rattle.lq_embed.specs.Calls.{Gives, Pushes}
+use Rattle.lq_embed.specs.declared.out_structs.RowOut.{RowOut}
+use Rattle.lq_embed.specs.Calls.{GivesRow, Pushes}
 use Rattle.lq_embed.specs.Rows.{Takes}
-use Rattle.lq_embed.specs.State.{State}
+use Rattle.lq_embed.specs.SessionState.{SessionState}
 
 -- ---- results
 
@@ -23,7 +23,8 @@ abbrev pub is_latest : ℕ → ℕ → Bool
 is_latest made number = nat_lt 0 number && number == made
 
 -- the next entries of the latest result; any other is refused
-abbrev pub TakesOf : Bool → State → State → ℕ → List RowOut → List RowOut → ℕ → ℕ → Type 0
+abbrev pub TakesOf : Bool → SessionState → SessionState → ℕ → List RowOut → List RowOut → ℕ
+    → ℕ → Type 0
 TakesOf true old new status before after got_before got =
     (status ≡ 0) × Takes old new got before after
 TakesOf false old new status before after got_before got =
@@ -34,9 +35,9 @@ abbrev pub next_status : Bool → ℕ
 next_status there = if there then 0 else 4
 
 -- the next entry of the latest result; any other is refused
-abbrev pub NextOf : Bool → State → State → ℕ → RowOut → RowOut → Type 0
+abbrev pub NextOf : Bool → SessionState → SessionState → ℕ → RowOut → RowOut → Type 0
 NextOf true old new status before after =
-    (there : Bool) × (status ≡ next_status there) × Gives old new there before after old.entries
+    (there : Bool) × (status ≡ next_status there) × GivesRow old new there before after old.entries
 NextOf false old new status before after = (status ≡ 40) × (new ≡ old) × (after ≡ before)
 
 -- ---- pushes
@@ -54,7 +55,8 @@ abbrev pub after_take : ℕ → ℕ → ℕ
 after_take status pushes = if status == 20 then pushes else 0
 
 -- a push where there is room for it, and a refusal where there is none
-abbrev pub PushesIn : Bool → State → State → Result (Option Stacked) Refusal → ℕ → ℕ → ℕ → Type 0
+abbrev pub PushesIn : Bool → SessionState → SessionState → Result (Option Stacked) Refusal → ℕ → ℕ
+    → ℕ → Type 0
 PushesIn true old new outcome status before after =
     Pushes old new outcome status × (after ≡ after_push status before)
 PushesIn false old new outcome status before after =

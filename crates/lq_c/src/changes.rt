@@ -3,7 +3,7 @@ ghost use Rattle.lq_value.specs.declared.value.Value.TheVariants.{Int32, Int64, 
 ghost use Rattle.lq_script_request.specs.Request.{asks_remove, asks_write, question_for};
 ghost use Rattle.lq_embed.specs.Calls.{Changes};
 ghost use Rattle.lq_embed.specs.Questions.{create_question, move_question, set_question, set_text_question, unset_question};
-ghost use Rattle.lq_c.specs.Held.{held};
+ghost use Rattle.lq_c.specs.Held.{held_state};
 
 use crate::handle::Lq;
 use lq_embed::AppliedOut;
@@ -19,7 +19,7 @@ pub extern "C" fn lqp_create(
     time: i64,
     out: &mut AppliedOut,
 ) -> u32
-    ensures { Changes (held handle.old) (held handle.new)
+    ensures { Changes (held_state handle.old) (held_state handle.new)
         (create_question dir name.now kind size time) result out.old out.new }
 {
     handle
@@ -31,7 +31,8 @@ pub extern "C" fn lqp_create(
 /// As `Embedded::remove`, whose status it answers.
 #[unsafe(no_mangle)]
 pub extern "C" fn lqp_remove(handle: &mut Lq, node: u64, out: &mut AppliedOut) -> u32
-    ensures { Changes (held handle.old) (held handle.new) (question_for (asks_remove node))
+    ensures { Changes (held_state handle.old) (held_state handle.new)
+        (question_for (asks_remove node))
         result out.old out.new }
 {
     handle.served_mut().embedded.remove(node, out)
@@ -47,7 +48,7 @@ pub extern "C" fn lqp_move(
     clobber: bool,
     out: &mut AppliedOut,
 ) -> u32
-    ensures { Changes (held handle.old) (held handle.new)
+    ensures { Changes (held_state handle.old) (held_state handle.new)
         (move_question node dir name.now clobber) result out.old out.new }
 {
     handle
@@ -65,7 +66,7 @@ pub extern "C" fn lqp_write(
     time: i64,
     out: &mut AppliedOut,
 ) -> u32
-    ensures { Changes (held handle.old) (held handle.new)
+    ensures { Changes (held_state handle.old) (held_state handle.new)
         (question_for (asks_write node size time)) result out.old out.new }
 {
     handle.served_mut().embedded.write(node, size, time, out)
@@ -80,7 +81,7 @@ pub extern "C" fn lqp_set_text(
     text: &[u8],
     out: &mut AppliedOut,
 ) -> u32
-    ensures { Changes (held handle.old) (held handle.new)
+    ensures { Changes (held_state handle.old) (held_state handle.new)
         (set_text_question node attr.now text.now) result out.old out.new }
 {
     handle.served_mut().embedded.set_text(node, attr, text, out)
@@ -95,7 +96,7 @@ pub extern "C" fn lqp_set_int32(
     value: i32,
     out: &mut AppliedOut,
 ) -> u32
-    ensures { Changes (held handle.old) (held handle.new)
+    ensures { Changes (held_state handle.old) (held_state handle.new)
         (set_question node attr.now (Int32 value)) result out.old out.new }
 {
     handle
@@ -113,7 +114,7 @@ pub extern "C" fn lqp_set_int64(
     value: i64,
     out: &mut AppliedOut,
 ) -> u32
-    ensures { Changes (held handle.old) (held handle.new)
+    ensures { Changes (held_state handle.old) (held_state handle.new)
         (set_question node attr.now (Int64 value)) result out.old out.new }
 {
     handle
@@ -131,7 +132,7 @@ pub extern "C" fn lqp_set_uint32(
     value: u32,
     out: &mut AppliedOut,
 ) -> u32
-    ensures { Changes (held handle.old) (held handle.new)
+    ensures { Changes (held_state handle.old) (held_state handle.new)
         (set_question node attr.now (UInt32 value)) result out.old out.new }
 {
     handle
@@ -149,7 +150,7 @@ pub extern "C" fn lqp_set_uint64(
     value: u64,
     out: &mut AppliedOut,
 ) -> u32
-    ensures { Changes (held handle.old) (held handle.new)
+    ensures { Changes (held_state handle.old) (held_state handle.new)
         (set_question node attr.now (UInt64 value)) result out.old out.new }
 {
     handle
@@ -161,7 +162,7 @@ pub extern "C" fn lqp_set_uint64(
 /// As `Embedded::unset`, whose status it answers.
 #[unsafe(no_mangle)]
 pub extern "C" fn lqp_unset(handle: &mut Lq, node: u64, attr: &[u8], out: &mut AppliedOut) -> u32
-    ensures { Changes (held handle.old) (held handle.new) (unset_question node attr.now)
+    ensures { Changes (held_state handle.old) (held_state handle.new) (unset_question node attr.now)
         result out.old out.new }
 {
     handle.served_mut().embedded.unset(node, attr, out)

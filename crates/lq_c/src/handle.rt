@@ -2,10 +2,10 @@
 //!
 //! A handle owns the block behind its pointer as a box does. So the session there can be lent, and
 //! the box can be made again.
-ghost use Rattle.lq_c.specs.declared.served.Served.{Served};
+ghost use Rattle.lq_c.specs.declared.handle_target.Served.{Served};
 ghost use Rattle.lq_c.specs.Handle.{lq_owns, served_coded};
 
-use crate::served::Served;
+use crate::handle_target::Served;
 use std::alloc::{Allocator, Global};
 use std::marker::Model;
 

@@ -2,14 +2,14 @@
 ghost use Rattle.std.specs.Prelude.{◌≡◌, ◌⊎◌, length};
 ghost use Rattle.lq_script_lines.specs.Lines.{line_of, reply_to, state_after};
 ghost use Rattle.lq_script_desk.specs.Script.{world_rules};
-ghost use Rattle.lq_embed.specs.Outs.{written};
-ghost use Rattle.lq_embed.specs.State.{volume_in, with_session, with_text};
+ghost use Rattle.lq_embed.specs.Outs.{text_put};
+ghost use Rattle.lq_embed.specs.SessionState.{volume_in, with_session, with_text};
 ghost use Rattle.lq_script_desk.specs.History.{question_of};
 ghost use Rattle.lq_script_desk.specs.SessionHistory.{LineKeepsHistory};
-ghost use Rattle.lq_c.specs.Held.{held, line_result};
+ghost use Rattle.lq_c.specs.Held.{held_state, line_result};
 
 use crate::handle::{Lq, Opaque};
-use crate::served::Served;
+use crate::handle_target::Served;
 use lq_embed::put_text;
 use std::alloc::Global;
 
@@ -44,8 +44,8 @@ pub extern "C" fn lqp_free(handle: Lq) {
 /// The place of the last fault.
 #[unsafe(no_mangle)]
 pub extern "C" fn lqp_fault_place(handle: &mut Lq) -> u64
-    ensures place { result ≡ (held handle.old).fault }
-    ensures stays { held handle.new ≡ held handle.old }
+    ensures place { result ≡ (held_state handle.old).fault }
+    ensures stays { held_state handle.new ≡ held_state handle.old }
 {
     handle.served_mut().embedded.fault_place()
 }
@@ -53,17 +53,17 @@ pub extern "C" fn lqp_fault_place(handle: &mut Lq) -> u64
 /// Answers one line of a script: 0, and `lqp_text` copies the reply, or 15 for want of memory.
 #[unsafe(no_mangle)]
 pub extern "C" fn lqp_answer(handle: &mut Lq, line: &[u8], size: &mut usize) -> u32
-    ensures text { result ≡ 0 → (held handle.new).text
-        ≡ reply_to world_rules (held handle.old).session (line_of line.now) }
-    ensures after { result ≡ 0 → (held handle.new).session
-        ≡ state_after world_rules (held handle.old).session (line_of line.now) }
-    ensures size { result ≡ 0 → size.new ≡ length (held handle.new).text }
+    ensures text { result ≡ 0 → (held_state handle.new).text
+        ≡ reply_to world_rules (held_state handle.old).session (line_of line.now) }
+    ensures after { result ≡ 0 → (held_state handle.new).session
+        ≡ state_after world_rules (held_state handle.old).session (line_of line.now) }
+    ensures size { result ≡ 0 → size.new ≡ length (held_state handle.new).text }
     ensures status { (result ≡ 0) ⊎ ((result ≡ 15) × (size.new ≡ size.old)) }
-    ensures history { LineKeepsHistory (held handle.old).session.core
-        (held handle.new).session.core (line_result result) (question_of (line_of line.now)) }
-    ensures beside { held handle.new
-        ≡ with_text (with_session (held handle.old) (held handle.new).session)
-        (held handle.new).text }
+    ensures history { LineKeepsHistory (held_state handle.old).session.core
+        (held_state handle.new).session.core (line_result result) (question_of (line_of line.now)) }
+    ensures beside { held_state handle.new
+        ≡ with_text (with_session (held_state handle.old) (held_state handle.new).session)
+        (held_state handle.new).text }
 {
     let embedded = &mut handle.served_mut().embedded;
     if embedded.answer(line).is_err() {
@@ -76,9 +76,9 @@ pub extern "C" fn lqp_answer(handle: &mut Lq, line: &[u8], size: &mut usize) -> 
 /// Copies the kept text, and answers its size.
 #[unsafe(no_mangle)]
 pub extern "C" fn lqp_text(handle: &mut Lq, out: &mut [u8]) -> usize
-    ensures size { result ≡ length (held handle.old).text }
-    ensures text { out.new ≡ written (held handle.old).text out.old }
-    ensures stays { held handle.new ≡ held handle.old }
+    ensures size { result ≡ length (held_state handle.old).text }
+    ensures text { out.new ≡ text_put (held_state handle.old).text out.old }
+    ensures stays { held_state handle.new ≡ held_state handle.old }
 {
     put_text(out, handle.served_mut().embedded.text())
 }
@@ -86,8 +86,8 @@ pub extern "C" fn lqp_text(handle: &mut Lq, out: &mut [u8]) -> usize
 /// How many changes the volume accepted.
 #[unsafe(no_mangle)]
 pub extern "C" fn lqp_changes(handle: &mut Lq) -> u64
-    ensures number { result ≡ (volume_in (held handle.old)).number }
-    ensures stays { held handle.new ≡ held handle.old }
+    ensures number { result ≡ (volume_in (held_state handle.old)).number }
+    ensures stays { held_state handle.new ≡ held_state handle.old }
 {
     handle.served_mut().embedded.changes()
 }

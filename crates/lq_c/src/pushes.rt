@@ -7,8 +7,8 @@ ghost use Rattle.lq_embed.specs.Calls.{Fetches};
 ghost use Rattle.lq_embed.specs.Numbers.{op_numbered};
 ghost use Rattle.lq_embed.specs.Opening.{OpensBy, backlog_of};
 ghost use Rattle.lq_embed.specs.Questions.{fetch_pushed, left_by, open_pushed, push_attr_outcome, push_op_outcome, push_text_outcome};
-ghost use Rattle.lq_embed.specs.State.{with_pushed};
-ghost use Rattle.lq_c.specs.Held.{held};
+ghost use Rattle.lq_embed.specs.SessionState.{with_pushed};
+ghost use Rattle.lq_c.specs.Held.{held_state};
 ghost use Rattle.lq_c.specs.Numbers.{PushesIn, after_take, has_room, made_after, shown_after};
 
 use crate::handle::Lq;
@@ -20,8 +20,8 @@ use lq_embed::OpenOptions;
 /// were accepted, is 4,096.
 #[unsafe(no_mangle)]
 pub extern "C" fn lqp_push_attr(handle: &mut Lq, pushes: &mut u32, name: &[u8]) -> u32
-    ensures { PushesIn (has_room pushes.old) (held handle.old) (held handle.new)
-        (push_attr_outcome name.now (held handle.old).pushed) result pushes.old pushes.new }
+    ensures { PushesIn (has_room pushes.old) (held_state handle.old) (held_state handle.new)
+        (push_attr_outcome name.now (held_state handle.old).pushed) result pushes.old pushes.new }
 {
     if !has_room(*pushes) {
         return MISUSE;
@@ -34,8 +34,8 @@ pub extern "C" fn lqp_push_attr(handle: &mut Lq, pushes: &mut u32, name: &[u8]) 
 /// As `Embedded::push_text`, with the count as at `lqp_push_attr`.
 #[unsafe(no_mangle)]
 pub extern "C" fn lqp_push_text(handle: &mut Lq, pushes: &mut u32, text: &[u8]) -> u32
-    ensures { PushesIn (has_room pushes.old) (held handle.old) (held handle.new)
-        (push_text_outcome text.now (held handle.old).pushed) result pushes.old pushes.new }
+    ensures { PushesIn (has_room pushes.old) (held_state handle.old) (held_state handle.new)
+        (push_text_outcome text.now (held_state handle.old).pushed) result pushes.old pushes.new }
 {
     if !has_room(*pushes) {
         return MISUSE;
@@ -48,8 +48,8 @@ pub extern "C" fn lqp_push_text(handle: &mut Lq, pushes: &mut u32, text: &[u8]) 
 /// As `Embedded::push_int32`, with the count as at `lqp_push_attr`.
 #[unsafe(no_mangle)]
 pub extern "C" fn lqp_push_int32(handle: &mut Lq, pushes: &mut u32, value: i32) -> u32
-    ensures { PushesIn (has_room pushes.old) (held handle.old) (held handle.new)
-        (Ok (text_pushed (signed_decimal value) (held handle.old).pushed))
+    ensures { PushesIn (has_room pushes.old) (held_state handle.old) (held_state handle.new)
+        (Ok (text_pushed (signed_decimal value) (held_state handle.old).pushed))
         result pushes.old pushes.new }
 {
     if !has_room(*pushes) {
@@ -63,8 +63,8 @@ pub extern "C" fn lqp_push_int32(handle: &mut Lq, pushes: &mut u32, value: i32) 
 /// As `Embedded::push_int64`, with the count as at `lqp_push_attr`.
 #[unsafe(no_mangle)]
 pub extern "C" fn lqp_push_int64(handle: &mut Lq, pushes: &mut u32, value: i64) -> u32
-    ensures { PushesIn (has_room pushes.old) (held handle.old) (held handle.new)
-        (Ok (text_pushed (signed_decimal value) (held handle.old).pushed))
+    ensures { PushesIn (has_room pushes.old) (held_state handle.old) (held_state handle.new)
+        (Ok (text_pushed (signed_decimal value) (held_state handle.old).pushed))
         result pushes.old pushes.new }
 {
     if !has_room(*pushes) {
@@ -78,8 +78,9 @@ pub extern "C" fn lqp_push_int64(handle: &mut Lq, pushes: &mut u32, value: i64) 
 /// As `Embedded::push_uint32`, with the count as at `lqp_push_attr`.
 #[unsafe(no_mangle)]
 pub extern "C" fn lqp_push_uint32(handle: &mut Lq, pushes: &mut u32, value: u32) -> u32
-    ensures { PushesIn (has_room pushes.old) (held handle.old) (held handle.new)
-        (Ok (text_pushed (decimal value) (held handle.old).pushed)) result pushes.old pushes.new }
+    ensures { PushesIn (has_room pushes.old) (held_state handle.old) (held_state handle.new)
+        (Ok (text_pushed (decimal value) (held_state handle.old).pushed)) result pushes.old
+        pushes.new }
 {
     if !has_room(*pushes) {
         return MISUSE;
@@ -92,8 +93,9 @@ pub extern "C" fn lqp_push_uint32(handle: &mut Lq, pushes: &mut u32, value: u32)
 /// As `Embedded::push_uint64`, with the count as at `lqp_push_attr`.
 #[unsafe(no_mangle)]
 pub extern "C" fn lqp_push_uint64(handle: &mut Lq, pushes: &mut u32, value: u64) -> u32
-    ensures { PushesIn (has_room pushes.old) (held handle.old) (held handle.new)
-        (Ok (text_pushed (decimal value) (held handle.old).pushed)) result pushes.old pushes.new }
+    ensures { PushesIn (has_room pushes.old) (held_state handle.old) (held_state handle.new)
+        (Ok (text_pushed (decimal value) (held_state handle.old).pushed)) result pushes.old
+        pushes.new }
 {
     if !has_room(*pushes) {
         return MISUSE;
@@ -106,8 +108,9 @@ pub extern "C" fn lqp_push_uint64(handle: &mut Lq, pushes: &mut u32, value: u64)
 /// As `Embedded::push_op`, with the count as at `lqp_push_attr`.
 #[unsafe(no_mangle)]
 pub extern "C" fn lqp_push_op(handle: &mut Lq, pushes: &mut u32, op: u32) -> u32
-    ensures { PushesIn (has_room pushes.old) (held handle.old) (held handle.new)
-        (push_op_outcome (op_numbered op) (held handle.old).pushed) result pushes.old pushes.new }
+    ensures { PushesIn (has_room pushes.old) (held_state handle.old) (held_state handle.new)
+        (push_op_outcome (op_numbered op) (held_state handle.old).pushed) result pushes.old
+        pushes.new }
 {
     if !has_room(*pushes) {
         return MISUSE;
@@ -120,7 +123,7 @@ pub extern "C" fn lqp_push_op(handle: &mut Lq, pushes: &mut u32, op: u32) -> u32
 /// As `Embedded::clear_pushed`.
 #[unsafe(no_mangle)]
 pub extern "C" fn lqp_clear_pushed(handle: &mut Lq, pushes: &mut u32)
-    ensures stack { held handle.new ≡ with_pushed (held handle.old) new_stack }
+    ensures stack { held_state handle.new ≡ with_pushed (held_state handle.old) new_stack }
     ensures count { pushes.new ≡ 0 }
 {
     handle.served_mut().embedded.clear_pushed();
@@ -136,10 +139,11 @@ pub extern "C" fn lqp_open_pushed(
     options: &OpenOptions,
     out: &mut Opening,
 ) -> u32
-    ensures opens { OpensBy (held handle.old) (held handle.new)
-        (left_by (held handle.old).pushed (only_part (held handle.old).pushed.items)) options.now
-        (open_pushed (held handle.old).pushed.pushes 1 (backlog_of options.now.backlog)
-        options.now.moved (only_part (held handle.old).pushed.items))
+    ensures opens { OpensBy (held_state handle.old) (held_state handle.new)
+        (left_by (held_state handle.old).pushed (only_part (held_state handle.old).pushed.items))
+        options.now
+        (open_pushed (held_state handle.old).pushed.pushes 1 (backlog_of options.now.backlog)
+        options.now.moved (only_part (held_state handle.old).pushed.items))
         result out.old.opening out.new.opening }
     ensures count { pushes.new ≡ after_take result pushes.old }
     ensures made { made.new ≡ made_after result made.old }
@@ -160,10 +164,10 @@ pub extern "C" fn lqp_fetch_pushed(
     pushes: &mut u32,
     out: &mut Fetched,
 ) -> u32
-    ensures fetches { Fetches (held handle.old) (held handle.new)
-        (left_by (held handle.old).pushed (only_part (held handle.old).pushed.items))
-        (fetch_pushed (held handle.old).pushed.pushes
-        (only_part (held handle.old).pushed.items)) result out.old.fetched out.new.fetched }
+    ensures fetches { Fetches (held_state handle.old) (held_state handle.new)
+        (left_by (held_state handle.old).pushed (only_part (held_state handle.old).pushed.items))
+        (fetch_pushed (held_state handle.old).pushed.pushes
+        (only_part (held_state handle.old).pushed.items)) result out.old.fetched out.new.fetched }
     ensures count { pushes.new ≡ after_take result pushes.old }
     ensures made { made.new ≡ made_after result made.old }
     ensures number { out.new.result ≡ shown_after result made.old out.old.result }

@@ -1,5 +1,5 @@
 //! The entries of a handle's latest result.
-ghost use Rattle.lq_c.specs.Held.{held};
+ghost use Rattle.lq_c.specs.Held.{held_state};
 ghost use Rattle.lq_c.specs.Numbers.{NextOf, TakesOf, is_latest};
 
 use crate::handle::Lq;
@@ -19,7 +19,7 @@ pub extern "C" fn lqp_take(
     out: &mut [RowOut],
     got: &mut usize,
 ) -> u32
-    ensures { TakesOf (is_latest made number) (held handle.old) (held handle.new) result
+    ensures { TakesOf (is_latest made number) (held_state handle.old) (held_state handle.new) result
         out.old out.new got.old got.new }
 {
     if !is_latest(made, number) {
@@ -32,7 +32,7 @@ pub extern "C" fn lqp_take(
 /// As `Embedded::next_entry`: 0, 4 where no entry is left, or 40 as `lqp_take`.
 #[unsafe(no_mangle)]
 pub extern "C" fn lqp_next(handle: &mut Lq, made: u64, number: u64, out: &mut RowOut) -> u32
-    ensures { NextOf (is_latest made number) (held handle.old) (held handle.new) result
+    ensures { NextOf (is_latest made number) (held_state handle.old) (held_state handle.new) result
         out.old out.new }
 {
     if !is_latest(made, number) {

@@ -1,6 +1,6 @@
 //! Each public call of lq_value, lq_predicate, lq_volume, lq_update and lq_desk, from its home and
 //! with its signature, once where it answers what was asked for; and the refusals that cost little.
-//! A module for each crate. No other crate of the repository is named here.
+//! A module for each crate. No other crate of the repository is named here. Begin with `values`.
 #![tactic(auto)]
 
 #[cfg(test)]

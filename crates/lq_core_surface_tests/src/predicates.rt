@@ -1,6 +1,6 @@
 //! Of lq_predicate: formulas, their truth, and predicates from pushes and of others.
 ghost use Rattle.std.specs.Prelude.{Some};
-ghost use Rattle.lq_value.specs.Held.{Number};
+ghost use Rattle.lq_value.specs.PlainValue.{Number};
 
 use lq_predicate::{Predicate, Row, Stack, StackOp, holds, names, read, write};
 use lq_value::{AttrName, Literal, Op, Pattern, Refusal, Text, View};

@@ -15,7 +15,7 @@ fn told(alloc: Global, formula: &str) -> Result<(bool, u64), Refusal> {
     let change = create(alloc, "a")?;
     let mut sub = Sub::new(alloc, &read(alloc, formula)?, 0, 2, false)?;
     let planned = volume.plan(&change)?;
-    let is_told = sub.ready_if_told(&planned)?;
+    let is_told = sub.prepare_if_any(&planned)?;
     if is_told {
         sub.commit();
     }

@@ -8,7 +8,7 @@ use Rattle.serde_json.specs.Written.{has_float, items_have_float}
 use Rattle.lq_value.specs.declared.entry.Entry.{Entry}
 use Rattle.lq_value.specs.declared.value.Value.{Value}
 use Rattle.lq_value.specs.declared.value.Value.TheVariants.{Text, Int32, Int64, UInt32, UInt64}
-use Rattle.lq_value.specs.Refusal.{code_of, name_of}
+use Rattle.lq_value.specs.Refusal.{code_of, refusal_name}
 use Rattle.lq_update.specs.declared.message.Message.{Message}
 use Rattle.lq_update.specs.declared.message.Opcode.{Opcode}
 use Rattle.lq_update.specs.declared.message.Opcode.TheVariants.{Created, Removed, Moved}
@@ -68,12 +68,12 @@ answer-no_float slot Asked = refl
 answer-no_float slot (Noticed was) = refl
 answer-no_float slot (Shut change) = refl
 answer-no_float slot Finished = refl
-answer-no_float slot (Refused e) = fault-no_float (code_of e) (name_of e) (place_of e)
+answer-no_float slot (Refused e) = fault-no_float (code_of e) (refusal_name e) (place_of e)
 
 -- no reply has a float
 pub response-no_float : (r : Response) → has_float (response_data r) ≡ false
 response-no_float (Answers slot a) = answer-no_float slot a
-response-no_float (Refuses e) = fault-no_float (code_of e) (name_of e) (place_of e)
+response-no_float (Refuses e) = fault-no_float (code_of e) (refusal_name e) (place_of e)
 response-no_float (Found node) = refl
 response-no_float (Listed node e) = rw (attrs-no_float e.attrs, integer-no_float e.time) refl
 response-no_float (Fetched at result) = rw (entries-no_float result) refl

@@ -1,5 +1,5 @@
 //! Texts at the borders of what serde_json takes, read by it and by lq_script_request.
-ghost use Rattle.lq_script_request.specs.Fields.{AreFound};
+ghost use Rattle.lq_script_request.specs.Fields.{AreLastMembers};
 
 use json::Scratch;
 use lq_script_request::{Fields, Key};
@@ -77,7 +77,7 @@ const ENDS: [&str; 12] = [
 
 // Whether both have the same field of that key, as far as its kind goes.
 fn has_same(plain: &serde_json::Value, fields: &Fields<'_>, name: &str, key: Key) -> bool
-    requires { AreFound fields.now }
+    requires { AreLastMembers fields.now }
 {
     let field = fields.at(key);
     match plain.get(name) {

@@ -1,7 +1,7 @@
 //! Tests of lq_value, lq_predicate, lq_script_request and lq_script_lines, of what no script or
 //! formula can show; and of lq_desk_sub, lq_script_desk, lq_board and lq_port. A module for each
 //! subject. `plain` makes a reply as a JSON value first, of `members`, to compare with the replies
-//! that are written piece by piece.
+//! that are written piece by piece. Begin with `plain`.
 #![tactic(auto)]
 
 #[cfg(test)]

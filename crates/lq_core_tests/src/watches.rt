@@ -56,7 +56,7 @@ fn changes(alloc: Global) -> Result<[Change; 7], Refusal> {
 fn shown(watch: &Watch, changes: &[Change; 7]) -> [u64; 7] {
     let mut words = [0; 7];
     for index in 0..7 {
-        words[index] = watch.asked(&changes[index]);
+        words[index] = watch.slots_for(&changes[index]);
     }
     words
 }

@@ -7,7 +7,7 @@ use Rattle.std.proofs.lemmas.Nat.Bits.{bit_at_above}
 use Rattle.std.proofs.lemmas.Bool.{cases_lt}
 use Rattle.std.proofs.lemmas.Option.{slice_get-map}
 use Rattle.std.specs.List.{AllByRecursion}
-use Rattle.lq_desk.specs.Kept.{IsFew}
+use Rattle.lq_desk.specs.DeskState.{IsFew}
 use Rattle.lq_desk.specs.Slot.{PreparedSlot}
 use Rattle.lq_desk.specs.Words.{ClearsBit, IsMarked}
 use Rattle.lq_desk.proofs.SlotsLemmas.{done_at, kept_slot}

@@ -18,7 +18,7 @@ use Rattle.lq_desk_world.specs.Laws.{FirstWorldsAreFair}
 use Rattle.lq_desk_world.specs.declared.event.Act.{Act}
 use Rattle.lq_desk.specs.Slot.{KeptSlot, PreparedSlot, slot_of, filled, fresh_slot, noticed}
 use Rattle.lq_desk.specs.Act.{act_of, close_turn, outcome_of, read_turn}
-use Rattle.lq_desk.specs.Kept.{Kept, IsKept, IsFew, Shows, first_free, opened, changed, at_kept, slot_for}
+use Rattle.lq_desk.specs.DeskState.{DeskState, IsKept, IsFew, Shows, first_free, opened, changed, at_kept, slot_for}
 use Rattle.lq_desk.specs.KeptTurn.{kept_after, kept_ports}
 use Rattle.lq_desk.proofs.ListLemmas.{all-set}
 use Rattle.lq_desk.proofs.PlaceLemmas.{at-same}
@@ -60,7 +60,7 @@ pub IsKept-new : (s : State)
 IsKept-new s = record { slots = free-length 64; few = few-free (3 * s.number) 64 }
 
 -- so it is after a change
-pub IsKept-change : StepsAreFew → ChangesCount → (k : Kept) (c : Change_) → IsKept k
+pub IsKept-change : StepsAreFew → ChangesCount → (k : DeskState) (c : Change_) → IsKept k
     → IsVolume k.volume → IsLawful k.volume c → IsKept (changed k c)
 IsKept-change steps count k c d v lawful = record {
   slots = length-map k.slots _ ∙ d.slots;
@@ -69,7 +69,7 @@ IsKept-change steps count k c d v lawful = record {
 }
 
 -- after an opening
-pub IsKept-open : (k : Kept) (q : Query) (port backlog : ℕ) (moved : Bool) → IsKept k
+pub IsKept-open : (k : DeskState) (q : Query) (port backlog : ℕ) (moved : Bool) → IsKept k
     → IsKept (opened k (fresh_slot q moved k.volume.number port backlog))
 IsKept-open k q port backlog moved d =
     let s = fresh_slot q moved k.volume.number port backlog in
@@ -80,7 +80,7 @@ IsKept-open k q port backlog moved d =
     }
 
 -- after what is done at a slot, where it makes no message
-IsKept-at : (k : Kept) (slot : ℕ) (does : KeptSlot → Answer × Option KeptSlot)
+IsKept-at : (k : DeskState) (slot : ℕ) (does : KeptSlot → Answer × Option KeptSlot)
     (r : Answer) (ks : List (Option KeptSlot)) → IsKept k → (r, ks) ≡ outcome_of does k.slots slot
     → ((s : KeptSlot) → IsFew (3 * k.volume.number) (Some s)
     → IsFew (3 * k.volume.number) (does s).1)
@@ -95,7 +95,7 @@ IsKept-at k slot does r ks d is keeps =
     }
 
 -- after the notices of all slots
-pub IsKept-noticed : (k : Kept) (n : ℕ) (ks : List (Option KeptSlot)) → IsKept k
+pub IsKept-noticed : (k : DeskState) (n : ℕ) (ks : List (Option KeptSlot)) → IsKept k
     → ks ≡ map (option_map (noticed n)) k.slots
     → IsKept (record k { slots = ks })
 IsKept-noticed k n ks d is =
@@ -106,7 +106,7 @@ IsKept-noticed k n ks d is =
     })
 
 -- after each port was filled
-pub IsKept-filled : (k : Kept) (ks : List (Option KeptSlot)) → IsKept k
+pub IsKept-filled : (k : DeskState) (ks : List (Option KeptSlot)) → IsKept k
     → ks ≡ map (option_map filled) k.slots → IsKept (record k { slots = ks })
 IsKept-filled k ks d is =
     subst (λ js. IsKept (record k { slots = js })) (sym is)
@@ -116,54 +116,55 @@ IsKept-filled k ks d is =
     })
 
 -- after an act at a slot
-pub IsKept-act : (k : Kept) (n : ℕ) (a : Act) (slot : ℕ) (r : Answer)
+pub IsKept-act : (k : DeskState) (n : ℕ) (a : Act) (slot : ℕ) (r : Answer)
     (ks : List (Option KeptSlot)) → IsKept k
     → (r, ks) ≡ outcome_of (act_of n a) k.slots slot → IsKept (record k { slots = ks })
 IsKept-act k n a slot r ks d is =
     IsKept-at k slot (act_of n a) r ks d is (few-act (3 * k.volume.number) n a)
 
 -- after a read with its turn
-pub IsKept-read : (k : Kept) (n slot : ℕ) (r : Answer) (ks : List (Option KeptSlot)) → IsKept k
+pub IsKept-read : (k : DeskState) (n slot : ℕ) (r : Answer) (ks : List (Option KeptSlot)) → IsKept k
     → (r, ks) ≡ outcome_of (read_turn n) k.slots slot
     → IsKept (record k { slots = ks })
 IsKept-read k n slot r ks d is =
     IsKept-at k slot (read_turn n) r ks d is (few-read_turn (3 * k.volume.number) n)
 
 -- after a close with its turn
-pub IsKept-close : (k : Kept) (n slot : ℕ) (r : Answer) (ks : List (Option KeptSlot)) → IsKept k
+pub IsKept-close : (k : DeskState) (n slot : ℕ) (r : Answer) (ks : List (Option KeptSlot))
+    → IsKept k
     → (r, ks) ≡ outcome_of (close_turn n) k.slots slot
     → IsKept (record k { slots = ks })
 IsKept-close k n slot r ks d is =
     IsKept-at k slot (close_turn n) r ks d is (few-close_turn (3 * k.volume.number) n)
 
 -- what is done at a slot, by the desk as it was seen before
-pub at-view : (does : ℕ → KeptSlot → Answer × Option KeptSlot) (k j : Kept) (n slot : ℕ)
+pub at-view : (does : ℕ → KeptSlot → Answer × Option KeptSlot) (k j : DeskState) (n slot : ℕ)
     (r : Answer) (ks : List (Option KeptSlot)) → k ≡ j → n ≡ k.volume.number
     → (r, ks) ≡ outcome_of (does n) k.slots slot
     → (r, record k { slots = ks }) ≡ at_kept j slot (does j.volume.number)
 at-view does k j n slot r ks view same is =
     at-same k (does n) slot r ks is
     ∙ (ap (λ m. at_kept k slot (does m)) same
-    ∙ ap (λ (i : Kept). at_kept i slot (does i.volume.number)) view)
+    ∙ ap (λ (i : DeskState). at_kept i slot (does i.volume.number)) view)
 
 -- the notices of all slots, by the desk as it was seen before
-pub noticed-view : (k j : Kept) (n : ℕ) (ks : List (Option KeptSlot)) → k ≡ j
+pub noticed-view : (k j : DeskState) (n : ℕ) (ks : List (Option KeptSlot)) → k ≡ j
     → n ≡ k.volume.number → ks ≡ map (option_map (noticed n)) k.slots
     → record k { slots = ks } ≡ kept_after j (notices (kept_ports j))
 noticed-view k j n ks view same is =
     ap (λ js. record k { slots = js }) (is ∙ ap (λ m. map (option_map (noticed m)) k.slots) same)
-    ∙ (noticed-all k ∙ ap (λ (i : Kept). kept_after i (notices (kept_ports i))) view)
+    ∙ (noticed-all k ∙ ap (λ (i : DeskState). kept_after i (notices (kept_ports i))) view)
 
 -- each port filled, by the desk as it was seen before
-pub filled-view : (k j : Kept) (ks : List (Option KeptSlot)) → k ≡ j
+pub filled-view : (k j : DeskState) (ks : List (Option KeptSlot)) → k ≡ j
     → ks ≡ map (option_map filled) k.slots
     → record k { slots = ks } ≡ kept_after j (all_puts (kept_ports j))
 filled-view k j ks view is =
     ap (λ js. record k { slots = js }) is
-    ∙ (filled-all k ∙ ap (λ (i : Kept). kept_after i (all_puts (kept_ports i))) view)
+    ∙ (filled-all k ∙ ap (λ (i : DeskState). kept_after i (all_puts (kept_ports i))) view)
 
 -- each slot of a desk has made few messages
-pub few-desk : (k : Kept) → IsVolume k.volume → IsKept k
+pub few-desk : (k : DeskState) → IsVolume k.volume → IsKept k
     → AllByRecursion (IsFew (2 ^ 63 - 1)) k.slots
 few-desk k v d = few-more (3 * k.volume.number) (2 ^ 63 - 1) k.slots
     (omega (arith, v.numbered.limit, v.numbered.number)) d.few

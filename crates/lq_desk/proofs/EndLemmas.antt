@@ -14,13 +14,13 @@ use Rattle.lq_update.specs.declared.parcel.Parcel.{Parcel}
 use Rattle.lq_update.specs.declared.parcel.Parcel.TheVariants.{Update}
 use Rattle.lq_update.specs.Updates.{updates_of, step_of}
 use Rattle.lq_update.specs.Laws.{UpdatesJoin}
-use Rattle.lq_desk_world.specs.World.{Subscribed, End, covered_by, covered, updates_due, mark_behind, whole, is_live, is_over, with_end, first_in_port, overruns, overrun_if, after_change}
+use Rattle.lq_desk_world.specs.World.{Subscribed, Ending, covered_by, covered, updates_due, mark_behind, whole, is_live, is_over, with_end, first_in_port, change_overruns, overrun_if, after_change}
 use Rattle.lq_desk_world.specs.Events.{Took, Ended, Empty, Noticed, Shut, reading_if, reading, hanging_up, noticing_if, noticing, closing_if, closing, finishing_if, finishing}
 use Rattle.lq_desk_world.specs.Fair.{IsFair}
 use Rattle.lq_desk_sub.specs.Held.{ended_by, after_messages_by, with_messages}
 use Rattle.lq_desk_sub.specs.Held as h
 use Rattle.lq_desk.specs.Slot.{slot_after, is_read, read_if, read_slot, ask_slot, notice_if, notice_slot, close_if, close_slot, finish_if, finish_slot}
-use Rattle.lq_desk.specs.Kept.{mark_of, held_for, slot_for}
+use Rattle.lq_desk.specs.DeskState.{mark_of, held_for, slot_for}
 use Rattle.lq_desk.proofs.ListLemmas.{get-between}
 use Rattle.lq_desk.proofs.UpdateLemmas.{updates_of-stays, updates_of-change}
 use Rattle.lq_desk.proofs.SlotLemmas.{kept_alike, parcels, queue-length, slot_with}
@@ -28,7 +28,7 @@ use Rattle.lq_desk.proofs.SlotLemmas.{kept_alike, parcels, queue-length, slot_wi
 -- ---- the end
 
 -- the mark was put and the port is empty just where all was taken, if it has ended
-read-alike : (t p l k n : ℕ) (o : Option End) → p ≤ l → l ≡ t + length (mark_behind t o) → k ≤ p
+read-alike : (t p l k n : ℕ) (o : Option Ending) → p ≤ l → l ≡ t + length (mark_behind t o) → k ≤ p
     → n ≡ p - k → (nat_lt t p && (n == 0)) ≡ (if is_none o then false else k == l)
 read-alike t p l k n None put list taken wait = grind (arith, nat_tests)
 read-alike t p l k n (Some e) put list taken wait = grind (arith, nat_tests)
@@ -74,12 +74,12 @@ finish-same b s f = ap (finish_if (slot_for b s)) (is_read-same b s f) ∙ by (i
     by false = refl
 
 -- a subscription that hasn't ended has no end
-pub live-none : (o : Option End) → is_none o ≡ true → o ≡ None
+pub live-none : (o : Option Ending) → is_none o ≡ true → o ≡ None
 live-none None h = refl
 live-none (Some e) h = absurd (let no : ⊥ = cc in no)
 
 -- it has a mark just where it has ended
-live-same : (n : ℕ) (o : Option End) → is_none (option_map (mark_of n) o) ≡ is_none o
+live-same : (n : ℕ) (o : Option Ending) → is_none (option_map (mark_of n) o) ≡ is_none o
 live-same n None = refl
 live-same n (Some e) = refl
 
@@ -101,7 +101,7 @@ end-same : (b d : Book) (s : Subscribed) (cause : Cause) (n : ℕ) → IsFair b 
     ≡ slot_for d (with_end s cause n)
 end-same b d s cause n f live same =
     let us = updates_due b s in
-    let e : End = record { cause = cause; change = n } in
+    let e : Ending = record { cause = cause; change = n } in
     let inside : s.put ≤ length (parcels us) =
     omega (arith, f.put, ap length (whole-live b s live)) in
     let front : take s.put (whole b s)
@@ -153,7 +153,7 @@ module _ (join : UpdatesJoin) (b : Book) (c : Change_) (s : Subscribed) (f : IsF
   after = grown b (c ∷ [])
 
   -- of one that has ended nothing changes
-  ended-same : (e : End) → s.end ≡ Some e
+  ended-same : (e : Ending) → s.end ≡ Some e
       → slot_after (state_of b) c (slot_for b s) ≡ slot_for after (after_change b c s)
   ended-same e is =
       let to : covered b s ≡ e.change = ap (covered_by b) is in
@@ -167,7 +167,7 @@ module _ (join : UpdatesJoin) (b : Book) (c : Change_) (s : Subscribed) (f : IsF
       else slot_for b s) is
       ∙ (sym
       (ap (λ us. slot_with s us (parcels us ++ mark_behind (length us) s.end) s.end) told_same)
-      ∙ sym (ap (λ o. slot_for after (overrun_if b s (is_none o && overruns b c s))) is))
+      ∙ sym (ap (λ o. slot_for after (overrun_if b s (is_none o && change_overruns b c s))) is))
 
   -- of a live one
   module _ (live : s.end ≡ None) where
@@ -226,8 +226,8 @@ module _ (join : UpdatesJoin) (b : Book) (c : Change_) (s : Subscribed) (f : IsF
         ap (λ o. if is_none (option_map (mark_of (length (updates_due b s))) o)
         then record (slot_for b s) { held = h.held_after (state_of b) c (held_for b s) }
         else slot_for b s) live
-        ∙ (by (overruns b c s)
-        ∙ sym (ap (λ o. slot_for after (overrun_if b s (is_none o && overruns b c s))) live))
+        ∙ (by (change_overruns b c s)
+        ∙ sym (ap (λ o. slot_for after (overrun_if b s (is_none o && change_overruns b c s))) live))
       where
         by : (x : Bool) → record (slot_for b s) {
           held =
@@ -244,7 +244,7 @@ module _ (join : UpdatesJoin) (b : Book) (c : Change_) (s : Subscribed) (f : IsF
   pub change-same : slot_after (state_of b) c (slot_for b s) ≡ slot_for after (after_change b c s)
   change-same = by s.end refl
     where
-      by : (o : Option End) → s.end ≡ o
+      by : (o : Option Ending) → s.end ≡ o
           → slot_after (state_of b) c (slot_for b s) ≡ slot_for after (after_change b c s)
       by None is = live-same_after is
       by (Some e) is = ended-same e is

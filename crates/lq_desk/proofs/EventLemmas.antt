@@ -10,11 +10,11 @@ use Rattle.lq_volume.specs.State.{State}
 use Rattle.lq_desk_world.specs.declared.event.Event.{Event}
 use Rattle.lq_desk_world.specs.declared.event.Event.TheVariants.{Put, Notice}
 use Rattle.lq_desk_world.specs.Events.{Answer}
-use Rattle.lq_desk_world.specs.Turns.{places_at, places_in, one_notice, puts, after_all}
+use Rattle.lq_desk_world.specs.Turns.{places_at, places_in, one_notice, puts, after_events}
 use Rattle.lq_update.specs.declared.mark.Cause.TheVariants.{HungUp}
 use Rattle.lq_desk_sub.specs.Held.{is_live, held_after, ended_by}
 use Rattle.lq_desk.specs.Slot.{KeptSlot, put_slot, notice_if, notice_slot, slot_after, after_put, after_puts, filled, noticed}
-use Rattle.lq_desk.specs.Kept.{Kept, kept_at, at_place, at_kept, kept_outcome}
+use Rattle.lq_desk.specs.DeskState.{DeskState, kept_at, at_index, at_kept, kept_outcome}
 use Rattle.lq_desk.specs.KeptTurn.{slot_port, kept_ports, kept_after}
 use Rattle.lq_desk.proofs.ListLemmas.{get-set_here, set-same}
 use Rattle.lq_desk.proofs.PutLemmas.{put-some}
@@ -23,7 +23,8 @@ use Rattle.lq_desk.proofs.PutLemmas.{put-some}
 
 -- two lists of events, one after the other
 pub after-join : {Core : Type 0} (step : Core → Event → Answer × Core) (s : Core)
-    (xs ys : List Event) → after_all step s (xs ++ ys) ≡ after_all step (after_all step s xs) ys
+    (xs ys : List Event) → after_events step s (xs ++ ys)
+    ≡ after_events step (after_events step s xs) ys
 after-join step s [] ys = refl
 after-join step s (x ∷ xs) ys = after-join step (step s x).1 xs ys
 
@@ -52,7 +53,7 @@ notice-keeps n s = by (is_live s.held && s.hang_up_asked)
     by false = refl
 
 -- what stands in a taken slot
-pub kept-there : (k : Kept) (slot : ℕ) (s : KeptSlot) → kept_at k slot ≡ Some s
+pub kept-there : (k : DeskState) (slot : ℕ) (s : KeptSlot) → kept_at k slot ≡ Some s
     → slice_get k.slots (slot - 1) ≡ Some (Some s)
 kept-there k slot s is = by (slot == 0) (slice_get k.slots (slot - 1)) refl is
   where
@@ -64,8 +65,9 @@ kept-there k slot s is = by (slot == 0) (slice_get k.slots (slot - 1)) refl is
     by false (Some (Some t)) at same = ap (λ (o : Option KeptSlot). Some o) same
 
 -- such an event keeps all ports
-at-keeps : (k : Kept) (slot : ℕ) (o : Option KeptSlot) (event : KeptSlot → Answer × Option KeptSlot)
-    → kept_at k slot ≡ o → Keeps event → kept_ports (at_place k (slot - 1) o event).1 ≡ kept_ports k
+at-keeps : (k : DeskState) (slot : ℕ) (o : Option KeptSlot)
+    (event : KeptSlot → Answer × Option KeptSlot)
+    → kept_at k slot ≡ o → Keeps event → kept_ports (at_index k (slot - 1) o event).1 ≡ kept_ports k
 at-keeps k slot None event is keeps = refl
 at-keeps k slot (Some s) event is keeps =
     map-set (option_map slot_port) k.slots (slot - 1) (event s).1
@@ -74,7 +76,7 @@ at-keeps k slot (Some s) event is keeps =
     (slot - 1) ∙ ap (option_map (option_map slot_port)) (kept-there k slot s is)))
 
 -- a noticing keeps all ports
-pub ports-noticed : (k : Kept) (slot : ℕ)
+pub ports-noticed : (k : DeskState) (slot : ℕ)
     → kept_ports (kept_outcome k (Notice slot)).1 ≡ kept_ports k
 ports-noticed k slot = at-keeps k slot (kept_at k slot)
     (notice_slot k.volume.number) refl (notice-keeps k.volume.number)
@@ -98,7 +100,7 @@ ports-after s c (Some k ∷ slots) =
 -- ---- the events of one slot are what is done there
 
 -- what is at a place is in the slot with the next number
-kept-next : (k : Kept) (i : ℕ) (o : Option KeptSlot) → slice_get k.slots i ≡ Some o
+kept-next : (k : DeskState) (i : ℕ) (o : Option KeptSlot) → slice_get k.slots i ≡ Some o
     → kept_at k (i + 1) ≡ o
 kept-next k i o is =
     let e : i + 1 - 1 ≡ i = omega arith in
@@ -107,7 +109,7 @@ kept-next k i o is =
     rw (some, there) refl
 
 -- what events of a slot do there, of the slots that stand with the volume of k
-abbrev pub Does : (ℕ → ℕ → List Event) → (KeptSlot → KeptSlot) → Kept → Type 0
+abbrev pub Does : (ℕ → ℕ → List Event) → (KeptSlot → KeptSlot) → DeskState → Type 0
 Does events f k = (ks : List (Option KeptSlot)) (i : ℕ) (s : KeptSlot)
     → slice_get ks i ≡ Some (Some s)
     → kept_after (record k { slots = ks }) (events (i + 1) s.port)
@@ -123,25 +125,25 @@ notice-some n s = by (is_live s.held && s.hang_up_asked)
     by false = refl
 
 -- an event that leaves the slot taken
-one-event : (k : Kept) (ks : List (Option KeptSlot)) (i : ℕ)
+one-event : (k : DeskState) (ks : List (Option KeptSlot)) (i : ℕ)
     (s t : KeptSlot) (event : KeptSlot → Answer × Option KeptSlot) → slice_get ks i ≡ Some (Some s)
     → (event s).1 ≡ Some t
     → (at_kept (record k { slots = ks }) (i + 1) event).1
     ≡ record k { slots = slice_set ks i (Some t) }
 one-event k ks i s t event at to =
     let e : i + 1 - 1 ≡ i = omega arith in
-    ap (λ (o : Option KeptSlot). (at_place (record k { slots = ks }) (i + 1 - 1) o event).1)
+    ap (λ (o : Option KeptSlot). (at_index (record k { slots = ks }) (i + 1 - 1) o event).1)
     (kept-next (record k { slots = ks }) i (Some s) at)
     ∙ (ap (λ j. record k { slots = slice_set ks j (event s).1 }) e
     ∙ ap (λ o. record k { slots = slice_set ks i o }) to)
 
 -- the noticing of a slot notices there
-pub notice-does : (k : Kept) → Does one_notice (noticed k.volume.number) k
+pub notice-does : (k : DeskState) → Does one_notice (noticed k.volume.number) k
 notice-does k ks i s at = one-event k ks i s (noticed k.volume.number s)
     (notice_slot k.volume.number) at (notice-some k.volume.number s)
 
 -- several puts at a slot are those puts there
-pub puts-do : (k : Kept) (i n : ℕ) (ks : List (Option KeptSlot)) (s : KeptSlot)
+pub puts-do : (k : DeskState) (i n : ℕ) (ks : List (Option KeptSlot)) (s : KeptSlot)
     → slice_get ks i ≡ Some (Some s)
     → kept_after (record k { slots = ks }) (replicate n (Put (i + 1)))
     ≡ record k { slots = slice_set ks i (Some (after_puts n s)) }
@@ -155,11 +157,11 @@ puts-do k i (suc n) ks s at =
     (set-set ks i (Some (after_put s)) (Some (after_puts n (after_put s)))))
 
 -- as many as its port has places fill it
-pub fill-does : (k : Kept) → Does puts filled k
+pub fill-does : (k : DeskState) → Does puts filled k
 fill-does k ks i s at = puts-do k i s.port ks s at
 
 -- the places of a slot's port
-pub places-here : (k : Kept) (i : ℕ) (o : Option KeptSlot) → slice_get k.slots i ≡ Some o
+pub places-here : (k : DeskState) (i : ℕ) (o : Option KeptSlot) → slice_get k.slots i ≡ Some o
     → places_at (kept_ports k) (i + 1) ≡ places_in (option_map slot_port o)
 places-here k i o is =
     let e : i + 1 - 1 ≡ i = omega arith in
@@ -170,10 +172,10 @@ places-here k i o is =
     rw (some, there) refl
 
 -- where there is no slot, nothing is done
-pub noticed-none : (k : Kept) (slot : ℕ) → kept_at k slot ≡ None
+pub noticed-none : (k : DeskState) (slot : ℕ) → kept_at k slot ≡ None
     → k ≡ (kept_outcome k (Notice slot)).1
 noticed-none k slot none = sym
-    (ap (λ (o : Option KeptSlot). (at_place k (slot - 1) o (notice_slot k.volume.number)).1) none)
+    (ap (λ (o : Option KeptSlot). (at_index k (slot - 1) o (notice_slot k.volume.number)).1) none)
 
 -- a free slot has no places
 no-places : (x : Bool) (o : Option (Option KeptSlot))
@@ -185,7 +187,7 @@ no-places false (Some None) none = refl
 no-places false (Some (Some s)) none = absurd (let bad : ⊥ = cc in bad)
 
 -- puts at a free slot leave what is kept
-pub filled-none : (k : Kept) (slot : ℕ) → kept_at k slot ≡ None
+pub filled-none : (k : DeskState) (slot : ℕ) → kept_at k slot ≡ None
     → k ≡ kept_after k (puts slot (places_at (kept_ports k) slot))
 filled-none k slot none =
     let zero_places : places_at (kept_ports k) slot ≡ 0 =

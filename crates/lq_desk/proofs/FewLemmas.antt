@@ -19,7 +19,7 @@ use Rattle.lq_desk_world.specs.declared.event.Act.TheVariants as act
 use Rattle.lq_desk_sub.specs.Held.{Held, is_live, held_after, ended_by, after_messages_by, overruns}
 use Rattle.lq_desk.specs.Slot.{KeptSlot, PreparedSlot, slot_of, slot_after, put_if, read_if, notice_if, close_if, close_slot, finish_if, filled, is_ending, noticed}
 use Rattle.lq_desk.specs.Act.{act_of, close_turn, outcome_at, outcome_in, outcome_of, read_turn}
-use Rattle.lq_desk.specs.Kept.{IsFew}
+use Rattle.lq_desk.specs.DeskState.{IsFew}
 use Rattle.lq_desk.proofs.ListLemmas.{all-set, all-get}
 use Rattle.lq_desk.proofs.PutLemmas.{puts-keep}
 

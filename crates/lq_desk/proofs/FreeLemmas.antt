@@ -12,7 +12,7 @@ use Rattle.lq_volume.specs.declared.change.Change.{Change}
 use Rattle.lq_volume.specs.State.{State}
 use Rattle.lq_desk.specs.Slot.{KeptSlot, PreparedSlot, slot_of, with_free}
 use Rattle.lq_desk.specs.Words.{AreReady}
-use Rattle.lq_desk.specs.Kept.{IsFew, first_free}
+use Rattle.lq_desk.specs.DeskState.{IsFew, first_free}
 use Rattle.lq_desk.proofs.ListLemmas.{set-seam}
 use Rattle.lq_desk.proofs.SlotsLemmas.{kept_slot}
 use Rattle.lq_desk.proofs.PlaceLemmas.{set-free}

@@ -16,7 +16,7 @@ use Rattle.lq_desk_world.specs.Events.{Answer, Empty, Ended}
 use Rattle.lq_desk_sub.specs.Held.{ended_by, next_of, next_parcel}
 use Rattle.lq_desk.specs.Slot.{KeptSlot, PreparedSlot, after_put, after_puts, can_move, filled, is_ending, is_read, noticed, passes, read_if, read_slot}
 use Rattle.lq_desk.specs.Act.{read_turn}
-use Rattle.lq_desk.specs.Kept.{Kept, at_place, kept_at}
+use Rattle.lq_desk.specs.DeskState.{DeskState, at_index, kept_at}
 use Rattle.lq_desk.specs.Ready.{MarksParcels, has_parcel, is_parcel}
 use Rattle.lq_desk.specs.KeptTurn.{kept_turn_outcome}
 use Rattle.lq_desk.specs.Words.{SetsBit}
@@ -150,13 +150,13 @@ read-tells number k =
     (noticed-some number k))))
 
 -- the turn of a read gives one where the slot is taken and has one
-pub turn-tells : (k : Kept) (slot : ℕ)
+pub turn-tells : (k : DeskState) (slot : ℕ)
     → is_parcel (kept_turn_outcome k (Take slot)).0 ≡ passes has_parcel (kept_at k slot)
 turn-tells k slot =
-    ap (λ (p : Answer × Kept). is_parcel p.0) (read-events k slot) ∙ by (kept_at k slot)
+    ap (λ (p : Answer × DeskState). is_parcel p.0) (read-events k slot) ∙ by (kept_at k slot)
   where
     by : (o : Option KeptSlot)
-        → is_parcel (at_place k (slot - 1) o (read_turn k.volume.number)).0 ≡ passes has_parcel o
+        → is_parcel (at_index k (slot - 1) o (read_turn k.volume.number)).0 ≡ passes has_parcel o
     by None = refl
     by (Some s) = read-tells k.volume.number s
 
@@ -215,7 +215,7 @@ marks-all ks n word all done clear i = elim (cases_lt i n) [
     past (y ∷ xs) (suc j) le = past xs j (omega (arith, le))
 
 -- what a slot's bit tells is the turn of a read
-pub ready-tells : (k : Kept) (slot word : ℕ) → 1 ≤ slot → MarksParcels k.slots word
+pub ready-tells : (k : DeskState) (slot word : ℕ) → 1 ≤ slot → MarksParcels k.slots word
     → (bit_at word (slot - 1) == 1) ≡ is_parcel (kept_turn_outcome k (Take slot)).0
 ready-tells k slot word some marks =
     marks (slot - 1) ∙ (by (slot == 0) refl ∙ sym (turn-tells k slot))

@@ -8,12 +8,12 @@ use Rattle.lq_desk_world.specs.declared.event.Act.{Act}
 use Rattle.lq_desk_world.specs.declared.event.Act.TheVariants as act
 use Rattle.lq_desk.specs.Slot.{KeptSlot}
 use Rattle.lq_desk.specs.Act.{outcome_at, outcome_in, outcome_of}
-use Rattle.lq_desk.specs.Kept.{Kept, kept_act, at_kept, at_place, kept_outcome}
+use Rattle.lq_desk.specs.DeskState.{DeskState, kept_act, at_kept, at_index, kept_outcome}
 
 -- ---- what is done at a slot of the list is done at the desk's slot
 
 -- an act at a slot is an event
-pub act-outcome : (k : Kept) (slot : ℕ) (a : Act)
+pub act-outcome : (k : DeskState) (slot : ℕ) (a : Act)
     → kept_outcome k (event_at slot a) ≡ kept_act k slot a
 act-outcome k slot act.Put = refl
 act-outcome k slot act.Take = refl
@@ -30,19 +30,19 @@ set-free (k ∷ ks) zero is = ap (λ j. j ∷ ks) (sym is)
 set-free (k ∷ ks) (suc i) is = ap (λ js. k ∷ js) (set-free ks i is)
 
 -- what is done at a slot
-pub at-same : (k : Kept) (does : KeptSlot → Answer × Option KeptSlot) (slot : ℕ) (r : Answer)
+pub at-same : (k : DeskState) (does : KeptSlot → Answer × Option KeptSlot) (slot : ℕ) (r : Answer)
     (ks : List (Option KeptSlot)) → (r, ks) ≡ outcome_of does k.slots slot
     → (r, record k { slots = ks }) ≡ at_kept k slot does
 at-same k does slot r ks is =
     ap (λ (p : Answer × List (Option KeptSlot)). (p.0, record k { slots = p.1 })) is
     ∙ by (slot == 0) (option_flatten (slice_get k.slots (slot - 1))) refl
   where
-    kept : Answer × List (Option KeptSlot) → Answer × Kept
+    kept : Answer × List (Option KeptSlot) → Answer × DeskState
     kept p = (p.0, record k { slots = p.1 })
 
     by : (x : Bool) (o : Option KeptSlot) → option_flatten (slice_get k.slots (slot - 1)) ≡ o
         → kept (if x then (Refused NotOpen, k.slots) else outcome_in does k.slots (slot - 1))
-        ≡ at_place k (slot - 1)
+        ≡ at_index k (slot - 1)
         (if x then None else option_flatten (slice_get k.slots (slot - 1))) does
     by true o there = refl
     by false None there =
@@ -53,11 +53,11 @@ at-same k does slot r ks is =
         )) there
         ∙ (ap (λ js. (Refused NotOpen, record k { slots = js }))
         (set-free k.slots (slot - 1) there)
-        ∙ ap (λ (o : Option KeptSlot). at_place k (slot - 1) o does) (sym there))
+        ∙ ap (λ (o : Option KeptSlot). at_index k (slot - 1) o does) (sym there))
     by false (Some s) there =
         ap (λ (o : Option KeptSlot). kept (
           (outcome_at does o).0,
           slice_set k.slots (slot - 1)
               (outcome_at does o).1,
         )) there
-        ∙ ap (λ (o : Option KeptSlot). at_place k (slot - 1) o does) (sym there)
+        ∙ ap (λ (o : Option KeptSlot). at_index k (slot - 1) o does) (sym there)

@@ -10,10 +10,10 @@ use Rattle.std.proofs.lemmas.Option.{slice_get-map, slice_get_past}
 use Rattle.lq_volume.specs.declared.change.Change.{Change}
 use Rattle.lq_volume.specs.State.{State, IsVolume}
 use Rattle.lq_volume.specs.Change.{IsLawful}
-use Rattle.lq_desk_sub.specs.Held.{IsReadied, Prepared, held_of, is_live, messages_of, prepared}
-use Rattle.lq_desk.specs.Kept.{IsFew}
+use Rattle.lq_desk_sub.specs.Held.{IsReadied, Prepared, held_of, is_live, messages_due, prepared}
+use Rattle.lq_desk.specs.DeskState.{IsFew}
 use Rattle.lq_desk.specs.Slot.{PreparedSlot, slot_of, committed_slot, slot_after}
-use Rattle.lq_desk.specs.Words.{AreCommitted, AreMadeIn, AreReady, ClearsBit, IsAsked, IsReady, PassOver, SetsBit}
+use Rattle.lq_desk.specs.Words.{AreCommitted, AreMadeIn, AreReady, ClearsBit, IsAsked, IsReadyByBit, PassOver, SetsBit}
 use Rattle.lq_desk.proofs.BitLemmas.{few-flat, same-slots, set-at, set-here, set-other, which}
 use Rattle.lq_desk.proofs.SlotsLemmas.{done_at, kept_slot, no-messages, one-get, told-none}
 
@@ -31,7 +31,7 @@ bit-cases word i = by (bit_at word i) refl (bit_at-lt word i)
 -- a subscription that was made ready, in a slot that was asked
 asked-is : (s : State) (c : Change) (any : Bool) (old new : Prepared) (p q : PreparedSlot)
     → IsReadied s c any old new → q.sub ≡ new → Some q ≡ Some p
-    → (any ≡ true → AreMadeIn s c p) × (any ≡ false → messages_of s c p.sub.held ≡ [])
+    → (any ≡ true → AreMadeIn s c p) × (any ≡ false → messages_due s c p.sub.held ≡ [])
 asked-is s c any old new p q readied is at = ((λ some. made some), (λ none. empty none))
   where
     same : p.sub ≡ new
@@ -44,13 +44,13 @@ asked-is s c any old new p q readied is at = ((λ some. made some), (λ none. em
     made some =
         let all : p.sub ≡ prepared s c old = same ∙ readied.ready some in
         record {
-          ready = ap (λ (r : Prepared). r.ready) all ∙ ap (messages_of s c) (sym held);
+          ready = ap (λ (r : Prepared). r.ready) all ∙ ap (messages_due s c) (sym held);
           before = ap (λ (r : Prepared). r.before) all;
         }
 
-    empty : any ≡ false → messages_of s c p.sub.held ≡ []
-    empty none = ap (messages_of s c) held
-        ∙ no-messages (messages_of s c old.held) (sym readied.any ∙ none)
+    empty : any ≡ false → messages_due s c p.sub.held ≡ []
+    empty none = ap (messages_due s c) held
+        ∙ no-messages (messages_due s c old.held) (sym readied.any ∙ none)
 
 -- a slot that was asked
 pub asked-some : (s : State) (c : Change) (any : Bool) (old new : Prepared) (q : PreparedSlot)
@@ -67,7 +67,7 @@ pub record AreMade (s : State) (c : Change) (asked rest told : ℕ)
     (slots : List (Option PreparedSlot)) : Type 0 where
   pub made : (i : ℕ) (p : PreparedSlot) → slice_get slots i ≡ Some (Some p)
       → is_live p.sub.held ≡ true → bit_at asked i ≡ 1 → bit_at rest i ≡ 0
-      → IsReady s c (bit_at told i) p
+      → IsReadyByBit s c (bit_at told i) p
   pub left : (i : ℕ) → bit_at rest i ≡ 1 → bit_at told i ≡ 0
   pub others : (i : ℕ) → bit_at asked i ≡ 0 → (bit_at rest i ≡ 0) × (bit_at told i ≡ 0)
 
@@ -90,7 +90,7 @@ made-more s c asked rest told rest' told' xs place any x lt set clears sets is a
   made = λ i p at live one done. elim (which i place) [
     | inl here ↦ there i p here (sym (set-at xs place x lt)
         ∙ (ap (slice_get (slice_set xs place x)) (sym here) ∙ at)) live any refl
-    | inr other ↦ subst (λ bit. IsReady s c bit p) (sym (sets.same i other))
+    | inr other ↦ subst (λ bit. IsReadyByBit s c bit p) (sym (sets.same i other))
         (all.made i p (sym (set-other xs place i x (λ same. other (sym same))) ∙ at) live one
         (sym (clears.others i other) ∙ done))
   ];
@@ -108,7 +108,7 @@ made-more s c asked rest told rest' told' xs place any x lt set clears sets is a
 }
   where
     there : (i : ℕ) (p : PreparedSlot) → i ≡ place → Some x ≡ Some (Some p)
-        → is_live p.sub.held ≡ true → (b : Bool) → any ≡ b → IsReady s c (bit_at told' i) p
+        → is_live p.sub.held ≡ true → (b : Bool) → any ≡ b → IsReadyByBit s c (bit_at told' i) p
     there i p here at live true has = inl (
       ap (bit_at told') here ∙ sets.here has,
       is.some p (let same : x ≡ Some p = cc in same) has,
@@ -290,13 +290,13 @@ made-after s c p made = by (is_live p.sub.held) refl
     by false live = rw live refl
 
 -- one that the change has no message for is as after it
-none-after : (s : State) (c : Change) (p : PreparedSlot) → messages_of s c p.sub.held ≡ []
+none-after : (s : State) (c : Change) (p : PreparedSlot) → messages_due s c p.sub.held ≡ []
     → slot_of p ≡ slot_after s c (slot_of p)
 none-after s c p none = by (is_live p.sub.held) refl
   where
     by : (b : Bool) → is_live p.sub.held ≡ b → slot_of p ≡ slot_after s c (slot_of p)
     by true live = rw live (sym (ap (λ held. record (slot_of p) { held = held })
-        (told-none p.sub.held (messages_of s c p.sub.held) s.number none)))
+        (told-none p.sub.held (messages_due s c p.sub.held) s.number none)))
     by false live = rw live refl
 
 -- once all are committed, each slot is as after the change
@@ -339,14 +339,14 @@ committed-after-all s c told xs ys ready does = same-slots (map kept_slot ys) _ 
         ((does i).1 clear ∙ was)
         (ap (λ k. Some (Some k)) (none-after s c p (untold (ready i p was live))))
       where
-        untold : IsReady s c (bit_at told i) p → messages_of s c p.sub.held ≡ []
+        untold : IsReadyByBit s c (bit_at told i) p → messages_due s c p.sub.held ≡ []
         untold (inl h) = absurd (omega (arith, clear, h.0))
         untold (inr h) = h.1
     taken i p was true live (inr set) = one i (Some (Some p)) (Some (Some (committed_slot p)))
         ((does i).0 set ∙ ap (option_map (option_map committed_slot)) was)
         (ap (λ k. Some (Some k)) (made-after s c p (told_is (ready i p was live))))
       where
-        told_is : IsReady s c (bit_at told i) p → AreMadeIn s c p
+        told_is : IsReadyByBit s c (bit_at told i) p → AreMadeIn s c p
         told_is (inl h) = h.1
         told_is (inr h) = absurd (omega (arith, set, h.0))
 

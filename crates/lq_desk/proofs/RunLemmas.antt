@@ -4,7 +4,7 @@ use Rattle.lq_desk_world.specs.World.{World}
 use Rattle.lq_desk_world.specs.declared.event.Event.{Event}
 use Rattle.lq_desk_world.specs.Events.{Answer, answer, next, outcome}
 use Rattle.lq_desk_world.specs.Runs.{Step, Run}
-use Rattle.lq_desk_world.specs.Turns.{after_all}
+use Rattle.lq_desk_world.specs.Turns.{after_events}
 
 -- a run, and one that goes on from its end
 pub run-join : (w mid v : World) (events : List Event) (answers : List Answer)
@@ -26,7 +26,7 @@ run-more w mid v events answers e a run step =
 
 -- events that each have their outcome are a run
 pub run-along : (w : World) (events : List Event) → (answers : List Answer)
-    × (length answers ≡ length events) × Run w events answers (after_all outcome w events)
+    × (length answers ≡ length events) × Run w events answers (after_events outcome w events)
 run-along w [] = ([], refl, refl)
 run-along w (e ∷ events) =
     let rest = run-along (next w e) events in

@@ -17,15 +17,15 @@ use Rattle.lq_volume.specs.Laws.{ChangesCount}
 use Rattle.lq_volume.specs.Book.{Book, grown, number_of, state_of, state_at}
 use Rattle.lq_update.specs.Updates.{updates_of, updates_from}
 use Rattle.lq_update.specs.Laws.{UpdatesJoin}
-use Rattle.lq_desk_world.specs.World.{World, Subscribed, updates_due, slot_at, after_change, taken_before_free}
+use Rattle.lq_desk_world.specs.World.{World, Subscribed, updates_due, subscribed_at, after_change, taken_before_free}
 use Rattle.lq_desk_world.specs.declared.event.Event.{Event}
 use Rattle.lq_desk_world.specs.declared.event.Event.TheVariants.{Change, Open, Put, Take, HangUp, Notice, Close, Finish}
-use Rattle.lq_desk_world.specs.Events.{Answer, Changed, Opened, Moved, Took, Empty, Ended, Asked, Noticed, Shut, Finished, Refused, changing, with_change, opening, opened_now, open_refusal, putting, reading, hanging_up, noticing, closing, finishing, at_slot, answer, next}
+use Rattle.lq_desk_world.specs.Events.{Answer, Changed, Opened, Moved, Took, Empty, Ended, Asked, Noticed, Shut, Finished, Refused, changing, world_with_change, opening, opened_now, open_refusal, putting, reading, hanging_up, noticing, closing, finishing, at_slot, answer, next}
 use Rattle.lq_desk_world.specs.Runs.{MayRunOut, Step}
 use Rattle.lq_desk_world.specs.Fair.{IsFair, IsFairSlot, IsFairWorld}
 use Rattle.lq_desk_world.specs.Laws.{RefusalsLeaveWorlds, RunsKeepWorldsFair}
 use Rattle.lq_desk.specs.Slot.{KeptSlot, fresh_slot, slot_after, put_slot, read_slot, ask_slot, notice_slot, close_slot, finish_slot}
-use Rattle.lq_desk.specs.Kept.{Kept, Shows, KeptMayRunOut, KeptStep, kept_of, slot_for, kept_at, at_place, at_kept, first_free, opening_refusal, opened, open_if, changed, change_if, kept_outcome}
+use Rattle.lq_desk.specs.DeskState.{DeskState, Shows, KeptMayRunOut, KeptStep, kept_of, slot_for, kept_at, at_index, at_kept, first_free, opening_refusal, opened, open_if, changed, change_if, kept_outcome}
 use Rattle.lq_desk.specs.Turn.{stepped}
 use Rattle.lq_desk.specs.Laws.{KeptShowsWorlds}
 use Rattle.lq_desk.proofs.ListLemmas.{all-get, not-below}
@@ -44,7 +44,7 @@ flatten-map f (Some (Some x)) = refl
 
 -- what is in a slot is what the world's subscription there leaves
 pub kept_at-same : (w : World) (slot : ℕ)
-    → kept_at (kept_of w) slot ≡ option_map (slot_for w.book) (slot_at w slot)
+    → kept_at (kept_of w) slot ≡ option_map (slot_for w.book) (subscribed_at w slot)
 kept_at-same w slot = by (slot == 0)
   where
     f : Subscribed → KeptSlot
@@ -59,7 +59,7 @@ kept_at-same w slot = by (slot == 0)
         ∙ flatten-map (slot_for w.book) (slice_get w.slots (slot - 1))
 
 -- a subscription in a slot stands at its place
-pub slot-found : (w : World) (slot : ℕ) (s : Subscribed) → slot_at w slot ≡ Some s
+pub slot-found : (w : World) (slot : ℕ) (s : Subscribed) → subscribed_at w slot ≡ Some s
     → slice_get w.slots (slot - 1) ≡ Some (Some s)
 slot-found w slot s is = by (slot == 0) (slice_get w.slots (slot - 1)) is
   where
@@ -78,12 +78,17 @@ at-same : (w : World) → IsFairWorld w
     → ((s : Subscribed) → IsFair w.book s
     → does (slot_for w.book s) ≡ ((event s).0, option_map (slot_for w.book) (event s).1))
     → at_kept (kept_of w) slot does
-    ≡ ((at_slot w slot (slot_at w slot) event).0, kept_of (at_slot w slot (slot_at w slot) event).1)
-at-same w fair slot event does same = ap (λ o. at_place (kept_of w) (slot - 1) o does)
-    (kept_at-same w slot) ∙ by (slot_at w slot) refl
+    ≡ (
+      (at_slot w slot (subscribed_at w slot) event).0,
+      kept_of
+          (at_slot w slot (subscribed_at w slot) event).1,
+    )
+at-same w fair slot event does same = ap (λ o. at_index (kept_of w) (slot - 1) o does)
+    (kept_at-same w slot) ∙ by (subscribed_at w slot) refl
   where
     by : (o : Option Subscribed)
-        → slot_at w slot ≡ o → at_place (kept_of w) (slot - 1) (option_map (slot_for w.book) o) does
+        → subscribed_at w slot ≡ o → at_index (kept_of w) (slot - 1)
+        (option_map (slot_for w.book) o) does
         ≡ ((at_slot w slot o event).0, kept_of (at_slot w slot o event).1)
     by None is = refl
     by (Some s) is =
@@ -211,7 +216,12 @@ module _ (count : ChangesCount) where
         (changed-slots w.book c w.slots fair)
         ∙ ap (λ v. (
           Changed (record { change = number_of w.book + 1; node = node }),
-          record { volume = v; openings = w.openings; slots = (kept_of (with_change w c)).slots },
+          record {
+            volume = v;
+            openings = w.openings;
+            slots =
+                (kept_of (world_with_change w c)).slots;
+          },
         ))
         (sym (after_all-append w.book.start w.book.changes (c ∷ []))))
 
@@ -252,10 +262,10 @@ module _ (count : ChangesCount) where
       kept-shows k w e shows =
           let same : kept_outcome k e ≡ (answer w e, kept_of (next w e)) =
           ap (λ j. kept_outcome j e) shows.kept ∙ outcome-same w e shows.fair in (
-            ap (λ (r : Answer × Kept). r.0) same,
+            ap (λ (r : Answer × DeskState). r.0) same,
             record {
               fair = next-fair w e shows.fair;
-              kept = ap (λ (r : Answer × Kept). r.1) same;
+              kept = ap (λ (r : Answer × DeskState). r.1) same;
             },
           )
 
@@ -296,7 +306,7 @@ module _ (alike : KeptShowsWorlds) where
   runs_out w (Finish slot) is = is
 
   -- a step of what is kept is a step of each world that it shows
-  pub moves : RefusalsLeaveWorlds → (old new : Kept) (w : World) (e : Event) (a : Answer)
+  pub moves : RefusalsLeaveWorlds → (old new : DeskState) (w : World) (e : Event) (a : Answer)
       → KeptStep old e a new → Shows old w → Step w e a (stepped w e a) × Shows new (stepped w e a)
   moves law old new w e a (inl done) shows =
       let same = alike old w e shows in
@@ -304,12 +314,12 @@ module _ (alike : KeptShowsWorlds) where
       let to = stepped-next law w e a is in (
         inl (is, to),
         subst (Shows new) (sym to)
-            (subst (λ (k : Kept). Shows k (next w e)) (sym done.1) same.1),
+            (subst (λ (k : DeskState). Shows k (next w e)) (sym done.1) same.1),
       )
   moves law old new w e a (inr ran) shows =
       let may : MayRunOut w e =
-      runs_out w e (subst (λ (k : Kept). KeptMayRunOut k e) shows.kept ran.0) in
+      runs_out w e (subst (λ (k : DeskState). KeptMayRunOut k e) shows.kept ran.0) in
       let stays : stepped w e a ≡ w = ap (stepped w e) ran.1 in (
         inr (may, ran.1, stays),
-        subst (Shows new) (sym stays) (subst (λ (k : Kept). Shows k w) (sym ran.2) shows),
+        subst (Shows new) (sym stays) (subst (λ (k : DeskState). Shows k w) (sym ran.2) shows),
       )

@@ -9,12 +9,12 @@ use Rattle.lq_update.specs.declared.message.Message.{Message}
 use Rattle.lq_update.specs.declared.mark.Mark.{Mark}
 use Rattle.lq_update.specs.declared.parcel.Parcel.{Parcel}
 use Rattle.lq_update.specs.declared.parcel.Parcel.TheVariants.{Update, Fin}
-use Rattle.lq_desk_world.specs.World.{Subscribed, End, updates_due, mark_behind, whole, one_more_put}
+use Rattle.lq_desk_world.specs.World.{Subscribed, Ending, updates_due, mark_behind, whole, one_more_put}
 use Rattle.lq_desk_world.specs.Events.{Moved, putting_if, putting}
 use Rattle.lq_desk_world.specs.Fair.{IsFair}
-use Rattle.lq_desk_sub.specs.Held.{Held, next_of, without, next_parcel}
+use Rattle.lq_desk_sub.specs.Held.{Held, next_of, without_parcel, next_parcel}
 use Rattle.lq_desk.specs.Slot.{KeptSlot, put_if, put_slot}
-use Rattle.lq_desk.specs.Kept.{mark_of, held_for, slot_for}
+use Rattle.lq_desk.specs.DeskState.{mark_of, held_for, slot_for}
 use Rattle.lq_desk.proofs.ListLemmas.{take-one_more, lt-get, above-zero, lt-suc}
 
 -- messages as parcels
@@ -46,14 +46,14 @@ pub kept_alike : (s : Subscribed) (m n : ℕ) (ms ns : List Message) (o p : Opti
 kept_alike s m n ms ns o p x y ps qs a b c d e = cc
 
 -- what is kept for a subscription with these updates, this list and this end
-abbrev pub slot_with : Subscribed → List Message → List Parcel → Option End → KeptSlot
+abbrev pub slot_with : Subscribed → List Message → List Parcel → Option Ending → KeptSlot
 slot_with s us ws o = kept_with s (length us) (drop s.put us) (option_map (mark_of (length us)) o)
     (nat_lt (length us) s.put) (drop s.taken (take s.put ws))
 
 -- ---- the next parcel
 
 -- the next parcel is the one at the place that the puts have come to
-next-at : (us : List Message) (n i : ℕ) (o : Option End)
+next-at : (us : List Message) (n i : ℕ) (o : Option Ending)
     → next_of (drop i us) (option_map (mark_of n) o) (nat_lt (length us) i)
     ≡ slice_get (parcels us ++ mark_behind n o) i
 next-at [] n zero None = refl
@@ -70,7 +70,7 @@ pub next-same : (b : Book) (s : Subscribed)
 next-same b s = next-at (updates_due b s) (length (updates_due b s)) s.put s.end
 
 -- a message of the list is among the updates, a mark behind them
-message-at : (us : List Message) (n i : ℕ) (o : Option End) (m : Message)
+message-at : (us : List Message) (n i : ℕ) (o : Option Ending) (m : Message)
     → slice_get (parcels us ++ mark_behind n o) i ≡ Some (Update m) → i < length us
 message-at [] n i None m at = absurd (let no : ⊥ = cc in no)
 message-at [] n zero (Some e) m at = absurd (let no : ⊥ = cc in no)
@@ -79,7 +79,7 @@ message-at (u ∷ us) n zero o m at = omega arith
 message-at (u ∷ us) n (suc i) o m at = omega (arith, message-at us n i o m at)
 
 -- the mark stands behind all messages
-mark-at : (us : List Message) (n i : ℕ) (o : Option End) (m : Mark)
+mark-at : (us : List Message) (n i : ℕ) (o : Option Ending) (m : Mark)
     → slice_get (parcels us ++ mark_behind n o) i ≡ Some (Fin m) → i ≡ length us
 mark-at [] n i None m at = absurd (let no : ⊥ = cc in no)
 mark-at [] n zero (Some e) m at = refl
@@ -93,13 +93,14 @@ held_alike : (h : Held) (ms ns : List Message) (x y : Bool) → ms ≡ ns → x 
 held_alike h ms ns x y p q = cc
 
 -- without the next parcel it is held as after one more put
-pub without-same : (b : Book) (s : Subscribed) (p : Parcel) → slice_get (whole b s) s.put ≡ Some p
-    → without (held_for b s) (Some p) ≡ held_for b (one_more_put s)
-without-same b s (Update m) at =
+pub without_parcel-same : (b : Book) (s : Subscribed) (p : Parcel)
+    → slice_get (whole b s) s.put ≡ Some p
+    → without_parcel (held_for b s) (Some p) ≡ held_for b (one_more_put s)
+without_parcel-same b s (Update m) at =
     let inside = message-at (updates_due b s) (length (updates_due b s)) s.put s.end m at in
     held_alike (held_for b s) _ _ _ _ (drop-drop 1 s.put (updates_due b s))
     (grind (arith, nat_tests))
-without-same b s (Fin m) at =
+without_parcel-same b s (Fin m) at =
     let behind = mark-at (updates_due b s) (length (updates_due b s)) s.put s.end m at in
     held_alike (held_for b s) _ _ _ _ (drop_all s.put (updates_due b s) (omega arith)
     ∙ sym (drop_all (s.put + 1) (updates_due b s) (omega arith))) (grind (arith, nat_tests))
@@ -132,7 +133,7 @@ put-if : (b : Book) (s : Subscribed) → IsFair b s → (x : Bool) (o : Option P
     ≡ ((putting_if s (x && is_some o)).0, option_map (slot_for b) (putting_if s (x && is_some o)).1)
 put-if b s f true None at = refl
 put-if b s f true (Some p) at =
-    ap (λ k. (Moved true, Some k)) (slot_alike (slot_for b s) _ _ _ _ (without-same b s p at)
+    ap (λ k. (Moved true, Some k)) (slot_alike (slot_for b s) _ _ _ _ (without_parcel-same b s p at)
     (queue-put (whole b s) s.taken s.put p f.taken f.put at))
 put-if b s f false None at = refl
 put-if b s f false (Some p) at = refl

@@ -12,7 +12,7 @@ use Rattle.lq_update.specs.declared.mark.Cause.TheVariants.{Closed, HungUp}
 use Rattle.lq_desk_sub.specs.Held.{is_live, ended_by}
 use Rattle.lq_desk.specs.Slot.{KeptSlot, read_slot, notice_slot, close_if, close_slot, after_puts, filled, noticed}
 use Rattle.lq_desk.specs.Act.{close_turn, read_turn}
-use Rattle.lq_desk.specs.Kept.{Kept, kept_at, at_place, at_kept, kept_outcome}
+use Rattle.lq_desk.specs.DeskState.{DeskState, kept_at, at_index, at_kept, kept_outcome}
 use Rattle.lq_desk.specs.KeptTurn.{kept_ports, kept_turn, kept_after}
 use Rattle.lq_desk.proofs.ListLemmas.{get-set_here}
 use Rattle.lq_desk.proofs.EventLemmas.{filled-none, kept-there, notice-some, noticed-none, places-here, puts-do}
@@ -20,17 +20,17 @@ use Rattle.lq_desk.proofs.EventLemmas.{filled-none, kept-there, notice-some, not
 -- ---- the turns of a read and of a close
 
 -- these slots in place of those that are kept
-abbrev at-slots : Kept → List (Option KeptSlot) → Kept
+abbrev at-slots : DeskState → List (Option KeptSlot) → DeskState
 at-slots k ks = record k { slots = ks }
 
 -- a taken slot has a number that follows another
-kept-number : (k : Kept) (slot : ℕ) (s : KeptSlot) → kept_at k slot ≡ Some s
+kept-number : (k : DeskState) (slot : ℕ) (s : KeptSlot) → kept_at k slot ≡ Some s
     → slot - 1 + 1 ≡ slot
 kept-number k zero s is = absurd (let bad : ⊥ = cc in bad)
 kept-number k (suc n) s is = omega arith
 
 -- what is written in a taken slot is there
-kept-set : (k : Kept) (slot : ℕ) (s t : KeptSlot) → kept_at k slot ≡ Some s
+kept-set : (k : DeskState) (slot : ℕ) (s t : KeptSlot) → kept_at k slot ≡ Some s
     → kept_at (at-slots k (slice_set k.slots (slot - 1) (Some t))) slot ≡ Some t
 kept-set k slot s t is = by (slot == 0) is
   where
@@ -42,7 +42,7 @@ kept-set k slot s t is = by (slot == 0) is
         (get-set_here k.slots (slot - 1) (Some s) (Some t) (kept-there k slot s is))
 
 -- puts at a taken slot
-puts-taken : (n : ℕ) (k : Kept) (slot : ℕ) (s : KeptSlot) → kept_at k slot ≡ Some s
+puts-taken : (n : ℕ) (k : DeskState) (slot : ℕ) (s : KeptSlot) → kept_at k slot ≡ Some s
     → kept_after k (puts slot n)
     ≡ at-slots k (slice_set k.slots (slot - 1) (Some (after_puts n s)))
 puts-taken n k slot s is =
@@ -50,15 +50,15 @@ puts-taken n k slot s is =
     ∙ puts-do k (slot - 1) n k.slots s (kept-there k slot s is)
 
 -- a notice at a taken slot
-notice-taken : (k : Kept) (slot : ℕ) (s : KeptSlot) → kept_at k slot ≡ Some s
+notice-taken : (k : DeskState) (slot : ℕ) (s : KeptSlot) → kept_at k slot ≡ Some s
     → (kept_outcome k (Notice slot)).1
     ≡ at-slots k (slice_set k.slots (slot - 1) (Some (noticed k.volume.number s)))
 notice-taken k slot s is =
-    ap (λ (o : Option KeptSlot). (at_place k (slot - 1) o (notice_slot k.volume.number)).1) is
+    ap (λ (o : Option KeptSlot). (at_index k (slot - 1) o (notice_slot k.volume.number)).1) is
     ∙ ap (λ o. at-slots k (slice_set k.slots (slot - 1) o)) (notice-some k.volume.number s)
 
 -- the places of its port
-places-taken : (k : Kept) (slot : ℕ) (s : KeptSlot) → kept_at k slot ≡ Some s
+places-taken : (k : DeskState) (slot : ℕ) (s : KeptSlot) → kept_at k slot ≡ Some s
     → places_at (kept_ports k) slot ≡ s.port
 places-taken k slot s is =
     ap (places_at (kept_ports k)) (sym (kept-number k slot s is))
@@ -82,17 +82,18 @@ close-some n s = by (is_live s.held)
     by false = (s, refl, refl)
 
 -- what is done at a taken slot after another thing was
-taken-again : (k : Kept) (slot : ℕ) (s t : KeptSlot) (does : KeptSlot → Answer × Option KeptSlot)
+taken-again : (k : DeskState) (slot : ℕ) (s t : KeptSlot)
+    (does : KeptSlot → Answer × Option KeptSlot)
     → kept_at k slot ≡ Some s
     → at_kept (at-slots k (slice_set k.slots (slot - 1) (Some t))) slot does
     ≡ ((does t).0, at-slots k (slice_set k.slots (slot - 1) (does t).1))
 taken-again k slot s t does is =
     let j = at-slots k (slice_set k.slots (slot - 1) (Some t)) in
-    ap (λ (o : Option KeptSlot). at_place j (slot - 1) o does) (kept-set k slot s t is)
+    ap (λ (o : Option KeptSlot). at_index j (slot - 1) o does) (kept-set k slot s t is)
     ∙ ap (λ ks. ((does t).0, at-slots k ks)) (set-set k.slots (slot - 1) (Some t) (does t).1)
 
 -- a notice, puts and a read
-pub read-events : (k : Kept) (slot : ℕ)
+pub read-events : (k : DeskState) (slot : ℕ)
     → kept_outcome (kept_after k (kept_turn k (Take slot)).before) (Take slot)
     ≡ at_kept k slot (read_turn k.volume.number)
 read-events k slot = by (kept_at k slot) refl
@@ -102,11 +103,11 @@ read-events k slot = by (kept_at k slot) refl
 
     by : (o : Option KeptSlot) → kept_at k slot ≡ o
         → kept_outcome (kept_after (kept_outcome k (Notice slot)).1 places) (Take slot)
-        ≡ at_place k (slot - 1) o (read_turn k.volume.number)
+        ≡ at_index k (slot - 1) o (read_turn k.volume.number)
     by None is =
         ap (λ j. kept_outcome (kept_after j places) (Take slot)) (sym (noticed-none k slot is))
         ∙ (ap (λ j. kept_outcome j (Take slot)) (sym (filled-none k slot is))
-        ∙ ap (λ (o : Option KeptSlot). at_place k (slot - 1) o read_slot) is)
+        ∙ ap (λ (o : Option KeptSlot). at_index k (slot - 1) o read_slot) is)
     by (Some s) is =
         let u = noticed k.volume.number s in
         let l = at-slots k (slice_set k.slots (slot - 1) (Some u)) in
@@ -122,7 +123,7 @@ read-events k slot = by (kept_at k slot) refl
         ∙ taken-again k slot s (filled u) read_slot is)
 
 -- a notice, a close and puts
-pub close-events : (k : Kept) (slot : ℕ) → (
+pub close-events : (k : DeskState) (slot : ℕ) → (
   (kept_outcome (kept_outcome k (Notice slot)).1 (Close slot)).0,
   kept_after (kept_outcome (kept_outcome k (Notice slot)).1 (Close slot)).1
       (puts slot (places_at (kept_ports k) slot)),
@@ -133,18 +134,18 @@ close-events k slot = by (kept_at k slot) refl
     places : List Event
     places = puts slot (places_at (kept_ports k) slot)
 
-    close : Kept → Answer × Kept
+    close : DeskState → Answer × DeskState
     close j = (
       (kept_outcome j (Close slot)).0,
       kept_after (kept_outcome j (Close slot)).1 places,
     )
 
     by : (o : Option KeptSlot) → kept_at k slot ≡ o → close (kept_outcome k (Notice slot)).1
-        ≡ at_place k (slot - 1) o (close_turn k.volume.number)
+        ≡ at_index k (slot - 1) o (close_turn k.volume.number)
     by None is =
         ap close (sym (noticed-none k slot is))
-        ∙ (ap (λ (p : Answer × Kept). (p.0, kept_after p.1 places))
-        (ap (λ (o : Option KeptSlot). at_place k (slot - 1) o (close_slot k.volume.number)) is)
+        ∙ (ap (λ (p : Answer × DeskState). (p.0, kept_after p.1 places))
+        (ap (λ (o : Option KeptSlot). at_index k (slot - 1) o (close_slot k.volume.number)) is)
         ∙ ap (λ j. (Refused NotOpen, j)) (sym (filled-none k slot is)))
     by (Some s) is =
         let number = k.volume.number in
@@ -159,7 +160,7 @@ close-events k slot = by (kept_at k slot) refl
         ∙ (puts-taken t.0.port l slot t.0 (kept-set k slot s t.0 is)
         ∙ ap (at-slots k) (set-set k.slots (slot - 1) (Some t.0) (Some (filled t.0)))) in
         ap close (notice-taken k slot s is)
-        ∙ (ap (λ (p : Answer × Kept). (p.0, kept_after p.1 places))
+        ∙ (ap (λ (p : Answer × DeskState). (p.0, kept_after p.1 places))
         (taken-again k slot s u (close_slot number) is)
         ∙ (ap (λ o. (
           (close_slot number u).0,

@@ -14,8 +14,8 @@ use Rattle.lq_value.specs.declared.refusal.Refusal.TheVariants.{NotOpen}
 use Rattle.lq_desk_sub.specs.Held.{Held, Prepared, is_live, committed, ended_by, after_messages}
 use Rattle.lq_desk.specs.Slot.{KeptSlot, PreparedSlot, slot_of, committed_slot, can_move, filled, has_work, is_ending, noticed, read_slot}
 use Rattle.lq_desk.specs.Act.{outcome_at, outcome_in, read_turn}
-use Rattle.lq_desk.specs.Kept.{IsFew}
-use Rattle.lq_desk.specs.Kept as kept
+use Rattle.lq_desk.specs.DeskState.{IsFew}
+use Rattle.lq_desk.specs.DeskState as kept
 use Rattle.lq_desk.proofs.ListLemmas.{set-same}
 use Rattle.lq_desk.proofs.PutLemmas.{filled-quiet}
 

@@ -16,7 +16,7 @@ use Rattle.lq_desk_world.specs.declared.event.Act.TheVariants as act
 use Rattle.lq_desk_sub.specs.declared.watch.Watch.{Watch}
 use Rattle.lq_desk_sub.specs.Held.{Prepared, is_live, ended_by, after_messages_by, overruns, next_parcel}
 use Rattle.lq_desk_sub.specs.Passing.{TellsNothing}
-use Rattle.lq_desk_sub.specs.Watch.{asked}
+use Rattle.lq_desk_sub.specs.Watch.{slots_for}
 use Rattle.lq_desk.specs.Slot.{KeptSlot, PreparedSlot, close_if, committed_slot, filled, finish_if, is_ending, is_read, noticed, notice_if, put_if, read_if, slot_of}
 use Rattle.lq_desk.specs.Act.{act_of, close_turn, outcome_at, outcome_in, read_turn}
 use Rattle.lq_desk.specs.Words.{AreCommitted, AreWatched}
@@ -122,12 +122,12 @@ watched-acted w does keeps ks js place is watched = subst (AreWatched w) (sym is
   where
     by : (c : Change) (i : ℕ) (k : KeptSlot) → i ≡ place → (o : Option (Option KeptSlot))
         → slice_get ks place ≡ o → (outcome_at does (option_flatten o)).1 ≡ Some k
-        → bit_at (asked w c) i ≡ 0 → TellsNothing k.held.query c
+        → bit_at (slots_for w c) i ≡ 0 → TellsNothing k.held.query c
     by c i k here None at left clear = absurd (let no : ⊥ = cc in no)
     by c i k here (Some None) at left clear = absurd (let no : ⊥ = cc in no)
     by c i k here (Some (Some j)) at left clear =
         subst (λ q. TellsNothing q c) (sym (keeps j k left))
-        (watched c place j at (ap (bit_at (asked w c)) (sym here) ∙ clear))
+        (watched c place j at (ap (bit_at (slots_for w c)) (sym here) ∙ clear))
 
 -- something is done at each place
 pub watched-mapped : (w : Watch) (f : KeptSlot → KeptSlot)
@@ -138,7 +138,7 @@ watched-mapped w f keeps ks js is watched = subst (AreWatched w) (sym is)
     (sym (slice_get-map (option_map f) ks i) ∙ at) clear)
   where
     by : (c : Change) (i : ℕ) (k : KeptSlot) (o : Option (Option KeptSlot)) → slice_get ks i ≡ o
-        → option_map (option_map f) o ≡ Some (Some k) → bit_at (asked w c) i ≡ 0
+        → option_map (option_map f) o ≡ Some (Some k) → bit_at (slots_for w c) i ≡ 0
         → TellsNothing k.held.query c
     by c i k None at is clear = absurd (let no : ⊥ = cc in no)
     by c i k (Some None) at is clear = absurd (let no : ⊥ = cc in no)
@@ -149,16 +149,18 @@ watched-mapped w f keeps ks js is watched = subst (AreWatched w) (sym is)
 
 -- a subscription is watched at a place, in place of the one that was there
 abbrev pub Watches : Watch → ℕ → Query → Watch → Type 0
-Watches old place q new = ((c : Change) → bit_at (asked new c) place ≡ 0 → TellsNothing q c)
-    × ((c : Change) (i : ℕ) → i ≢ place → bit_at (asked new c) i ≡ 0 → bit_at (asked old c) i ≡ 0)
+Watches old place q new = ((c : Change) → bit_at (slots_for new c) place ≡ 0 → TellsNothing q c)
+    × ((c : Change) (i : ℕ) → i ≢ place → bit_at (slots_for new c) i ≡ 0
+    → bit_at (slots_for old c) i ≡ 0)
 
 -- the one of a slot
 pub watches : (old new : Watch) (place : ℕ) (p : PreparedSlot) (sub : Prepared) → sub ≡ p.sub
-    → ((c : Change) → bit_at (asked new c) place ≡ 0 → TellsNothing sub.held.query c)
-    → ((c : Change) (i : ℕ) → i ≢ place → bit_at (asked new c) i ≡ 0 → bit_at (asked old c) i ≡ 0)
+    → ((c : Change) → bit_at (slots_for new c) place ≡ 0 → TellsNothing sub.held.query c)
+    → ((c : Change) (i : ℕ) → i ≢ place → bit_at (slots_for new c) i ≡ 0
+    → bit_at (slots_for old c) i ≡ 0)
     → Watches old place p.sub.held.query new
 watches old new place p sub is here others = (
-  subst (λ (s : Prepared). (c : Change) → bit_at (asked new c) place ≡ 0
+  subst (λ (s : Prepared). (c : Change) → bit_at (slots_for new c) place ≡ 0
       → TellsNothing s.held.query c) is here,
   others,
 )
@@ -181,11 +183,11 @@ pub watched-set : (old new : Watch) (ks js : List (Option KeptSlot)) (place : �
     → AreWatched new js
 watched-set old new ks js place k is w watched = subst (AreWatched new) (sym is)
     (λ c i j at clear. elim (get-put ks place i (Some k) (Some j) at) [
-      | inl there ↦ by c j there.1 (ap (bit_at (asked new c)) (sym there.0) ∙ clear)
+      | inl there ↦ by c j there.1 (ap (bit_at (slots_for new c)) (sym there.0) ∙ clear)
       | inr other ↦ watched c i j other.1 (w.1 c i other.0 clear)
     ])
   where
-    by : (c : Change) (j : KeptSlot) → Some j ≡ Some k → bit_at (asked new c) place ≡ 0
+    by : (c : Change) (j : KeptSlot) → Some j ≡ Some k → bit_at (slots_for new c) place ≡ 0
         → TellsNothing j.held.query c
     by c j same clear = subst (λ q. TellsNothing q c) (query-of same) (w.0 c clear)
 
@@ -208,11 +210,11 @@ pub watched-pushed : (old new : Watch) (ks js : List (Option KeptSlot)) (place :
 watched-pushed old new ks js place k last is w watched = subst (AreWatched new) (sym is)
     (λ c i j at clear. elim (get-behind ks (Some k) i (Some j) at) [
       | inl there ↦ by c j there.1
-          (ap (bit_at (asked new c)) (last ∙ sym there.0) ∙ clear)
+          (ap (bit_at (slots_for new c)) (last ∙ sym there.0) ∙ clear)
       | inr other ↦ watched c i j other.1 (w.1 c i (λ here. other.0 (here ∙ last)) clear)
     ])
   where
-    by : (c : Change) (j : KeptSlot) → Some j ≡ Some k → bit_at (asked new c) place ≡ 0
+    by : (c : Change) (j : KeptSlot) → Some j ≡ Some k → bit_at (slots_for new c) place ≡ 0
         → TellsNothing j.held.query c
     by c j same clear = subst (λ q. TellsNothing q c) (query-of same) (w.0 c clear)
 
@@ -241,14 +243,14 @@ watched-committed w told xs ys does watched = λ c i k at clear.
     there i p at = slice_get-map kept_slot xs i ∙ ap (option_map kept_slot) at
 
     from : (c : Change) (i : ℕ) (q : PreparedSlot) → CameFrom told xs i q
-        → bit_at (asked w c) i ≡ 0 → TellsNothing q.sub.held.query c
+        → bit_at (slots_for w c) i ≡ 0 → TellsNothing q.sub.held.query c
     from c i q (inl h) clear = subst (λ p. TellsNothing p c)
         (sym (committed-query h.0) ∙ ap (λ (r : PreparedSlot). r.sub.held.query) h.3)
         (watched c i (slot_of h.0) (there i h.0 h.2) clear)
     from c i q (inr at) clear = watched c i (slot_of q) (there i q at) clear
 
     by : (c : Change) (i : ℕ) (k : KeptSlot) (o : Option (Option PreparedSlot))
-        → slice_get ys i ≡ o → option_map kept_slot o ≡ Some (Some k) → bit_at (asked w c) i ≡ 0
+        → slice_get ys i ≡ o → option_map kept_slot o ≡ Some (Some k) → bit_at (slots_for w c) i ≡ 0
         → TellsNothing k.held.query c
     by c i k None at is clear = absurd (let no : ⊥ = cc in no)
     by c i k (Some None) at is clear = absurd (let no : ⊥ = cc in no)

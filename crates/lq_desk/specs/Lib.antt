@@ -1,7 +1,7 @@
 pub mod Slot
 pub mod Words
 pub mod Act
-pub mod Kept
+pub mod DeskState
 pub mod Reply
 pub mod KeptTurn
 pub mod Turn

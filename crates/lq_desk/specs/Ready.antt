@@ -8,7 +8,7 @@ use Rattle.lq_desk_world.specs.Turns.{turn_outcome}
 use Rattle.lq_desk_world.specs.World.{World}
 use Rattle.lq_desk_sub.specs.Held.{next_parcel}
 use Rattle.lq_desk.specs.Slot.{KeptSlot, is_ending, passes}
-use Rattle.lq_desk.specs.Kept.{Kept}
+use Rattle.lq_desk.specs.DeskState.{DeskState}
 use Rattle.lq_desk.specs.KeptTurn.{kept_turn_outcome}
 
 -- a read gave a message or the mark, and neither `Empty` nor `Ended`
@@ -25,7 +25,7 @@ TellsReady w word = (slot : ℕ) → 1 ≤ slot
 -- ---- the same by what is kept
 
 -- that of the turns by what is kept
-abbrev pub TellsParcels : Kept → ℕ → Type 0
+abbrev pub TellsParcels : DeskState → ℕ → Type 0
 TellsParcels k word = (slot : ℕ) → 1 ≤ slot
     → (bit_at word (slot - 1) == 1) ≡ is_parcel (kept_turn_outcome k (Take slot)).0
 

@@ -7,7 +7,7 @@ use Rattle.lq_volume.specs.State.{State}
 use Rattle.lq_update.specs.declared.parcel.Parcel.{Parcel}
 use Rattle.lq_update.specs.declared.mark.Cause.TheVariants.{Closed, HungUp}
 use Rattle.lq_desk_world.specs.Events.{Answer, Moved, Took, Empty, Ended, Asked, Noticed, Shut, Finished, Refused}
-use Rattle.lq_desk_sub.specs.Held.{Held, Prepared, opened_with, is_live, held_after, committed, ended_by, next_parcel, without}
+use Rattle.lq_desk_sub.specs.Held.{Held, Prepared, opened_with, is_live, held_after, committed, ended_by, next_parcel, without_parcel}
 
 -- the subscription, the number of places of its port, the parcels in it, and whether its end was
 -- asked for
@@ -56,8 +56,14 @@ committed_slot p = if is_live p.sub.held then record p { sub = committed p.sub }
 
 -- a put of the next parcel, if there is one and the port has room
 abbrev pub put_if : KeptSlot → Bool → Option Parcel → Answer × Option KeptSlot
-put_if k true (Some p) =
-    (Moved true, Some (record k { held = without k.held (Some p); queue = k.queue ++ p ∷ [] }))
+put_if k true (Some p) = (
+  Moved true,
+  Some (record k {
+    held = without_parcel k.held (Some p);
+    queue =
+        k.queue ++ p ∷ [];
+  }),
+)
 put_if k true None = (Moved false, Some k)
 put_if k false o = (Moved false, Some k)
 

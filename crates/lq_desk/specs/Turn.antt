@@ -4,7 +4,7 @@ use Rattle.lq_desk_world.specs.World.{World}
 use Rattle.lq_desk_world.specs.declared.event.Event.{Event}
 use Rattle.lq_desk_world.specs.Events.{Answer, Refused, next, outcome}
 use Rattle.lq_desk_world.specs.Runs.{Run}
-use Rattle.lq_desk_world.specs.Turns.{Turn, ports_of, turn_of, events_in, after_all}
+use Rattle.lq_desk_world.specs.Turns.{Turn, ports_of, turn_of, events_in, after_events}
 
 -- a turn is a run of its events, and its answer is the answer to its own event
 pub record TurnRuns (w : World) (e : Event) (a : Answer) (v : World) : Type 0 where
@@ -22,7 +22,8 @@ stepped w e a = next w e
 
 -- the same of a turn
 abbrev pub carried_to : World → Turn → Answer → World
-carried_to w t a = after_all outcome (stepped (after_all outcome w t.before) t.event a) t.after
+carried_to w t a = after_events outcome (stepped (after_events outcome w t.before) t.event
+    a) t.after
 
 abbrev pub turned : World → Event → Answer → World
 turned w e a = carried_to w (turn_of (ports_of w) e) a

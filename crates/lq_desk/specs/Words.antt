@@ -5,9 +5,9 @@ use Rattle.std.specs.Option.{option_map}
 use Rattle.lq_volume.specs.declared.change.Change.{Change}
 use Rattle.lq_volume.specs.State.{State}
 use Rattle.lq_desk_sub.specs.declared.watch.Watch.{Watch}
-use Rattle.lq_desk_sub.specs.Held.{is_live, messages_of}
+use Rattle.lq_desk_sub.specs.Held.{is_live, messages_due}
 use Rattle.lq_desk_sub.specs.Passing.{TellsNothing}
-use Rattle.lq_desk_sub.specs.Watch.{asked}
+use Rattle.lq_desk_sub.specs.Watch.{slots_for}
 use Rattle.lq_desk.specs.Slot.{KeptSlot, PreparedSlot, can_move, committed_slot, is_ending}
 
 -- the bit of each slot that passes a test is set
@@ -39,27 +39,28 @@ PassOver c word ks = (i : ℕ) (k : KeptSlot) → slice_get ks i ≡ Some (Some 
 
 -- no change has a message for a slot that isn't to be asked for it
 abbrev pub AreWatched : Watch → List (Option KeptSlot) → Type 0
-AreWatched w ks = (c : Change) → PassOver c (asked w c) ks
+AreWatched w ks = (c : Change) → PassOver c (slots_for w c) ks
 
 -- the messages of a change are made in the slot
 pub record AreMadeIn (s : State) (c : Change) (p : PreparedSlot) : Type 0 where
-  pub ready : p.sub.ready ≡ messages_of s c p.sub.held
+  pub ready : p.sub.ready ≡ messages_due s c p.sub.held
   pub before : p.sub.before ≡ s.number
 
 -- a slot that was asked for the messages of a change: whether it has some, which are made then
 pub record IsAsked (s : State) (c : Change) (any : Bool) (slot : Option PreparedSlot) : Type 0 where
   pub some : (p : PreparedSlot) → slot ≡ Some p → any ≡ true → AreMadeIn s c p
   pub none : (p : PreparedSlot) → slot ≡ Some p → is_live p.sub.held ≡ true → any ≡ false
-      → messages_of s c p.sub.held ≡ []
+      → messages_due s c p.sub.held ≡ []
 
 -- the messages of a change are made in the slot, if its bit is set; else the change has none for it
-abbrev pub IsReady : State → Change → ℕ → PreparedSlot → Type 0
-IsReady s c bit p = ((bit ≡ 1) × AreMadeIn s c p) ⊎ ((bit ≡ 0) × (messages_of s c p.sub.held ≡ []))
+abbrev pub IsReadyByBit : State → Change → ℕ → PreparedSlot → Type 0
+IsReadyByBit s c bit p = ((bit ≡ 1) × AreMadeIn s c p)
+    ⊎ ((bit ≡ 0) × (messages_due s c p.sub.held ≡ []))
 
 -- that of each live slot
 abbrev pub AreReady : State → Change → ℕ → List (Option PreparedSlot) → Type 0
 AreReady s c told slots = (i : ℕ) (p : PreparedSlot) → slice_get slots i ≡ Some (Some p)
-    → is_live p.sub.held ≡ true → IsReady s c (bit_at told i) p
+    → is_live p.sub.held ≡ true → IsReadyByBit s c (bit_at told i) p
 
 -- the slots whose bit is set are committed, and the others are as they were
 abbrev pub AreCommitted : ℕ → List (Option PreparedSlot) → List (Option PreparedSlot) → Type 0

@@ -48,7 +48,7 @@ impl Drop for Desk {
 
 impl Model for Desk {
     ghost use Rattle.lq_desk_world.specs.World.{World};
-    ghost use Rattle.lq_desk.specs.Kept.{Shows};
+    ghost use Rattle.lq_desk.specs.DeskState.{Shows};
     ghost use Rattle.std.specs.Coded.{codes};
     ghost use Rattle.lq_predicate.specs.QueryCode.{coded_query};
 
@@ -99,7 +99,7 @@ impl Desk {
     {
         kept_shows_worlds();
         refusals_leave_worlds();
-        let reply = self.engine.carry_out(event);
+        let reply = self.engine.answer_event(event);
         self.witness = Witness::step(&self.witness, event, &reply);
         reply
     }

@@ -22,7 +22,7 @@ const MAX_PORT: u64 = 1024;
 
 /// The volume and its live queries with their ports; it takes one event at a time.
 ///
-/// Contracts see it as the state that it keeps (`Kept`).
+/// Contracts see it as the state that it keeps (`DeskState`).
 pub struct Engine {
     volume: Volume,
     openings: u64,
@@ -45,12 +45,12 @@ impl Drop for Engine {
 impl Model for Engine {
     ghost use Rattle.std.specs.Prelude.{map};
     ghost use Rattle.std.specs.Option.{option_map};
-    ghost use Rattle.lq_desk.specs.Kept.{Kept, IsKept};
+    ghost use Rattle.lq_desk.specs.DeskState.{DeskState, IsKept};
     ghost use Rattle.lq_desk.specs.Slot.{slot_of};
     ghost use Rattle.std.specs.Coded.{codes};
     ghost use Rattle.lq_predicate.specs.QueryCode.{coded_query};
 
-    ghost Value = { Kept };
+    ghost Value = { DeskState };
 
     ghost coded = { Prim.hlevel (codes, coded_query) };
 
@@ -71,8 +71,8 @@ impl Engine {
     ghost use Rattle.lq_volume.specs.Result.{result_of};
     ghost use Rattle.lq_desk_world.specs.Events.{Opened};
     ghost use Rattle.lq_desk.specs.Slot.{fresh_slot};
-    ghost use Rattle.lq_desk.specs.Kept.{KeptStep, changed, opened, opening_refusal, kept_act};
-    ghost use Rattle.lq_desk.specs.Kept as kept;
+    ghost use Rattle.lq_desk.specs.DeskState.{KeptStep, changed, opened, opening_refusal, kept_act};
+    ghost use Rattle.lq_desk.specs.DeskState as kept;
     ghost use Rattle.lq_desk.specs.Reply.{answer_of};
 
     /// One over a volume, with 64 free slots. Refused: `NoMemory`.
@@ -97,7 +97,7 @@ impl Engine {
     }
 
     /// Carries out one event and answers it.
-    pub fn carry_out(&mut self, event: &Event) -> Reply
+    pub fn answer_event(&mut self, event: &Event) -> Reply
         ensures { KeptStep self.old event.now (answer_of result) self.new }
     {
         match event {

@@ -2,20 +2,20 @@
 //!
 //! Contracts see a desk as a world of lq_desk_world: a book of changes and the subscriptions over
 //! it. No code holds that world (`witness`). What the code keeps is what it would keep for that
-//! world (`specs/Kept`): the volume, and of each subscription what wasn't read yet, as lq_desk_sub
-//! shows it, with what is in its port (`specs/Slot`). Nothing here waits. Begin with `event` of
-//! lq_desk_world, then `desk`.
+//! world (`specs/DeskState`): the volume, and of each subscription what wasn't read yet, as
+//! lq_desk_sub shows it, with what is in its port (`specs/Slot`). Nothing here waits. Begin with
+//! `event` of lq_desk_world, then `desk`.
 #![tactic(auto)]
 
+mod bits;
 mod desk;
 mod engine;
 mod laws;
 mod reply;
 mod slot;
+mod slot_list;
 mod slots;
-mod stored;
 mod witness;
-mod word;
 
 pub use desk::Desk;
 pub use laws::desks_may_be_sent;

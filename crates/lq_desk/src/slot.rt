@@ -3,7 +3,7 @@ ghost use Rattle.std.specs.Prelude.{◌≡◌, ◌<◌, ◌≤◌, ◌^◌, ◌-
 ghost use Rattle.lq_value.specs.Refusal.{FailsOnlyForMemory};
 ghost use Rattle.std.specs.Option.{option_map};
 ghost use Rattle.lq_desk.specs.Slot.{slot_of, committed_slot, can_move, close_slot, filled, is_ending, noticed, passes};
-ghost use Rattle.lq_desk.specs.Kept.{IsFew};
+ghost use Rattle.lq_desk.specs.DeskState.{IsFew};
 ghost use Rattle.lq_desk.specs.Act.{act_of, outcome_at};
 ghost use Rattle.lq_desk.specs.Ready.{has_parcel};
 ghost use Rattle.lq_desk.specs.Reply.{answer_of};

@@ -7,17 +7,17 @@ ghost use Rattle.lq_volume.specs.declared.change.Change.{Change};
 ghost use Rattle.lq_volume.specs.State.{State};
 ghost use Rattle.lq_desk.specs.Slot.{slot_of, slot_after, filled, noticed};
 ghost use Rattle.lq_desk.specs.Words.{AreReady};
-ghost use Rattle.lq_desk.specs.Kept.{IsFew, first_free};
+ghost use Rattle.lq_desk.specs.DeskState.{IsFew, first_free};
 ghost use Rattle.lq_desk.specs.Act.{act_of, close_turn, outcome_of, read_turn};
 ghost use Rattle.lq_desk.specs.Ready.{MarksParcels};
 ghost use Rattle.lq_desk.specs.Reply.{answer_of};
 
+use crate::bits::{has_bit, lowest_bit, with_bit, without_bit};
 use crate::reply::Reply;
 use crate::slot::{Slot, notice_at};
-use crate::stored::{
+use crate::slot_list::{
     act_in, can_move_in, close_in, first_free, is_ending_in, occupy, parcels_in, read_in,
 };
-use crate::word::{has_bit, lowest_bit, with_bit, without_bit};
 use lq_desk_sub::Watch;
 use lq_desk_world::Act;
 use lq_value::Refusal;
@@ -109,7 +109,7 @@ impl Slots {
         ensures kept { map (option_map slot_of) self.new ≡ map (option_map slot_of) self.old }
     {
         // A slot without a bit here has no message of this change.
-        let mut rest = self.watch.asked(planned.change());
+        let mut rest = self.watch.slots_for(planned.change());
         // For its clauses `lawful` and `volume`.
         let _ = planned.applied();
         let mut told = 0;
@@ -121,7 +121,7 @@ impl Slots {
             if place < self.stored.len()
                 && let Some(there) = &mut self.stored[place]
                 && there.sub.is_live()
-                && there.sub.ready_if_told(planned)?
+                && there.sub.prepare_if_any(planned)?
             {
                 told = with_bit(told, place, true);
             }

@@ -10,19 +10,20 @@ use Rattle.lq_volume.specs.declared.change.Change.{Change}
 use Rattle.lq_volume.specs.State.{State, IsVolume}
 use Rattle.lq_update.specs.Laws.{ChangesPassOver, names_altered}
 use Rattle.lq_update.specs.Updates.{numbered, step_of}
-use Rattle.lq_desk_sub.specs.Passing.{is_among, are_apart, passes_over}
+use Rattle.lq_desk_sub.specs.Passing.{is_name_among, are_apart, passes_over}
 
 -- none of the names that are apart is one of the others
-none-among : (names altered : List (List ℕ)) → list_any (is_among names) altered ≡ false
+none-among : (names altered : List (List ℕ)) → list_any (is_name_among names) altered ≡ false
     → AllByRecursion (λ name. list_any (bytes_eq name) names ≡ false) altered
 none-among names [] h = tt
 none-among names (one ∷ altered) h =
-    by (is_among names one) refl h (λ more. none-among names altered more)
+    by (is_name_among names one) refl h (λ more. none-among names altered more)
   where
-    by : (b : Bool) → is_among names one ≡ b → (b || list_any (is_among names) altered) ≡ false
-        → (list_any (is_among names) altered ≡ false
+    by : (b : Bool) → is_name_among names one ≡ b
+        → (b || list_any (is_name_among names) altered) ≡ false
+        → (list_any (is_name_among names) altered ≡ false
         → AllByRecursion (λ name. list_any (bytes_eq name) names ≡ false) altered)
-        → (is_among names one ≡ false)
+        → (is_name_among names one ≡ false)
         × AllByRecursion (λ name. list_any (bytes_eq name) names ≡ false) altered
     by true is h more = absurd (let bad : ⊥ = cc in bad)
     by false is h more = (is, more h)
@@ -42,7 +43,7 @@ step-empty over names q moved s c n v h = by (names_altered c) refl h
         → step_of q moved s c n ≡ []
     by None is h = absurd (let bad : ⊥ = cc in bad)
     by (Some altered) is h =
-        let apart : list_any (is_among (names_of q)) altered ≡ false =
-        flip (list_any (is_among (names_of q)) altered) h in
+        let apart : list_any (is_name_among (names_of q)) altered ≡ false =
+        flip (list_any (is_name_among (names_of q)) altered) h in
         ap (numbered n (s.number + 1)) (over q moved s c (names_of q) altered v (names q) is
         (none-among (names_of q) altered apart))

@@ -13,8 +13,8 @@ use Rattle.lq_volume.specs.declared.change.Change.TheVariants.{Create, Remove, M
 use Rattle.lq_update.specs.Laws.{BareCreatesTellNothing}
 use Rattle.lq_desk_sub.specs.declared.watch.Watch.{Watch}
 use Rattle.lq_desk_sub.specs.Laws.{PassedTellNothing}
-use Rattle.lq_desk_sub.specs.Passing.{HasEndings, TellsNothing, are_written, ending_of, is_among}
-use Rattle.lq_desk_sub.specs.Watch.{PutsBit, asked}
+use Rattle.lq_desk_sub.specs.Passing.{HasEndings, TellsNothing, are_written, ending_of, is_name_among}
+use Rattle.lq_desk_sub.specs.Watch.{PutsBit, slots_for}
 
 -- two numbers are the same, or they aren't
 which : (i j : ℕ) → (i ≡ j) ⊎ (i ≢ j)
@@ -98,10 +98,10 @@ unset word place true set clear = absurd (omega (arith, set refl, clear))
 
 -- a name whose ending has no bit isn't among the names
 not-among : (names : List (List ℕ)) (endings : ℕ) (name : List ℕ) → HasEndings names endings
-    → (bit_at endings (ending_of name) == 1) ≡ false → is_among names name ≡ false
-not-among names endings name has clear = by (is_among names name) refl
+    → (bit_at endings (ending_of name) == 1) ≡ false → is_name_among names name ≡ false
+not-among names endings name has clear = by (is_name_among names name) refl
   where
-    by : (b : Bool) → is_among names name ≡ b → is_among names name ≡ false
+    by : (b : Bool) → is_name_among names name ≡ b → is_name_among names name ≡ false
     by false is = is
     by true is =
         let one = has name is in
@@ -123,7 +123,7 @@ module _ (law : PassedTellNothing) (bare : BareCreatesTellNothing) (q : Query) (
 
     -- a name of an attribute
     attr-here : (name : List ℕ) → bit_at (slice_index new.attrs (ending_of name)) place ≡ 0
-        → is_among (names_of q) name ≡ false
+        → is_name_among (names_of q) name ≡ false
     attr-here name clear = not-among (names_of q) endings name has
         (unset _ place _ (word-set name).here clear)
 
@@ -133,9 +133,9 @@ module _ (law : PassedTellNothing) (bare : BareCreatesTellNothing) (q : Query) (
     over true is = absurd (let no : ⊥ = cc in no)
 
     -- a change of an attribute of another name
-    passed : (name : List ℕ) → is_among (names_of q) name ≡ false
-        → not (list_any (is_among (names_of q)) (name ∷ [])) ≡ true
-    passed name none = over (is_among (names_of q) name) none
+    passed : (name : List ℕ) → is_name_among (names_of q) name ≡ false
+        → not (list_any (is_name_among (names_of q)) (name ∷ [])) ≡ true
+    passed name none = over (is_name_among (names_of q) name) none
 
     -- what isn't false is true
     needed : (b : Bool) → not b ≡ false → b ≡ true
@@ -143,7 +143,7 @@ module _ (law : PassedTellNothing) (bare : BareCreatesTellNothing) (q : Query) (
     needed false is = absurd (let no : ⊥ = cc in no)
 
     -- a change whose bit is clear has no message
-    pub watch-here : (c : Change) → bit_at (asked new c) place ≡ 0 → TellsNothing q c
+    pub watch-here : (c : Change) → bit_at (slots_for new c) place ≡ 0 → TellsNothing q c
     watch-here (Create dir name kind size time) clear = λ moved s seq volume lawful.
         bare q moved s dir name kind size time seq volume lawful
         (needed (needs_attribute q) (unset _ place (not (needs_attribute q)) creates.here clear))
@@ -157,8 +157,8 @@ module _ (law : PassedTellNothing) (bare : BareCreatesTellNothing) (q : Query) (
         law q (RemoveAttr node attr) (passed attr (attr-here attr clear))
 
     -- no other bit is cleared
-    pub watch-others : (c : Change) (i : ℕ) → i ≢ place → bit_at (asked new c) i ≡ 0
-        → bit_at (asked old c) i ≡ 0
+    pub watch-others : (c : Change) (i : ℕ) → i ≢ place → bit_at (slots_for new c) i ≡ 0
+        → bit_at (slots_for old c) i ≡ 0
     watch-others (Create dir name kind size time) = creates.others
     watch-others (Remove node) = all.others
     watch-others (Move node dir name clobber) = all.others

@@ -75,21 +75,21 @@ abbrev pub after_messages : Held → List Message → ℕ → Held
 after_messages h messages before = after_messages_by h messages before (overruns h messages)
 
 -- the messages that a change to the state has for the subscription
-abbrev pub messages_of : State → Change → Held → List Message
-messages_of s c h = step_of h.query h.moved s c (h.sent + 1)
+abbrev pub messages_due : State → Change → Held → List Message
+messages_due s c h = step_of h.query h.moved s c (h.sent + 1)
 
 -- a live subscription after a change to the state
 abbrev pub held_after : State → Change → Held → Held
-held_after s c h = after_messages h (messages_of s c h) s.number
+held_after s c h = after_messages h (messages_due s c h) s.number
 
 -- with the messages of the change made ready
 abbrev pub prepared : State → Change → Prepared → Prepared
-prepared s c p = record p { ready = messages_of s c p.held; before = s.number }
+prepared s c p = record p { ready = messages_due s c p.held; before = s.number }
 
 -- If the change has messages, they are made ready; if it has none, what is held stays, and what was
 -- made ready before is of no use.
 pub record IsReadied (s : State) (c : Change) (told : Bool) (old new : Prepared) : Type 0 where
-  pub any : told ≡ nat_lt 0 (length (messages_of s c old.held))
+  pub any : told ≡ nat_lt 0 (length (messages_due s c old.held))
   pub ready : told ≡ true → new ≡ prepared s c old
   pub held : new.held ≡ old.held
   pub lent : new.lent ≡ old.lent
@@ -116,10 +116,10 @@ abbrev pub next_parcel : Held → Option Parcel
 next_parcel h = next_of h.messages h.mark h.mark_out
 
 -- without the parcel that goes out
-abbrev pub without : Held → Option Parcel → Held
-without h None = h
-without h (Some (Update m)) = record h { messages = drop 1 h.messages }
-without h (Some (Fin mark)) = record h { mark_out = true }
+abbrev pub without_parcel : Held → Option Parcel → Held
+without_parcel h None = h
+without_parcel h (Some (Update m)) = record h { messages = drop 1 h.messages }
+without_parcel h (Some (Fin mark)) = record h { mark_out = true }
 
 -- with a parcel put back
 abbrev pub with_back : Held → Parcel → Held

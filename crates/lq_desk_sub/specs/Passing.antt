@@ -12,17 +12,17 @@ use Rattle.lq_update.specs.Laws.{names_altered}
 use Rattle.lq_update.specs.Updates.{step_of}
 
 -- whether one of these names is among the others
-abbrev pub is_among : List (List ℕ) → List ℕ → Bool
-is_among names name = list_any (bytes_eq name) names
+abbrev pub is_name_among : List (List ℕ) → List ℕ → Bool
+is_name_among names name = list_any (bytes_eq name) names
 
 -- whether the altered names are known, and none of them is among these
 abbrev pub are_apart : List (List ℕ) → Option (List (List ℕ)) → Bool
 are_apart names None = false
-are_apart names (Some altered) = not (list_any (is_among names) altered)
+are_apart names (Some altered) = not (list_any (is_name_among names) altered)
 
 -- whether a write alters what an entry shows under one of these names
 abbrev pub are_written : List (List ℕ) → Bool
-are_written names = list_any (is_among names) (codes "size" ∷ codes "last_modified" ∷ [])
+are_written names = list_any (is_name_among names) (codes "size" ∷ codes "last_modified" ∷ [])
 
 -- whether the change alters only values, and none under these names
 abbrev pub passes_over : List (List ℕ) → Change → Bool
@@ -34,7 +34,7 @@ ending_of name = option_map_or (λ byte. byte % 64) (slice_get name (length name
 
 -- the word has a bit for the ending of each of these names
 abbrev pub HasEndings : List (List ℕ) → ℕ → Type 0
-HasEndings names word = (name : List ℕ) → is_among names name ≡ true
+HasEndings names word = (name : List ℕ) → is_name_among names name ≡ true
     → bit_at word (ending_of name) ≡ 1
 
 -- the change has no message for the query, whatever state it is made to

@@ -7,13 +7,13 @@ use Rattle.lq_desk_sub.specs.declared.watch.Watch.{Watch}
 use Rattle.lq_desk_sub.specs.Passing.{ending_of}
 
 -- the word of the subscriptions that a change may have messages for
-abbrev pub asked : Watch → Change → ℕ
-asked w (Create dir name kind size time) = w.creates
-asked w (Remove node) = w.all
-asked w (Move node dir name clobber) = w.all
-asked w (Write node size time) = w.writes
-asked w (SetAttr node attr value) = slice_index w.attrs (ending_of attr)
-asked w (RemoveAttr node attr) = slice_index w.attrs (ending_of attr)
+abbrev pub slots_for : Watch → Change → ℕ
+slots_for w (Create dir name kind size time) = w.creates
+slots_for w (Remove node) = w.all
+slots_for w (Move node dir name clobber) = w.all
+slots_for w (Write node size time) = w.writes
+slots_for w (SetAttr node attr value) = slice_index w.attrs (ending_of attr)
+slots_for w (RemoveAttr node attr) = slice_index w.attrs (ending_of attr)
 
 -- the bit at an index is set, if `is_set`; no other bit is cleared
 pub record PutsBit (old place : ℕ) (is_set : Bool) (new : ℕ) : Type 0 where

@@ -3,17 +3,17 @@
 //!
 //! Contracts see how it was opened, the messages that it holds and its mark (`specs/Held`). The
 //! desk puts its parcels into its own port, the server for threads into a shared one. Nothing here
-//! waits. Begin with `sub`, then `telling`, then `watch`.
+//! waits. Begin with `sub`, then `prepare_commit`, then `watch`.
 #![tactic(auto)]
 
+mod bits;
 mod laws;
 mod live_query;
 mod messages;
+mod prepare_commit;
 mod read;
 mod sub;
-mod telling;
 mod watch;
-mod word;
 
 pub use laws::putting_back_undoes;
 pub use read::Read;

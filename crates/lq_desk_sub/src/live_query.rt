@@ -7,12 +7,12 @@ ghost use Rattle.lq_volume.specs.State.{record_at};
 ghost use Rattle.lq_volume.specs.Change.{after, node_of};
 ghost use Rattle.lq_update.specs.Touched.{is_match};
 ghost use Rattle.lq_update.specs.Updates.{step_of};
-ghost use Rattle.lq_desk_sub.specs.Passing.{HasEndings, are_written, ending_of, is_among, passes_over};
+ghost use Rattle.lq_desk_sub.specs.Passing.{HasEndings, are_written, ending_of, is_name_among, passes_over};
 
+use crate::bits::{has_bit, with_bit};
 use crate::laws::passed_changes_tell_nothing;
-use crate::word::{has_bit, with_bit};
 use lq_predicate::{Predicate, Spans, names, needs_attribute};
-use lq_update::{matches_of, writes_beside};
+use lq_update::{matches_of, writes_cross_no_number};
 use lq_value::{AttrName, Refusal, same_text};
 use lq_volume::{Change, Planned};
 use std::alloc::Global;
@@ -105,7 +105,7 @@ impl LiveQuery {
     /// Whether the query matches the entry of a change's own node before the change, and after it,
     /// if the change may have messages for the query. It takes no memory.
     #[inline(always)]
-    pub fn asked(&self, planned: &Planned<'_>) -> Option<(bool, bool)>
+    pub fn matches_around(&self, planned: &Planned<'_>) -> Option<(bool, bool)>
         ensures none { (moved : Bool) → (seq : ℕ) → IfNone result (step_of self.now moved
             planned.now.before planned.now.change seq ≡ []) }
         ensures before { IfSome result (λ asked. asked.0 ≡ is_match self.now
@@ -117,11 +117,11 @@ impl LiveQuery {
         passed_changes_tell_nothing();
         // For its clauses `lawful` and `volume`.
         let _ = planned.applied();
-        if self.looks_elsewhere(planned.change()) || writes_beside(&self.spans, planned) {
+        if self.looks_elsewhere(planned.change()) || writes_cross_no_number(&self.spans, planned) {
             return None;
         }
         let matches = matches_of(&self.predicate, planned);
-        if matches.may_tell() {
+        if matches.may_have_messages() {
             Some((matches.matched_before, matches.matches_after))
         } else {
             None
@@ -145,7 +145,7 @@ impl LiveQuery {
     // Whether a name is one of the query's. Most that aren't have another ending.
     #[inline(always)]
     fn sees(&self, name: &str) -> bool
-        ensures { result ≡ is_among (names_of self.now) name.now }
+        ensures { result ≡ is_name_among (names_of self.now) name.now }
     {
         if !has_bit(self.endings, ending_of(name)) {
             return false;
@@ -187,7 +187,7 @@ fn are_written(names: &[AttrName]) -> bool
 // Whether a name is one of these.
 #[inline(never)]
 fn is_among(names: &[AttrName], name: &str) -> bool
-    ensures { result ≡ is_among names.now name.now }
+    ensures { result ≡ is_name_among names.now name.now }
 {
     names.iter().any(|other| same_text(name, other.as_str()))
 }

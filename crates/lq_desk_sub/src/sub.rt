@@ -71,7 +71,7 @@ impl Model for Sub {
 }
 
 impl Sub {
-    ghost use Rattle.lq_desk_sub.specs.Held.{Prepared, opened_with, is_live, ended_by, next_parcel, without, with_back, fits_back};
+    ghost use Rattle.lq_desk_sub.specs.Held.{Prepared, opened_with, is_live, ended_by, next_parcel, without_parcel, with_back, fits_back};
 
     /// A live subscription that holds no message, opened after `at` changes. Refused: `NoMemory`.
     pub fn new(
@@ -160,7 +160,7 @@ impl Sub {
     /// made ready for a change stay. It takes no memory.
     pub fn next(&mut self) -> Option<Parcel>
         ensures value { result ≡ next_parcel self.old.held }
-        ensures rest { self.new.held ≡ without self.old.held (next_parcel self.old.held) }
+        ensures rest { self.new.held ≡ without_parcel self.old.held (next_parcel self.old.held) }
         ensures room { IfSome result (λ parcel. IsTrue (fits_back self.new.lent parcel)) }
         ensures sent { self.new.held.sent ≡ self.old.held.sent }
         ensures mark { self.new.held.mark ≡ self.old.held.mark }

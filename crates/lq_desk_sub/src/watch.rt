@@ -3,12 +3,12 @@ ghost use Rattle.std.specs.Prelude.{◌≡◌, ◌≢◌, ◌<◌, ℕ};
 ghost use Rattle.std.specs.Int.{bit_at};
 ghost use Rattle.lq_volume.specs.declared.change.Change.{Change};
 ghost use Rattle.lq_desk_sub.specs.Passing.{TellsNothing};
-ghost use Rattle.lq_desk_sub.specs.Watch.{asked};
+ghost use Rattle.lq_desk_sub.specs.Watch.{slots_for};
 
+use crate::bits::{has_bit, put_bit};
 use crate::laws::passed_changes_tell_nothing;
 use crate::live_query::ending_of;
 use crate::sub::Sub;
-use crate::word::{has_bit, put_bit};
 use lq_update::bare_creates_tell_nothing;
 use lq_volume::Change;
 
@@ -46,10 +46,10 @@ impl Watch {
     /// memory.
     pub fn set(&mut self, place: usize, sub: &Sub)
         requires { place < 64 }
-        ensures here { (c : Change) → bit_at (asked self.new c) place ≡ 0
+        ensures here { (c : Change) → bit_at (slots_for self.new c) place ≡ 0
             → TellsNothing sub.now.held.query c }
-        ensures others { (c : Change) (i : ℕ) → i ≢ place → bit_at (asked self.new c) i ≡ 0
-            → bit_at (asked self.old c) i ≡ 0 }
+        ensures others { (c : Change) (i : ℕ) → i ≢ place → bit_at (slots_for self.new c) i ≡ 0
+            → bit_at (slots_for self.old c) i ≡ 0 }
     {
         passed_changes_tell_nothing();
         bare_creates_tell_nothing();
@@ -66,8 +66,8 @@ impl Watch {
     /// A word with a bit for each subscription that a change may have messages for. It takes no
     /// memory.
     #[inline(always)]
-    pub fn asked(&self, change: &Change) -> u64
-        ensures { result ≡ asked self.now change.now }
+    pub fn slots_for(&self, change: &Change) -> u64
+        ensures { result ≡ slots_for self.now change.now }
     {
         match change {
             Change::Create { .. } => self.creates,

@@ -10,7 +10,7 @@ use Rattle.lq_volume.specs.declared.change.Change.{Change as Change_}
 use Rattle.lq_volume.specs.Change.{refused as refused_by}
 use Rattle.lq_volume.specs.Book.{grown, state_of}
 use Rattle.lq_update.specs.Laws.{UpdatesJoin}
-use Rattle.lq_desk_world.specs.World.{World, Subscribed, is_over, slot_at, with_slot, after_change}
+use Rattle.lq_desk_world.specs.World.{World, Subscribed, is_over, subscribed_at, with_slot, after_change}
 use Rattle.lq_desk_world.specs.declared.event.Event.{Event}
 use Rattle.lq_desk_world.specs.declared.event.Event.TheVariants.{Change, Open, Put, Take, HangUp, Notice, Close, Finish}
 use Rattle.lq_desk_world.specs.Events.{Answer, Changed, Opened, Moved, Took, Empty, Ended, Asked, Noticed, Shut, Finished, Refused, changing, opened_now, open_refusal, putting, reading, hanging_up, noticing, closing, finishing, finishing_if, at_slot, outcome}
@@ -37,18 +37,18 @@ read_other slot k a other =
 
 -- a read gives this slot's reads its answer, if it is of this slot
 reading-goes : (w : World) (i : ℕ) (s : Subscribed) (k : ℕ) → Stands w i s
-    → Goes w i s (read_by (i + 1) (Take k) (at_slot w k (slot_at w k) (reading w.book)).0)
-    (at_slot w k (slot_at w k) (reading w.book)).1
+    → Goes w i s (read_by (i + 1) (Take k) (at_slot w k (subscribed_at w k) (reading w.book)).0)
+    (at_slot w k (subscribed_at w k) (reading w.book)).1
 reading-goes w i s k h = elim (cases_eq k (i + 1)) [
   | inl own ↦
-      let v = (at_slot w k (slot_at w k) (reading w.book)).1 in
-      let answered : (at_slot w k (slot_at w k) (reading w.book)).0 ≡ (reading w.book s).0 =
+      let v = (at_slot w k (subscribed_at w k) (reading w.book)).1 in
+      let answered : (at_slot w k (subscribed_at w k) (reading w.book)).0 ≡ (reading w.book s).0 =
       ap (λ o. (at_slot w k o (reading w.book)).0) (slot_here w i s k h.here own) in
       subst (λ (xs : List Answer). Goes w i s xs v)
       (sym (read_own (i + 1) k _ own ∙ ap (λ a. a ∷ []) answered))
       (own_event w i s k (reading w.book) _ h own (reading-leaves w.book s h.fair))
   | inr other ↦
-      let v = (at_slot w k (slot_at w k) (reading w.book)).1 in
+      let v = (at_slot w k (subscribed_at w k) (reading w.book)).1 in
       subst (λ (xs : List Answer). Goes w i s xs v) (sym (read_other (i + 1) k _ other))
       (other_event w i s k (reading w.book) h other)
 ]
@@ -71,8 +71,8 @@ frees_other slot k (Refused r) other = refl
 
 -- a finish leaves this slot's reads, or frees the slot
 finishing-goes : (w : World) (i : ℕ) (s : Subscribed) (k : ℕ) → Stands w i s
-    → Passes w i s (Finish k) (at_slot w k (slot_at w k) (finishing w.book)).0
-    (at_slot w k (slot_at w k) (finishing w.book)).1
+    → Passes w i s (Finish k) (at_slot w k (subscribed_at w k) (finishing w.book)).0
+    (at_slot w k (subscribed_at w k) (finishing w.book)).1
 finishing-goes w i s k h = elim (cases_eq k (i + 1)) [
   | inl own ↦
       subst

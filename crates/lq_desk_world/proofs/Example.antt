@@ -14,7 +14,7 @@ use Rattle.lq_update.specs.declared.message.Opcode.TheVariants.{Created, Moved a
 use Rattle.lq_update.specs.declared.mark.Cause.TheVariants.{Closed, HungUp, Overrun}
 use Rattle.lq_update.specs.declared.parcel.Parcel.TheVariants.{Update, Fin}
 use Rattle.lq_desk_world.specs.Headline.{ReadersAreTold}
-use Rattle.lq_desk_world.specs.World.{World, Subscribed, first_world, slot_at}
+use Rattle.lq_desk_world.specs.World.{World, Subscribed, first_world, subscribed_at}
 use Rattle.lq_desk_world.specs.declared.event.Event.{Event}
 use Rattle.lq_desk_world.specs.declared.event.Event.TheVariants.{Change, Open, Put, Take, HangUp, Notice, Close, Finish}
 use Rattle.lq_desk_world.specs.Events.{Answer, Changed, Opened, Moved, Took, Empty, Ended, Asked, Noticed, Shut, Finished, Refused, answer, next}
@@ -203,7 +203,7 @@ put_until_still = (suc zero, (refl, (still, refl)))
 
 -- how many parcels were put for the subscription in slot 1
 abbrev put_count : World → ℕ
-put_count w = option_map_or (λ (s : Subscribed). s.put) (slot_at w 1) 0
+put_count w = option_map_or (λ (s : Subscribed). s.put) (subscribed_at w 1) 0
 
 -- to put nothing isn't that, where a message is left to put
 not_until_still : PutsUntilStill 1 told_once told_once → ⊥

@@ -14,7 +14,7 @@ use Rattle.lq_volume.specs.Change.{refused as refused_by}
 use Rattle.lq_volume.specs.Book.{Book, grown, number_of, state_of, state_at}
 use Rattle.lq_update.specs.Updates.{updates_of, updates_from}
 use Rattle.lq_update.specs.Laws.{UpdatesJoin}
-use Rattle.lq_desk_world.specs.World.{World, Subscribed, slot_at, taken_before_free, after_change}
+use Rattle.lq_desk_world.specs.World.{World, Subscribed, subscribed_at, taken_before_free, after_change}
 use Rattle.lq_desk_world.specs.declared.event.Event.{Event}
 use Rattle.lq_desk_world.specs.declared.event.Event.TheVariants.{Change, Open, Put, Take, HangUp, Notice, Close, Finish}
 use Rattle.lq_desk_world.specs.Events.{Answer, changing, opening, opened_now, open_refusal, putting, reading, hanging_up, noticing, closing, finishing, finishing_if, at_slot, outcome}
@@ -98,7 +98,7 @@ opened-fair w q port backlog moved may = record {
 }
 
 -- what is in a slot is at its place
-pub slot-found : (w : World) (slot : ℕ) (s : Subscribed) → slot_at w slot ≡ Some s
+pub slot-found : (w : World) (slot : ℕ) (s : Subscribed) → subscribed_at w slot ≡ Some s
     → slice_get w.slots (slot - 1) ≡ Some (Some s)
 slot-found w slot s is = by (slot == 0) (slice_get w.slots (slot - 1)) is
   where
@@ -120,7 +120,7 @@ left-fair b s reads o l = subst (λ (p : Option Subscribed). IsFairSlot b p)
 -- an event in one slot leaves a fair world fair, if it leaves that slot fair
 at_slot-fair : (w : World) (slot : ℕ) (event : Subscribed → Answer × Option Subscribed)
     → ((s : Subscribed) → IsFair w.book s → IsFairSlot w.book (event s).1) → IsFairWorld w
-    → (o : Option Subscribed) → slot_at w slot ≡ o → IsFairWorld (at_slot w slot o event).1
+    → (o : Option Subscribed) → subscribed_at w slot ≡ o → IsFairWorld (at_slot w slot o event).1
 at_slot-fair w slot event keeps h None is = h
 at_slot-fair w slot event keeps h (Some s) is = all-set (IsFairSlot w.book) w.slots (slot - 1) _ h
     (keeps s (all-get (IsFairSlot w.book) w.slots (slot - 1) (Some s) h (slot-found w slot s is)))
@@ -160,17 +160,17 @@ module _ (join : UpdatesJoin) where
       opening-fair w (opened_now w q port backlog moved) (open_refusal w port backlog)
       (λ none. opened-fair w q port backlog moved (may_open w port backlog none)) h
   outcome-fair w (Put k) h = at_slot-fair w k (putting w.book)
-      (λ s f. left-fair w.book s _ _ (putting-leaves w.book s f)) h (slot_at w k) refl
+      (λ s f. left-fair w.book s _ _ (putting-leaves w.book s f)) h (subscribed_at w k) refl
   outcome-fair w (Take k) h = at_slot-fair w k (reading w.book)
-      (λ s f. left-fair w.book s _ _ (reading-leaves w.book s f)) h (slot_at w k) refl
+      (λ s f. left-fair w.book s _ _ (reading-leaves w.book s f)) h (subscribed_at w k) refl
   outcome-fair w (HangUp k) h = at_slot-fair w k hanging_up
-      (λ s f. left-fair w.book s _ _ (hanging_up-leaves w.book s f)) h (slot_at w k) refl
+      (λ s f. left-fair w.book s _ _ (hanging_up-leaves w.book s f)) h (subscribed_at w k) refl
   outcome-fair w (Notice k) h = at_slot-fair w k (noticing w.book)
-      (λ s f. left-fair w.book s _ _ (noticing-leaves w.book s f)) h (slot_at w k) refl
+      (λ s f. left-fair w.book s _ _ (noticing-leaves w.book s f)) h (subscribed_at w k) refl
   outcome-fair w (Close k) h = at_slot-fair w k (closing w.book)
-      (λ s f. left-fair w.book s _ _ (closing-leaves w.book s f)) h (slot_at w k) refl
+      (λ s f. left-fair w.book s _ _ (closing-leaves w.book s f)) h (subscribed_at w k) refl
   outcome-fair w (Finish k) h =
-      at_slot-fair w k (finishing w.book) (finishing-fair w.book) h (slot_at w k) refl
+      at_slot-fair w k (finishing w.book) (finishing-fair w.book) h (subscribed_at w k) refl
 
   -- each step leaves a fair world fair
   step-fair : (w : World) (e : Event) (a : Answer) (v : World) → IsFairWorld w → Step w e a v

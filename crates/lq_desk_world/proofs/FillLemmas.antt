@@ -5,7 +5,7 @@ use Rattle.std.specs.Option.{option_flatten, option_map}
 use Rattle.std.proofs.lemmas.Bool.Decides.{nat_tests}
 use Rattle.std.proofs.lemmas.Bool.{and_parts, ltb-true}
 use Rattle.lq_volume.specs.Book.{Book}
-use Rattle.lq_desk_world.specs.World.{World, Subscribed, slot_at, can_put, whole}
+use Rattle.lq_desk_world.specs.World.{World, Subscribed, subscribed_at, can_put, whole}
 use Rattle.lq_desk_world.specs.Events.{Answer, putting, putting_if, at_slot}
 use Rattle.lq_desk_world.specs.Turns.{places_in}
 use Rattle.lq_desk_world.proofs.ListLemmas.{slice_get-set_here, slice_get-set_other}
@@ -123,7 +123,7 @@ after_event event None = None
 after_event event (Some s) = (event s).1
 
 -- slot 0 is none
-some-slot : (w : World) (k : ℕ) (s : Subscribed) → slot_at w k ≡ Some s → (k == 0) ≡ false
+some-slot : (w : World) (k : ℕ) (s : Subscribed) → subscribed_at w k ≡ Some s → (k == 0) ≡ false
 some-slot w k s is = by (k == 0) is
   where
     by : (x : Bool)
@@ -136,13 +136,13 @@ pub not-zero : (k : ℕ) → (k == 0) ≡ false → 1 ≤ k
 not-zero k h = grind (arith, nat_tests)
 
 -- there is no slot 0
-pub no-slot : (w : World) (k : ℕ) → (k == 0) ≡ true → slot_at w k ≡ None
+pub no-slot : (w : World) (k : ℕ) → (k == 0) ≡ true → subscribed_at w k ≡ None
 no-slot w k h = ap (λ (x : Bool). if x then None else option_flatten (slice_get w.slots (k - 1))) h
 
 -- an event in a slot leaves there what it makes of the subscription
 pub at-here : (w : World) (k : ℕ) (event : Subscribed → Answer × Option Subscribed)
-    (o : Option Subscribed) → slot_at w k ≡ o
-    → slot_at (at_slot w k o event).1 k ≡ after_event event o
+    (o : Option Subscribed) → subscribed_at w k ≡ o
+    → subscribed_at (at_slot w k o event).1 k ≡ after_event event o
 at-here w k event None is = is
 at-here w k event (Some s) is = by (k == 0) (some-slot w k s is)
   where
@@ -155,7 +155,7 @@ at-here w k event (Some s) is = by (k == 0) (some-slot w k s is)
 -- an event in another slot leaves this one
 pub at-other : (w : World) (k j : ℕ) (event : Subscribed → Answer × Option Subscribed)
     (o : Option Subscribed)
-    → k ≢ j → slot_at w j ≡ o → slot_at (at_slot w j o event).1 k ≡ slot_at w k
+    → k ≢ j → subscribed_at w j ≡ o → subscribed_at (at_slot w j o event).1 k ≡ subscribed_at w k
 at-other w k j event None ne is = refl
 at-other w k j event (Some s) ne is = by (k == 0) refl
   where

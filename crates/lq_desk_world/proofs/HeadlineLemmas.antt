@@ -11,7 +11,8 @@ use Rattle.lq_volume.specs.State.{State}
 use Rattle.lq_volume.specs.declared.change.Change.{Change as Change_}
 use Rattle.lq_volume.specs.Book.{Book, IsBook, after_all, grown, number_of, state_at, state_of}
 use Rattle.lq_update.specs.declared.message.Message.{Message}
-use Rattle.lq_update.specs.Updates.{updates_of, IsPrefixOf}
+use Rattle.lq_update.specs.Updates.{updates_of}
+use mathlib.Core.List.{IsPrefix}
 use Rattle.lq_update.specs.Fold.{folded}
 use Rattle.lq_update.specs.Laws.{FoldsGiveResults, UpdatesJoin, UpdatesGrow, WholeFoldsGiveResults}
 use Rattle.lq_desk_world.specs.World.{World, Subscribed, taken_before_free}
@@ -19,7 +20,7 @@ use Rattle.lq_desk_world.specs.declared.event.Event.{Event}
 use Rattle.lq_desk_world.specs.declared.event.Event.TheVariants.{Open}
 use Rattle.lq_desk_world.specs.Events.{Answer, Opened, opening, opened_now, open_refusal, with_sub}
 use Rattle.lq_desk_world.specs.Runs.{Step, Run}
-use Rattle.lq_desk_world.specs.Headline.{reads_of, parcels_in, updates_among, updates_in, accepted_by, accepted, book_of, IsOpening, AreReads, OpeningsAreTold, ReadersAreTold}
+use Rattle.lq_desk_world.specs.Headline.{reads_of, parcels_in, updates_among, updates_in, accepted_by, accepted, run_book, IsOpening, AreReads, OpeningsAreTold, ReadersAreTold}
 use Rattle.lq_desk_world.proofs.WorldLemmas.{after_all-append, number-all, updates_of-rebased}
 use Rattle.lq_desk_world.proofs.BookLemmas.{run-lawful}
 use Rattle.lq_desk_world.proofs.FairLemmas.{MayOpen, may_open, opened-fair}
@@ -116,7 +117,7 @@ told_over : (b d : Book) (q : Query) (moved : Bool) (at : ℕ) (reads : List Ans
     → number_of b ≡ number_of d → ((n : ℕ) → updates_of q moved b at n ≡ updates_of q moved d at n)
     → AreTold b q moved at reads → AreTold d q moved at reads
 told_over b d q moved at reads number lists r = record {
-  prefix = subst (λ (ms : List Message). IsPrefixOf (updates_in reads) ms)
+  prefix = subst (λ (ms : List Message). IsPrefix (updates_in reads) ms)
       (lists (number_of b) ∙ ap (updates_of q moved d at) number) r.prefix;
   mark = λ front rest m is. let h = r.mark front rest m is in
       (h.0, omega (arith, h.1, number), h.2 ∙ lists m.change, h.3, h.4);
@@ -132,7 +133,7 @@ updates_in-append xs ys = ap updates_among (parcels_in-append xs ys)
 
 -- the updates of a front of the reads are a prefix too
 front-prefix : (front rest reads : List Answer) (us : List Message)
-    → reads ≡ front ++ rest → IsPrefixOf (updates_in reads) us → IsPrefixOf (updates_in front) us
+    → reads ≡ front ++ rest → IsPrefix (updates_in reads) us → IsPrefix (updates_in front) us
 front-prefix front rest reads us is p = (
   updates_in rest ++ p.0,
   sym (append_assoc (updates_in front) (updates_in rest) p.0)
@@ -210,7 +211,7 @@ module _ (join : UpdatesJoin) (grow : UpdatesGrow) (count : ChangesCount) (fold 
       let early = accepted before befores in
       let late = accepted after afters in
       let cs = accepted events answers in
-      let b : Book = book_of start events answers in
+      let b : Book = run_book start events answers in
       let here : mid.book ≡ grown w.book early = run-book w before befores mid parts.1 in
       let all : end.book ≡ grown w.book cs = run-book w events answers end run in
       let both : cs ≡ early ++ late =
@@ -230,7 +231,7 @@ module _ (join : UpdatesJoin) (grow : UpdatesGrow) (count : ChangesCount) (fold 
       let state : state_of mid.book ≡ state_at b at =
       then ∙ (sym (state-after start early late at at_number)
       ∙ ap (λ ds. state_at (record { start = start; changes = ds }) at) (sym both)) in
-      let opening : IsOpening (book_of start before befores) q at first =
+      let opening : IsOpening (run_book start before befores) q at first =
       record { number = at_number; entries = reads.1 ∙ ap (result_of q) then } in (
         opening,
         told-reads fold fold_all b q moved at first _ (run-lawful w end events answers run)

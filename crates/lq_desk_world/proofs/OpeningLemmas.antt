@@ -7,7 +7,8 @@ use Rattle.lq_volume.specs.Book.{Book, number_of}
 use Rattle.lq_update.specs.declared.message.Message.{Message}
 use Rattle.lq_update.specs.declared.mark.Mark.{Mark}
 use Rattle.lq_update.specs.declared.parcel.Parcel.TheVariants.{Fin}
-use Rattle.lq_update.specs.Updates.{updates_of, IsPrefixOf}
+use Rattle.lq_update.specs.Updates.{updates_of}
+use mathlib.Core.List.{IsPrefix}
 use Rattle.lq_update.specs.Laws.{UpdatesGrow}
 use Rattle.lq_desk_world.specs.World.{Subscribed, covered, covered_by, updates_due, whole}
 use Rattle.lq_desk_world.specs.Events.{Answer, Took, Ended}
@@ -20,7 +21,7 @@ use Rattle.lq_desk_world.proofs.RunLemmas.{Ran, has-mark, mark-place, parcels_in
 -- what they are, but for folding
 pub record AreTold (b : Book) (q : Query) (moved : Bool) (at : ℕ)
     (reads : List Answer) : Type 0 where
-  pub prefix : IsPrefixOf (updates_in reads) (updates_of q moved b at (number_of b))
+  pub prefix : IsPrefix (updates_in reads) (updates_of q moved b at (number_of b))
   pub mark : (front rest : List Answer) (m : Mark) → reads ≡ front ++ Took (Fin m) ∷ rest →
       (at ≤ m.change) × (m.change ≤ number_of b)
       × (updates_in front ≡ updates_of q moved b at m.change)
@@ -43,12 +44,12 @@ ran-reads grow b s d reads none ran =
     ∙ ap (take t.taken) list) in
     let end : covered d t + (number_of d - covered d t) ≡ number_of d =
     omega (arith, ran.fair.covered) in
-    let longer : IsPrefixOf us (updates_of s.query s.moved d s.opened (number_of d)) =
-    subst (λ (n : ℕ). IsPrefixOf us (updates_of s.query s.moved d s.opened n)) end
+    let longer : IsPrefix us (updates_of s.query s.moved d s.opened (number_of d)) =
+    subst (λ (n : ℕ). IsPrefix us (updates_of s.query s.moved d s.opened n)) end
     (updates-prefix grow s.query s.moved d s.opened (covered d t) (number_of d - covered d t)) in
     record {
       prefix = subst (λ (ms : List Message).
-          IsPrefixOf ms (updates_of s.query s.moved d s.opened (number_of d))) (sym all)
+          IsPrefix ms (updates_of s.query s.moved d s.opened (number_of d))) (sym all)
           (prefix-more _ us _ (prefix-take t.taken us) longer);
       mark = λ front rest m is.
           let parts : parcels_in front ++ Fin m

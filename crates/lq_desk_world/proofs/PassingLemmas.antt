@@ -8,7 +8,7 @@ use Rattle.lq_volume.specs.Change.{refused as refused_by}
 use Rattle.lq_volume.specs.Book.{Book, state_of}
 use Rattle.lq_update.specs.declared.message.Message.{Message}
 use Rattle.lq_update.specs.declared.parcel.Parcel.{Parcel}
-use Rattle.lq_desk_world.specs.World.{World, Subscribed, in_port, to_come, updates_due, mark_behind, whole, is_live, is_over, can_put, first_in_port, slot_at, with_slot}
+use Rattle.lq_desk_world.specs.World.{World, Subscribed, in_port, to_come, updates_due, mark_behind, whole, is_live, is_over, can_put, first_in_port, subscribed_at, with_slot}
 use Rattle.lq_desk_world.specs.declared.event.Event.TheVariants.{Change, Open, Put, Take, HangUp, Notice, Close, Finish}
 use Rattle.lq_desk_world.specs.Events.{Answer, Refused, changing, opening, opened_now, open_refusal, putting, putting_if, reading, reading_if, hanging_up, noticing, noticing_if, closing, closing_if, finishing, finishing_if, at_slot}
 use Rattle.lq_desk_world.specs.Laws.{ListsArePassedOn, RefusalsLeaveWorlds}
@@ -65,7 +65,7 @@ RefusesAlone event = (s : Subscribed) (r : Refusal) → (event s).0 ≡ Refused 
 -- an event that is refused in a slot leaves the world
 at_slot-refused : (w : World) (k : ℕ) (event : Subscribed → Answer × Option Subscribed)
     (r : Refusal)
-    → RefusesAlone event → (o : Option Subscribed) → slot_at w k ≡ o
+    → RefusesAlone event → (o : Option Subscribed) → subscribed_at w k ≡ o
     → (at_slot w k o event).0 ≡ Refused r
     → (at_slot w k o event).1 ≡ w
 at_slot-refused w k event r alone None at is = refl
@@ -136,14 +136,14 @@ refusals-leave w (Change c) r is = changing-refused w c (refused_by (state_of w.
 refusals-leave w (Open q port backlog moved) r is =
     opening-refused w (opened_now w q port backlog moved) (open_refusal w port backlog) r is
 refusals-leave w (Put k) r is =
-    at_slot-refused w k (putting w.book) r (putting-alone w.book) (slot_at w k) refl is
+    at_slot-refused w k (putting w.book) r (putting-alone w.book) (subscribed_at w k) refl is
 refusals-leave w (Take k) r is =
-    at_slot-refused w k (reading w.book) r (reading-alone w.book) (slot_at w k) refl is
+    at_slot-refused w k (reading w.book) r (reading-alone w.book) (subscribed_at w k) refl is
 refusals-leave w (HangUp k) r is =
-    at_slot-refused w k hanging_up r hanging_up-alone (slot_at w k) refl is
+    at_slot-refused w k hanging_up r hanging_up-alone (subscribed_at w k) refl is
 refusals-leave w (Notice k) r is =
-    at_slot-refused w k (noticing w.book) r (noticing-alone w.book) (slot_at w k) refl is
+    at_slot-refused w k (noticing w.book) r (noticing-alone w.book) (subscribed_at w k) refl is
 refusals-leave w (Close k) r is =
-    at_slot-refused w k (closing w.book) r (closing-alone w.book) (slot_at w k) refl is
+    at_slot-refused w k (closing w.book) r (closing-alone w.book) (subscribed_at w k) refl is
 refusals-leave w (Finish k) r is =
-    at_slot-refused w k (finishing w.book) r (finishing-alone w.book) (slot_at w k) refl is
+    at_slot-refused w k (finishing w.book) r (finishing-alone w.book) (subscribed_at w k) refl is

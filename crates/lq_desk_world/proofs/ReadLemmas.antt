@@ -8,7 +8,7 @@ use Rattle.lq_value.specs.declared.refusal.Refusal.{Refusal}
 use Rattle.lq_volume.specs.declared.change.Change.{Change as Change_}
 use Rattle.lq_volume.specs.Change.{refused as refused_by}
 use Rattle.lq_volume.specs.Book.{Book, grown, state_of}
-use Rattle.lq_desk_world.specs.World.{World, Subscribed, slot_at, taken_before_free}
+use Rattle.lq_desk_world.specs.World.{World, Subscribed, subscribed_at, taken_before_free}
 use Rattle.lq_desk_world.specs.declared.event.Event.{Event}
 use Rattle.lq_desk_world.specs.declared.event.Event.TheVariants.{Change, Open, Put, Take, HangUp, Notice, Close, Finish}
 use Rattle.lq_desk_world.specs.declared.event.Act.{Act}
@@ -47,7 +47,7 @@ at_slot-book w k (Some s) event = refl
 
 -- so does an act at a slot
 act-book : (w : World) (k : ℕ) (x : Act) → (act_outcome w k x).1.book ≡ grown w.book []
-act-book w k x = at_slot-book w k (slot_at w k) (acting w.book x) ∙ same_book w.book
+act-book w k x = at_slot-book w k (subscribed_at w k) (acting w.book x) ∙ same_book w.book
 
 -- an event adds to the book what it accepts
 outcome-book : (w : World) (e : Event)
@@ -122,7 +122,7 @@ rests w i s h = record { sub = s; here = h.here; does = reads-self w.book s h.fa
 -- the slot with this number is the place before it in the list
 pub slot_here : (w : World) (i : ℕ) (s : Subscribed) (k : ℕ) → slice_get w.slots i ≡ Some (Some s)
     → k ≡ i + 1
-    → slot_at w k ≡ Some s
+    → subscribed_at w k ≡ Some s
 slot_here w i s k here own =
     let some : (k == 0) ≡ false = grind (arith, nat_tests) in
     let place : k - 1 ≡ i = omega (arith, own) in
@@ -142,7 +142,7 @@ set_here w i s k o t here own is =
 pub own_event : (w : World) (i : ℕ) (s : Subscribed) (k : ℕ)
     (event : Subscribed → Answer × Option Subscribed)
     (reads : List Answer) → Stands w i s → k ≡ i + 1 → Leaves w.book s reads (event s).1
-    → Goes w i s reads (at_slot w k (slot_at w k) event).1
+    → Goes w i s reads (at_slot w k (subscribed_at w k) event).1
 own_event w i s k event reads h own l =
     subst (λ (o : Option Subscribed). Goes w i s reads (at_slot w k o event).1)
     (sym (slot_here w i s k h.here own))
@@ -155,12 +155,12 @@ own_event w i s k event reads h own l =
 -- an event of another slot
 pub other_event : (w : World) (i : ℕ) (s : Subscribed) (k : ℕ)
     (event : Subscribed → Answer × Option Subscribed)
-    → Stands w i s → k ≢ i + 1 → Goes w i s [] (at_slot w k (slot_at w k) event).1
+    → Stands w i s → k ≢ i + 1 → Goes w i s [] (at_slot w k (subscribed_at w k) event).1
 other_event w i s k event h other = elim (cases_eq k 0) [
   | inl none ↦
-      let free : None ≡ slot_at w k = grind (arith, nat_tests) in
+      let free : None ≡ subscribed_at w k = grind (arith, nat_tests) in
       subst (λ (o : Option Subscribed). Goes w i s [] (at_slot w k o event).1) free (rests w i s h)
-  | inr some ↦ by (slot_at w k) some
+  | inr some ↦ by (subscribed_at w k) some
 ]
   where
     by : (o : Option Subscribed) → k ≢ 0 → Goes w i s [] (at_slot w k o event).1
@@ -177,7 +177,7 @@ other_event w i s k event h other = elim (cases_eq k 0) [
 pub slot_event : (w : World) (i : ℕ) (s : Subscribed) (k : ℕ)
     (event : Subscribed → Answer × Option Subscribed)
     → Stands w i s → Leaves w.book s [] (event s).1
-    → Goes w i s [] (at_slot w k (slot_at w k) event).1
+    → Goes w i s [] (at_slot w k (subscribed_at w k) event).1
 slot_event w i s k event h l = elim (cases_eq k (i + 1)) [
   | inl own ↦ own_event w i s k event [] h own l
   | inr other ↦ other_event w i s k event h other

@@ -9,9 +9,10 @@ use Rattle.lq_update.specs.declared.message.Message.{Message}
 use Rattle.lq_update.specs.declared.mark.Mark.{Mark}
 use Rattle.lq_update.specs.declared.parcel.Parcel.{Parcel}
 use Rattle.lq_update.specs.declared.parcel.Parcel.TheVariants.{Update, Fin}
-use Rattle.lq_update.specs.Updates.{updates_of, IsPrefixOf}
+use Rattle.lq_update.specs.Updates.{updates_of}
+use mathlib.Core.List.{IsPrefix}
 use Rattle.lq_update.specs.Laws.{UpdatesJoin, UpdatesGrow}
-use Rattle.lq_desk_world.specs.World.{World, Subscribed, End, updates_due, mark_behind, whole}
+use Rattle.lq_desk_world.specs.World.{World, Subscribed, Ending, updates_due, mark_behind, whole}
 use Rattle.lq_desk_world.specs.declared.event.Event.{Event}
 use Rattle.lq_desk_world.specs.declared.event.Event.TheVariants.{Change, Open, Put, Take, HangUp, Notice, Close, Finish}
 use Rattle.lq_desk_world.specs.Events.{Answer, Took, Ended}
@@ -211,7 +212,7 @@ updates_among-append (Update m ∷ xs) ys = ap (λ ms. m ∷ ms) (updates_among-
 updates_among-append (Fin mark ∷ xs) ys = updates_among-append xs ys
 
 -- the updates of a front of a list are a front of its updates
-pub updates_among-take : (us : List Message) (n k : ℕ) (o : Option End)
+pub updates_among-take : (us : List Message) (n k : ℕ) (o : Option Ending)
     → updates_among (take n (parcels us ++ mark_behind k o)) ≡ take n us
 updates_among-take [] zero k o = refl
 updates_among-take [] (suc n) k None = refl
@@ -221,9 +222,10 @@ updates_among-take (u ∷ us) zero k o = refl
 updates_among-take (u ∷ us) (suc n) k o = ap (λ ms. u ∷ ms) (updates_among-take us n k o)
 
 -- a mark in a list stands behind all its updates
-pub mark-place : (us : List Message) (k : ℕ) (o : Option End) (xs ys : List Parcel) (m : Mark)
+pub mark-place : (us : List Message) (k : ℕ) (o : Option Ending) (xs ys : List Parcel) (m : Mark)
     → xs ++ Fin m ∷ ys ≡ parcels us ++ mark_behind k o → (updates_among xs ≡ us)
-    × ((e : End) × (o ≡ Some e) × (m ≡ record { seq = k + 1; change = e.change; cause = e.cause }))
+    × ((e : Ending) × (o ≡ Some e) × (m ≡ record
+    { seq = k + 1; change = e.change; cause = e.cause }))
 mark-place [] k None xs ys m is = absurd (no_place xs ys (Fin m) (sym is))
 mark-place [] k (Some e) [] ys m is = (refl, (e, refl, cc))
 mark-place [] k (Some e) (x ∷ xs) ys m is =
@@ -267,25 +269,25 @@ has-mark (x ∷ reads) marked =
 -- ---- prefixes
 
 -- a list begins with itself
-prefix-self : (xs : List Message) → IsPrefixOf xs xs
+prefix-self : (xs : List Message) → IsPrefix xs xs
 prefix-self xs = ([], append-nil xs)
 
 -- what a beginning begins with, the list begins with
-pub prefix-more : (xs ys zs : List Message) → IsPrefixOf xs ys → IsPrefixOf ys zs → IsPrefixOf xs zs
+pub prefix-more : (xs ys zs : List Message) → IsPrefix xs ys → IsPrefix ys zs → IsPrefix xs zs
 prefix-more xs ys zs p q =
     (p.0 ++ q.0, sym (append_assoc xs p.0 q.0) ∙ (ap (λ us. us ++ q.0) p.1 ∙ q.1))
 
 -- a list begins with each of its fronts
-pub prefix-take : (n : ℕ) (xs : List Message) → IsPrefixOf (take n xs) xs
+pub prefix-take : (n : ℕ) (xs : List Message) → IsPrefix (take n xs) xs
 prefix-take n xs = (drop n xs, take-append-drop n xs)
 
 -- the updates up to one change are a beginning of those up to a later one
 pub updates-prefix : UpdatesGrow → (q : Query) (moved : Bool) (b : Book) (m n k : ℕ)
-    → IsPrefixOf (updates_of q moved b m n) (updates_of q moved b m (n + k))
+    → IsPrefix (updates_of q moved b m n) (updates_of q moved b m (n + k))
 updates-prefix grow q moved b m n zero =
-    subst (λ (l : ℕ). IsPrefixOf (updates_of q moved b m n) (updates_of q moved b m l))
+    subst (λ (l : ℕ). IsPrefix (updates_of q moved b m n) (updates_of q moved b m l))
     (let e : n ≡ n + 0 = omega arith in e) (prefix-self _)
 updates-prefix grow q moved b m n (suc k) =
-    subst (λ (l : ℕ). IsPrefixOf (updates_of q moved b m n) (updates_of q moved b m l))
+    subst (λ (l : ℕ). IsPrefix (updates_of q moved b m n) (updates_of q moved b m l))
     (let e : n + k + 1 ≡ n + suc k = omega arith in e)
     (prefix-more _ _ _ (updates-prefix grow q moved b m n k) (grow q moved b m (n + k)))

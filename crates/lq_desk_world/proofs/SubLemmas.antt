@@ -15,7 +15,7 @@ use Rattle.lq_update.specs.declared.parcel.Parcel.{Parcel}
 use Rattle.lq_update.specs.declared.parcel.Parcel.TheVariants.{Update, Fin}
 use Rattle.lq_update.specs.Updates.{updates_of, step_of}
 use Rattle.lq_update.specs.Laws.{UpdatesJoin}
-use Rattle.lq_desk_world.specs.World.{Subscribed, End, covered_by, covered, updates_due, mark_behind, whole, held, is_live, is_over, with_end, news, overruns, overrun_if, after_change}
+use Rattle.lq_desk_world.specs.World.{Subscribed, Ending, covered_by, covered, updates_due, mark_behind, whole, held, is_live, is_over, with_end, news, change_overruns, overrun_if, after_change}
 use Rattle.lq_desk_world.specs.Events.{Answer, Took, Ended}
 use Rattle.lq_desk_world.specs.Fair.{IsFair}
 use Rattle.lq_desk_world.specs.Headline.{parcels_in}
@@ -34,11 +34,11 @@ pub record Keeps (b : Book) (s : Subscribed) (d : Book) (t : Subscribed) : Type 
   pub fair : IsFair d t
   pub more : List Parcel
   pub grows : whole d t ≡ whole b s ++ more
-  pub ended : (e : End) → s.end ≡ Some e → (t.end ≡ Some e) × (more ≡ [])
+  pub ended : (e : Ending) → s.end ≡ Some e → (t.end ≡ Some e) × (more ≡ [])
 
 -- it has ended, and all was taken
 abbrev pub IsOver : Book → Subscribed → Type 0
-IsOver b s = (e : End) × (s.end ≡ Some e) × (s.taken ≡ length (whole b s))
+IsOver b s = (e : Ending) × (s.end ≡ Some e) × (s.taken ≡ length (whole b s))
 
 -- an answer that a list has ended
 abbrev pub IsEnded : Answer → Type 0
@@ -63,12 +63,12 @@ pub record Leaves (b : Book) (s : Subscribed) (reads : List Answer)
 -- ---- the end of a subscription
 
 -- a subscription has ended or has not
-pub end-cases : (o : Option End) → (o ≡ None) ⊎ ((e : End) × (o ≡ Some e))
+pub end-cases : (o : Option Ending) → (o ≡ None) ⊎ ((e : Ending) × (o ≡ Some e))
 end-cases None = inl refl
 end-cases (Some e) = inr (e, refl)
 
 -- one whose test says that it has no end has none
-pub live-none : (o : Option End) → is_none o ≡ true → o ≡ None
+pub live-none : (o : Option Ending) → is_none o ≡ true → o ≡ None
 live-none None h = refl
 live-none (Some e) h = absurd (let no : ⊥ = cc in no)
 
@@ -76,7 +76,7 @@ live-none (Some e) h = absurd (let no : ⊥ = cc in no)
 pub over-true : (b : Book) (s : Subscribed) → IsOver b s → is_over b s ≡ true
 over-true b s h = by s.end (s.taken) (length (whole b s)) h.0 h.1 h.2
   where
-    by : (o : Option End) (m n : ℕ) (e : End) → o ≡ Some e → m ≡ n
+    by : (o : Option Ending) (m n : ℕ) (e : Ending) → o ≡ Some e → m ≡ n
         → (if is_none o then false else m == n) ≡ true
     by None m n e is eq = absurd (let no : ⊥ = cc in no)
     by (Some d) m n e is eq = grind (arith, nat_tests)
@@ -85,8 +85,8 @@ over-true b s h = by s.end (s.taken) (length (whole b s)) h.0 h.1 h.2
 pub over-from : (b : Book) (s : Subscribed) → is_over b s ≡ true → IsOver b s
 over-from b s h = by s.end (s.taken) (length (whole b s)) h
   where
-    by : (o : Option End) (m n : ℕ) → (if is_none o then false else m == n) ≡ true
-        → (e : End) × (o ≡ Some e) × (m ≡ n)
+    by : (o : Option Ending) (m n : ℕ) → (if is_none o then false else m == n) ≡ true
+        → (e : Ending) × (o ≡ Some e) × (m ≡ n)
     by None m n is = absurd (let no : ⊥ = cc in no)
     by (Some d) m n is = (d, refl, grind (arith, nat_tests))
 
@@ -142,7 +142,7 @@ keeps-end b s cause h live =
     }
 
 -- changes keep what a subscription that has ended was told
-pub keeps-ended : (b : Book) (cs : List Change_) (s : Subscribed) (e : End) → IsFair b s
+pub keeps-ended : (b : Book) (cs : List Change_) (s : Subscribed) (e : Ending) → IsFair b s
     → s.end ≡ Some e
     → Keeps b s (grown b cs) s
 keeps-ended b cs s e h is =
@@ -217,7 +217,7 @@ fits h k n backlog room old is = elim (and_cases (nat_lt 0 k) (nat_lt backlog (h
 module _ (join : UpdatesJoin) where
   -- a change that doesn't end it
   keeps-told : (b : Book) (c : Change_) (s : Subscribed)
-      → IsFair b s → s.end ≡ None → overruns b c s ≡ false → Keeps b s (grown b (c ∷ [])) s
+      → IsFair b s → s.end ≡ None → change_overruns b c s ≡ false → Keeps b s (grown b (c ∷ [])) s
   keeps-told b c s h live room =
       let d = grown b (c ∷ []) in
       let us = updates_to b s (number_of b) in
@@ -268,25 +268,27 @@ module _ (join : UpdatesJoin) where
   -- a change
   pub keeps-change : (b : Book) (c : Change_) (s : Subscribed) → IsFair b s
       → Keeps b s (grown b (c ∷ [])) (after_change b c s)
-  keeps-change b c s h = by (is_live s && overruns b c s) refl
+  keeps-change b c s h = by (is_live s && change_overruns b c s) refl
     where
-      by : (x : Bool) → (is_live s && overruns b c s) ≡ x
+      by : (x : Bool) → (is_live s && change_overruns b c s) ≡ x
           → Keeps b s (grown b (c ∷ [])) (overrun_if b s x)
       by true is =
           let t = with_end s Overrun (number_of b) in
           let ends =
-          keeps-end b s Overrun h (live-none s.end (and_parts (is_live s) (overruns b c s) is).0) in
+          keeps-end b s Overrun h (live-none s.end
+          (and_parts (is_live s) (change_overruns b c s) is).0) in
           keeps-more b b (grown b (c ∷ [])) s t t ends (keeps-ended b (c ∷ []) t
           (record { cause = Overrun; change = number_of b }) ends.fair refl)
       by false is = elim (end-cases s.end) [
-        | inl live ↦ keeps-told b c s h live (ap (λ o. is_none o && overruns b c s) (sym live) ∙ is)
+        | inl live ↦ keeps-told b c s h live (ap (λ o. is_none o && change_overruns b c s)
+            (sym live) ∙ is)
         | inr ended ↦ keeps-ended b (c ∷ []) s ended.0 h ended.1
       ]
 
 -- a change leaves how much was taken
 pub after_change-taken : (b : Book) (c : Change_) (s : Subscribed)
     → (after_change b c s).taken ≡ s.taken
-after_change-taken b c s = by (is_live s && overruns b c s)
+after_change-taken b c s = by (is_live s && change_overruns b c s)
   where
     by : (x : Bool) → (overrun_if b s x).taken ≡ s.taken
     by true = refl

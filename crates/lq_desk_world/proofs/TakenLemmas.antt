@@ -9,7 +9,7 @@ use Rattle.lq_update.specs.declared.mark.Mark.{Mark}
 use Rattle.lq_update.specs.declared.mark.Cause.TheVariants.{HungUp, Closed}
 use Rattle.lq_update.specs.declared.parcel.Parcel.{Parcel}
 use Rattle.lq_update.specs.declared.parcel.Parcel.TheVariants.{Fin}
-use Rattle.lq_desk_world.specs.World.{Subscribed, End, updates_due, mark_behind, whole, is_live, is_over, with_end, with_hang_up_asked, one_more_put, one_more_taken, can_put, first_in_port}
+use Rattle.lq_desk_world.specs.World.{Subscribed, Ending, updates_due, mark_behind, whole, is_live, is_over, with_end, with_hang_up_asked, one_more_put, one_more_taken, can_put, first_in_port}
 use Rattle.lq_desk_world.specs.Events.{Took, Ended, Empty, putting_if, putting, reading_if, reading, hanging_up, noticing_if, noticing, closing_if, closing}
 use Rattle.lq_desk_world.specs.Fair.{IsFair}
 use Rattle.lq_desk_world.specs.Headline.{parcels_in}
@@ -115,9 +115,9 @@ closing-leaves b s h = by (is_live s) refl
     by false is = leaves b s s h refl (keeps-self b s h)
 
 -- a mark is the last of its list
-mark-last : (us : List Message) (n i : ℕ) (o : Option End) (m : Mark)
+mark-last : (us : List Message) (n i : ℕ) (o : Option Ending) (m : Mark)
     → slice_get (parcels us ++ mark_behind n o) i ≡ Some (Fin m)
-    → (e : End) × (o ≡ Some e) × (i + 1 ≡ length (parcels us ++ mark_behind n o))
+    → (e : Ending) × (o ≡ Some e) × (i + 1 ≡ length (parcels us ++ mark_behind n o))
 mark-last [] n i None m at = absurd (let no : ⊥ = cc in no)
 mark-last [] n zero (Some e) m at = (e, refl, omega arith)
 mark-last [] n (suc i) (Some e) m at = absurd (let no : ⊥ = cc in no)

@@ -17,7 +17,7 @@ use Rattle.lq_desk_world.specs.declared.event.Event.{Event}
 use Rattle.lq_desk_world.specs.declared.event.Event.TheVariants.{Change, Open, Put, Take, HangUp, Notice, Close, Finish}
 use Rattle.lq_desk_world.specs.declared.event.Act.{Act}
 use Rattle.lq_desk_world.specs.declared.event.Act.TheVariants as act
-use Rattle.lq_desk_world.specs.World.{World, Subscribed, with_end, with_hang_up_asked, one_more_put, one_more_taken, can_put, first_in_port, is_live, is_over, after_change, slot_at, taken_before_free, with_slot}
+use Rattle.lq_desk_world.specs.World.{World, Subscribed, with_end, with_hang_up_asked, one_more_put, one_more_taken, can_put, first_in_port, is_live, is_over, after_change, subscribed_at, taken_before_free, with_slot}
 
 -- the possible answers to an event
 pub data Answer : Type 0 where
@@ -35,8 +35,8 @@ pub data Answer : Type 0 where
 
 -- ---- a change
 
-abbrev pub with_change : World → Change_ → World
-with_change w c = record {
+abbrev pub world_with_change : World → Change_ → World
+world_with_change w c = record {
   book = grown w.book (c ∷ []);
   openings = w.openings;
   slots = map (option_map (after_change w.book c)) w.slots;
@@ -46,7 +46,7 @@ abbrev pub changing : World → Change_ → Option Refusal → Answer × World
 changing w c (Some e) = (Refused e, w)
 changing w c None = (
   Changed (record { change = number_of w.book + 1; node = node_of (state_of w.book) c }),
-  with_change w c,
+  world_with_change w c,
 )
 
 -- ---- an opening
@@ -160,7 +160,7 @@ at_slot w slot (Some s) does = ((does s).0, with_slot w (slot - 1) (does s).1)
 
 -- an act at a slot
 abbrev pub act_outcome : World → ℕ → Act → Answer × World
-act_outcome w slot a = at_slot w slot (slot_at w slot) (acting w.book a)
+act_outcome w slot a = at_slot w slot (subscribed_at w slot) (acting w.book a)
 
 -- the event that does an act at a slot
 abbrev pub event_at : ℕ → Act → Event

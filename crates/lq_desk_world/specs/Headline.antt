@@ -11,7 +11,8 @@ use Rattle.lq_update.specs.declared.message.Message.{Message}
 use Rattle.lq_update.specs.declared.mark.Mark.{Mark}
 use Rattle.lq_update.specs.declared.parcel.Parcel.{Parcel}
 use Rattle.lq_update.specs.declared.parcel.Parcel.TheVariants.{Update, Fin}
-use Rattle.lq_update.specs.Updates.{updates_of, IsPrefixOf, IsSettled}
+use Rattle.lq_update.specs.Updates.{updates_of, IsSettled}
+use mathlib.Core.List.{IsPrefix}
 use Rattle.lq_update.specs.Fold.{folded, last_change}
 use Rattle.lq_desk_world.specs.declared.event.Event.{Event}
 use Rattle.lq_desk_world.specs.declared.event.Event.TheVariants.{Change, Open, Take, Finish}
@@ -61,8 +62,8 @@ accepted (e ∷ events) [] = []
 accepted (e ∷ events) (a ∷ answers) = accepted_by e a ++ accepted events answers
 
 -- the state before a run, and the changes that it accepted
-abbrev pub book_of : State → List Event → List Answer → Book
-book_of s events answers = record { start = s; changes = accepted events answers }
+abbrev pub run_book : State → List Event → List Answer → Book
+run_book s events answers = record { start = s; changes = accepted events answers }
 
 -- these answers contain the mark
 abbrev pub HasMark : List Answer → Type 0
@@ -80,7 +81,7 @@ pub record IsOpening (b : Book) (q : Query) (at : ℕ) (first : List Entry) : Ty
 pub record AreReads (b : Book) (q : Query) (moved : Bool) (at : ℕ) (first : List Entry)
     (reads : List Answer) : Type 0 where
   -- each message once and in order: they are a prefix of its update list
-  pub prefix : IsPrefixOf (updates_in reads) (updates_of q moved b at (number_of b))
+  pub prefix : IsPrefix (updates_in reads) (updates_of q moved b at (number_of b))
   -- the mark comes after the whole list up to the change that it names, and only `Ended` follows it
   pub mark : (front rest : List Answer) (m : Mark) → reads ≡ front ++ Took (Fin m) ∷ rest →
       (at ≤ m.change) × (m.change ≤ number_of b)
@@ -108,8 +109,8 @@ OpeningsAreTold s events answers =
     (moved : Bool) (slot at : ℕ) (first : List Entry)
     → events ≡ before ++ Open q port backlog moved ∷ after
     → answers ≡ befores ++ Opened slot at first ∷ afters → length before ≡ length befores
-    → IsOpening (book_of s before befores) q at first
-    × AreReads (book_of s events answers) q moved at first (reads_of slot after afters)
+    → IsOpening (run_book s before befores) q at first
+    × AreReads (run_book s events answers) q moved at first (reads_of slot after afters)
 
 -- Each event of a run has one answer. The accepted changes of the run are a book: each is lawful
 -- after those before it. At every moment, over the changes accepted by then, the readers of each
@@ -117,5 +118,5 @@ OpeningsAreTold s events answers =
 pub record ReadersAreTold (s : State) (events : List Event) (answers : List Answer)
     : Type 0 where
   pub count : length events ≡ length answers
-  pub book : IsBook (book_of s events answers)
+  pub book : IsBook (run_book s events answers)
   pub readers : (k : ℕ) → OpeningsAreTold s (take k events) (take k answers)

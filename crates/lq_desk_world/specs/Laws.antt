@@ -10,7 +10,7 @@ use Rattle.lq_desk_world.specs.declared.event.Event.{Event}
 use Rattle.lq_desk_world.specs.declared.event.Event.TheVariants.{Change, Open, Put, Take, Notice, Close}
 use Rattle.lq_desk_world.specs.Events.{Answer, Opened, Moved, Refused, answer, next, outcome}
 use Rattle.lq_desk_world.specs.Runs.{Run}
-use Rattle.lq_desk_world.specs.Turns.{after_all, notices, ports_of, turn_of, turn_outcome}
+use Rattle.lq_desk_world.specs.Turns.{after_events, notices, ports_of, turn_of, turn_outcome}
 use Rattle.lq_desk_world.specs.Fair.{IsFair, IsFairWorld}
 use Rattle.lq_desk_world.specs.Headline.{ReadersAreTold, reads_of}
 use Rattle.lq_desk_world.specs.PassedOn.{IsPassedOn, is_freed}
@@ -46,7 +46,7 @@ TurnsFillPorts = (w : World) → IsFairWorld w →
     ((c : Change_) (slot : ℕ) → IsStill (turn_outcome w (Change c)).1 slot)
     × ((slot : ℕ) → IsStill (turn_outcome w (Close slot)).1 slot)
     × ((slot : ℕ)
-    → IsStill (after_all outcome w (turn_of (ports_of w) (Take slot)).before) slot)
+    → IsStill (after_events outcome w (turn_of (ports_of w) (Take slot)).before) slot)
 
 -- this many puts at a slot, each of which moves a parcel, and one more that moves none, lead from
 -- one world to another
@@ -71,11 +71,11 @@ EachUntilStill n (Some port ∷ ports) w v =
 abbrev pub TurnsPutUntilStill : Type 0
 TurnsPutUntilStill = (w : World) → IsFairWorld w →
     ((c : Change_) → EachUntilStill 1 (ports_of w)
-    (next (after_all outcome w (notices (ports_of w))) (Change c)) (turn_outcome w (Change c)).1)
+    (next (after_events outcome w (notices (ports_of w))) (Change c)) (turn_outcome w (Change c)).1)
     × ((slot : ℕ) → PutsUntilStill slot (next (next w (Notice slot)) (Close slot))
     (turn_outcome w (Close slot)).1)
     × ((slot : ℕ) → PutsUntilStill slot (next w (Notice slot))
-    (after_all outcome w (turn_of (ports_of w) (Take slot)).before))
+    (after_events outcome w (turn_of (ports_of w) (Take slot)).before))
 
 -- The list of each subscription that a run opens is passed on: its reads gave what was taken of it,
 -- and that, what is in its port and what is still to be put are the whole list.

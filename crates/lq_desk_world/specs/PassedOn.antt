@@ -1,7 +1,7 @@
 -- What becomes of the list of a subscription that a run opens.
 use Rattle.std.specs.Prelude.{◌≡◌, ℕ, List, [], ◌∷◌, ◌++◌, take, Bool, true, false, ◌||◌, Some}
 use Rattle.lq_predicate.specs.Query.{Query}
-use Rattle.lq_desk_world.specs.World.{World, Subscribed, whole, in_port, to_come, is_over, slot_at}
+use Rattle.lq_desk_world.specs.World.{World, Subscribed, whole, in_port, to_come, is_over, subscribed_at}
 use Rattle.lq_desk_world.specs.declared.event.Event.{Event}
 use Rattle.lq_desk_world.specs.Events.{Answer}
 use Rattle.lq_desk_world.specs.Headline.{frees, parcels_in}
@@ -20,7 +20,7 @@ pub record IsPassedOn (w : World) (q : Query) (moved : Bool) (at slot : ℕ) (re
   -- it is the one that was opened
   pub same : (sub.query ≡ q) × (sub.moved ≡ moved) × (sub.opened ≡ at)
   -- it is in its slot, unless that was freed; then its whole list was taken, with the mark
-  pub here : freed ≡ false → slot_at w slot ≡ Some sub
+  pub here : freed ≡ false → subscribed_at w slot ≡ Some sub
   pub over : freed ≡ true → is_over w.book sub ≡ true
   -- the parcels among the answers to its reads are those that were taken
   pub taken : parcels_in reads ≡ take sub.taken (whole w.book sub)

@@ -77,17 +77,17 @@ events_in t = t.before ++ t.event ∷ t.after
 -- ---- turns carried out by anything that answers events
 
 -- the state after events, one after another
-abbrev pub after_all : {Core : Type 0}
+abbrev pub after_events : {Core : Type 0}
     → (Core → Event → Answer × Core) → Core → List Event → Core
-after_all step s [] = s
-after_all step s (e ∷ events) = after_all step (step s e).1 events
+after_events step s [] = s
+after_events step s (e ∷ events) = after_events step (step s e).1 events
 
 -- the answer to a turn's event, and the state after the turn
 abbrev pub carried_out : {Core : Type 0} → (Core → Event → Answer × Core) → Core → Turn
     → Answer × Core
 carried_out step s t = (
-  (step (after_all step s t.before) t.event).0,
-  after_all step (step (after_all step s t.before) t.event).1 t.after,
+  (step (after_events step s t.before) t.event).0,
+  after_events step (step (after_events step s t.before) t.event).1 t.after,
 )
 
 abbrev pub turn_outcome : World → Event → Answer × World

@@ -13,7 +13,7 @@ use Rattle.lq_update.specs.declared.parcel.Parcel.TheVariants.{Update, Fin}
 use Rattle.lq_update.specs.Updates.{updates_of, step_of}
 
 -- why a subscription ended, and the last change that it covers
-pub record End : Type 0 where
+pub record Ending : Type 0 where
   pub cause : Cause
   pub change : ℕ
 
@@ -29,7 +29,7 @@ pub record Subscribed : Type 0 where
   pub hang_up_asked : Bool
   pub put : ℕ
   pub taken : ℕ
-  pub end : Option End
+  pub end : Option Ending
 
 -- the content of slot k is at index k - 1
 pub record World : Type 0 where
@@ -44,7 +44,7 @@ first_world b = record { book = b; openings = 0; slots = replicate 64 None }
 -- ---- the list of a subscription
 
 -- the last change that a subscription covers: that of its end, or the book's while it is live
-abbrev pub covered_by : Book → Option End → ℕ
+abbrev pub covered_by : Book → Option Ending → ℕ
 covered_by b None = number_of b
 covered_by b (Some e) = e.change
 
@@ -56,7 +56,7 @@ abbrev pub updates_due : Book → Subscribed → List Message
 updates_due b s = updates_of s.query s.moved b s.opened (covered b s)
 
 -- the mark after this many updates, if the subscription has ended
-abbrev pub mark_behind : ℕ → Option End → List Parcel
+abbrev pub mark_behind : ℕ → Option Ending → List Parcel
 mark_behind n None = []
 mark_behind n (Some e) = Fin (record { seq = n + 1; change = e.change; cause = e.cause }) ∷ []
 
@@ -114,8 +114,8 @@ abbrev pub news : Book → Change_ → Subscribed → ℕ
 news b c s = length (step_of s.query s.moved (state_of b) c (length (updates_due b s) + 1))
 
 -- whether these are more than its backlog has room for
-abbrev pub overruns : Book → Change_ → Subscribed → Bool
-overruns b c s = nat_lt 0 (news b c s) && nat_lt s.backlog (held b s + news b c s)
+abbrev pub change_overruns : Book → Change_ → Subscribed → Bool
+change_overruns b c s = nat_lt 0 (news b c s) && nat_lt s.backlog (held b s + news b c s)
 
 abbrev pub overrun_if : Book → Subscribed → Bool → Subscribed
 overrun_if b s true = with_end s Overrun (number_of b)
@@ -123,13 +123,13 @@ overrun_if b s false = s
 
 -- the subscription after a change to a book: unchanged, or ended before the change
 abbrev pub after_change : Book → Change_ → Subscribed → Subscribed
-after_change b c s = overrun_if b s (is_live s && overruns b c s)
+after_change b c s = overrun_if b s (is_live s && change_overruns b c s)
 
 -- ---- slots
 
 -- the subscription in a slot, if there is one
-abbrev pub slot_at : World → ℕ → Option Subscribed
-slot_at w slot = if slot == 0 then None else option_flatten (slice_get w.slots (slot - 1))
+abbrev pub subscribed_at : World → ℕ → Option Subscribed
+subscribed_at w slot = if slot == 0 then None else option_flatten (slice_get w.slots (slot - 1))
 
 -- the number of taken slots before the first free one
 abbrev pub taken_before_free : List (Option Subscribed) → ℕ

@@ -11,12 +11,12 @@ use Rattle.lq_script_desk.specs.Session.{Session}
 use Rattle.lq_desk_world.specs.Events.{Answer, Refused}
 use Rattle.lq_script_request.specs.declared.question.Question.{Question}
 use Rattle.lq_script_desk.specs.Response.{Response, Refuses}
-use Rattle.lq_embed.specs.declared.outs.AppliedOut.{AppliedOut}
-use Rattle.lq_embed.specs.declared.outs.OpeningOut.{OpeningOut}
-use Rattle.lq_embed.specs.declared.outs.FetchedOut.{FetchedOut}
-use Rattle.lq_embed.specs.Calls.{Asks, Changes, Fetches, Finds, Opens, Pushes, Responds}
+use Rattle.lq_embed.specs.declared.out_structs.AppliedOut.{AppliedOut}
+use Rattle.lq_embed.specs.declared.out_structs.OpeningOut.{OpeningOut}
+use Rattle.lq_embed.specs.declared.out_structs.FetchedOut.{FetchedOut}
+use Rattle.lq_embed.specs.Calls.{Asks, Changes, Fetches, FindsNode, Opens, Pushes, Responds}
 use Rattle.lq_embed.specs.Outs.{entries_after, fault_after, fetched_after, fetched_entries, looked_fault, opening_after}
-use Rattle.lq_embed.specs.State.{State, with_session}
+use Rattle.lq_embed.specs.SessionState.{SessionState, with_session}
 use Rattle.lq_embed.specs.Status.{response_status, status_of}
 
 -- ---- texts that have to be UTF-8
@@ -38,14 +38,14 @@ if-utf8 text x y utf8 = rw (is_utf8-from_IsUtf8 text utf8) refl
 -- ---- changes
 
 -- a change of the question, where it asks the same as another
-pub changes-as : {old new : State} {q p : Result Question Refusal} {status : ℕ}
+pub changes-as : {old new : SessionState} {q p : Result Question Refusal} {status : ℕ}
     {before after : AppliedOut} → q ≡ p → Changes old new p status before after
     → Changes old new q status before after
 changes-as {old = old} {new = new} {status = status} {before = before} {after = after} same was =
     subst (λ (r : Result Question Refusal). Changes old new r status before after) (sym same) was
 
 -- a question that is refused changes nothing
-pub changes-barred : {old : State} {q : Result Question Refusal} {status : ℕ}
+pub changes-barred : {old : SessionState} {q : Result Question Refusal} {status : ℕ}
     {before : AppliedOut} (refusal : Refusal) → q ≡ Err refusal → status ≡ code_of refusal
     → Changes old old q status before before
 changes-barred refusal is code = changes-as is (record {
@@ -58,7 +58,7 @@ changes-barred refusal is code = changes-as is (record {
 
 -- ---- openings
 
-pub opens-as : {old new : State} {q p : Result Question Refusal} {status : ℕ}
+pub opens-as : {old new : SessionState} {q p : Result Question Refusal} {status : ℕ}
     {before after : OpeningOut} → q ≡ p → Opens old new old.pushed p status before after
     → Opens old new old.pushed q status before after
 opens-as {old = old} {new = new} {status = status} {before = before} {after = after} same was =
@@ -66,7 +66,7 @@ opens-as {old = old} {new = new} {status = status} {before = before} {after = af
     (sym same) was
 
 -- an opening that is refused as its formula is read, with no place
-pub opens-not_utf8 : {old : State} {q : Result Question Refusal} {status : ℕ}
+pub opens-not_utf8 : {old : SessionState} {q : Result Question Refusal} {status : ℕ}
     {before : OpeningOut} → q ≡ Err NotUtf8 → status ≡ code_of NotUtf8
     → Opens old old old.pushed q status before before
 opens-not_utf8 is code = opens-as is (record {
@@ -81,7 +81,7 @@ opens-not_utf8 is code = opens-as is (record {
 })
 
 -- an opening, from what its turn did and what was kept of its reply
-pub opens-made : {old mid new : State} {p : Result Question Refusal} {status : ℕ}
+pub opens-made : {old mid new : SessionState} {p : Result Question Refusal} {status : ℕ}
     {before after : OpeningOut} (answer : Answer) → Asks old.session mid.session p answer
     → mid ≡ with_session old mid.session → status ≡ status_of answer
     → after ≡ opening_after answer before
@@ -93,26 +93,27 @@ pub opens-made : {old mid new : State} {p : Result Question Refusal} {status : �
 opens-made {old = old} {p = p} answer asks beside code out kept = record {
   answer = answer;
   asks = subst (λ (s : Session). Asks old.session s p answer)
-      (sym (ap (λ (s : State). s.session) kept)) asks;
+      (sym (ap (λ (s : SessionState). s.session) kept)) asks;
   code = code;
   out = out;
-  entries = ap (λ (s : State). s.entries) kept
-      ∙ ap (λ (s : State). entries_after answer s.entries) beside;
-  fault = ap (λ (s : State). s.fault) kept ∙ ap (λ (s : State). fault_after answer s.fault) beside;
-  text = ap (λ (s : State). s.text) kept ∙ ap (λ (s : State). s.text) beside;
-  pushed = ap (λ (s : State). s.pushed) kept ∙ ap (λ (s : State). s.pushed) beside;
+  entries = ap (λ (s : SessionState). s.entries) kept
+      ∙ ap (λ (s : SessionState). entries_after answer s.entries) beside;
+  fault = ap (λ (s : SessionState). s.fault) kept
+      ∙ ap (λ (s : SessionState). fault_after answer s.fault) beside;
+  text = ap (λ (s : SessionState). s.text) kept ∙ ap (λ (s : SessionState). s.text) beside;
+  pushed = ap (λ (s : SessionState). s.pushed) kept ∙ ap (λ (s : SessionState). s.pushed) beside;
 }
 
 -- ---- looks
 
-pub finds-as : {old new : State} {q p : Result Question Refusal} {status before after : ℕ}
-    → q ≡ p → Finds old new p status before after → Finds old new q status before after
+pub finds-as : {old new : SessionState} {q p : Result Question Refusal} {status before after : ℕ}
+    → q ≡ p → FindsNode old new p status before after → FindsNode old new q status before after
 finds-as {old = old} {new = new} {status = status} {before = before} {after = after} same was =
-    subst (λ (r : Result Question Refusal). Finds old new r status before after) (sym same) was
+    subst (λ (r : Result Question Refusal). FindsNode old new r status before after) (sym same) was
 
 -- a look-up of a place that isn't UTF-8
-pub finds-not_utf8 : {old : State} {q : Result Question Refusal} {status before : ℕ}
-    → q ≡ Err NotUtf8 → status ≡ code_of NotUtf8 → Finds old old q status before before
+pub finds-not_utf8 : {old : SessionState} {q : Result Question Refusal} {status before : ℕ}
+    → q ≡ Err NotUtf8 → status ≡ code_of NotUtf8 → FindsNode old old q status before before
 finds-not_utf8 is code = finds-as is (record {
   response = Refuses NotUtf8;
   responds = inr refl;
@@ -121,7 +122,7 @@ finds-not_utf8 is code = finds-as is (record {
   stays = refl;
 })
 
-pub fetches-as : {old new : State} {q p : Result Question Refusal} {status : ℕ}
+pub fetches-as : {old new : SessionState} {q p : Result Question Refusal} {status : ℕ}
     {before after : FetchedOut} → q ≡ p → Fetches old new old.pushed p status before after
     → Fetches old new old.pushed q status before after
 fetches-as {old = old} {new = new} {status = status} {before = before} {after = after} same was =
@@ -129,7 +130,7 @@ fetches-as {old = old} {new = new} {status = status} {before = before} {after = 
     (sym same) was
 
 -- a fetch whose formula isn't UTF-8
-pub fetches-not_utf8 : {old : State} {q : Result Question Refusal} {status : ℕ}
+pub fetches-not_utf8 : {old : SessionState} {q : Result Question Refusal} {status : ℕ}
     {before : FetchedOut} → q ≡ Err NotUtf8 → status ≡ code_of NotUtf8
     → Fetches old old old.pushed q status before before
 fetches-not_utf8 is code = fetches-as is (record {
@@ -145,7 +146,7 @@ fetches-not_utf8 is code = fetches-as is (record {
 })
 
 -- a fetch, from its response and what was kept of it
-pub fetches-made : {old mid new : State} {response : Response} {p : Result Question Refusal}
+pub fetches-made : {old mid new : SessionState} {response : Response} {p : Result Question Refusal}
     {status : ℕ} {before after : FetchedOut} → Responds old.session p response → mid ≡ old
     → status ≡ response_status response → after ≡ fetched_after response before
     → new ≡ record mid {
@@ -158,19 +159,19 @@ fetches-made {response = response} responds stays code out kept = record {
   responds = responds;
   code = code;
   out = out;
-  entries = ap (λ (s : State). s.entries) kept
-      ∙ ap (λ (s : State). fetched_entries response s.entries) stays;
-  fault = ap (λ (s : State). s.fault) kept
-      ∙ ap (λ (s : State). looked_fault response s.fault) stays;
-  session = ap (λ (s : State). s.session) kept ∙ ap (λ (s : State). s.session) stays;
-  text = ap (λ (s : State). s.text) kept ∙ ap (λ (s : State). s.text) stays;
-  pushed = ap (λ (s : State). s.pushed) kept ∙ ap (λ (s : State). s.pushed) stays;
+  entries = ap (λ (s : SessionState). s.entries) kept
+      ∙ ap (λ (s : SessionState). fetched_entries response s.entries) stays;
+  fault = ap (λ (s : SessionState). s.fault) kept
+      ∙ ap (λ (s : SessionState). looked_fault response s.fault) stays;
+  session = ap (λ (s : SessionState). s.session) kept ∙ ap (λ (s : SessionState). s.session) stays;
+  text = ap (λ (s : SessionState). s.text) kept ∙ ap (λ (s : SessionState). s.text) stays;
+  pushed = ap (λ (s : SessionState). s.pushed) kept ∙ ap (λ (s : SessionState). s.pushed) stays;
 }
 
 -- ---- pushes
 
 -- a push with the outcome of another
-pub pushes-as : (old new : State) (status : ℕ) {q p : Result (Option Stacked) Refusal}
+pub pushes-as : (old new : SessionState) (status : ℕ) {q p : Result (Option Stacked) Refusal}
     → q ≡ p → Pushes old new p status → Pushes old new q status
 pushes-as old new status same was =
     subst (λ (r : Result (Option Stacked) Refusal). Pushes old new r status) (sym same) was

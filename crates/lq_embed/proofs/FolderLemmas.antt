@@ -9,10 +9,10 @@ use Rattle.lq_volume.specs.Folder.{AreChildren, Leads}
 use Rattle.lq_volume.specs.State.{root}
 use Rattle.lq_volume.specs.Lookup.{children_refusals, path_refusals}
 use Rattle.lq_embed.specs.Folders.{IsPathText, Lists, Paths, found_or, path_text, size_after}
-use Rattle.lq_embed.specs.State.{State, volume_in, with_entries, with_text}
+use Rattle.lq_embed.specs.SessionState.{SessionState, volume_in, with_entries, with_text}
 use Rattle.lq_embed.specs.Status.{outcome_status}
 
-pub lists-made : {old new : State} {dir status before after : ℕ} (s : volume.State)
+pub lists-made : {old new : SessionState} {dir status before after : ℕ} (s : volume.State)
     (outcome : Result (List Entry) Refusal) → s ≡ volume_in old
     → IsRefusedBy outcome (first_refusal (children_refusals s dir))
     → IfOk outcome (λ entries. AreChildren s.records dir entries)
@@ -30,7 +30,7 @@ lists-made {dir = dir} s outcome same refused children code out entries = record
   entries = entries;
 }
 
-pub paths-made : {old new : State} {node status before after : ℕ} (s : volume.State)
+pub paths-made : {old new : SessionState} {node status before after : ℕ} (s : volume.State)
     (outcome : Result (List ℕ) Refusal) → s ≡ volume_in old
     → IsRefusedBy outcome (first_refusal (path_refusals s node))
     → IfOk outcome (λ text. (names : List (List ℕ)) × (Leads s.records root names node

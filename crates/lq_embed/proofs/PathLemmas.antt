@@ -12,13 +12,13 @@ use Rattle.lq_volume.specs.Lookup.{find_refusals}
 use Rattle.lq_volume.specs.State as volume
 use Rattle.lq_volume.specs.State.{Record, node_in}
 use Rattle.lq_script_request.specs.declared.question.Question.TheVariants.{Find}
-use Rattle.lq_script_desk.specs.Answered.{answered, found}
+use Rattle.lq_script_desk.specs.Answered.{answered, found_answer}
 use Rattle.lq_script_desk.specs.Response.{Response, Refuses, Found}
 use Rattle.lq_embed.proofs.CallLemmas.{finds-as}
-use Rattle.lq_embed.specs.Calls.{Finds, Responds}
+use Rattle.lq_embed.specs.Calls.{FindsNode, Responds}
 use Rattle.lq_embed.specs.Outs.{node_after}
 use Rattle.lq_embed.specs.PathNames.{name_length, named_question, names_among, names_in, parts_of, with_byte}
-use Rattle.lq_embed.specs.State.{State, volume_in}
+use Rattle.lq_embed.specs.SessionState.{SessionState, volume_in}
 use Rattle.lq_embed.specs.Status.{response_status}
 
 -- ---- the names
@@ -165,7 +165,7 @@ IsThere response es dir name =
     → (node : ℕ) × (response ≡ Found node) × (node_in es dir name ≡ Some node)
 
 there-found : (es : List (ℕ × Record)) (dir : ℕ) (name : List ℕ) (refusal : Option Refusal)
-    (at : Option ℕ) → node_in es dir name ≡ at → IsThere (found refusal at) es dir name
+    (at : Option ℕ) → node_in es dir name ≡ at → IsThere (found_answer refusal at) es dir name
 there-found es dir name (Some e) at is ok = absurd (coded e ok)
 there-found es dir name None None is ok = absurd (coded NoEntry ok)
 there-found es dir name None (Some node) is ok = (node, refl, is)
@@ -175,7 +175,7 @@ there-refused : (es : List (ℕ × Record)) (dir : ℕ) (name : List ℕ) (e : R
 there-refused es dir name e ok = absurd (coded e ok)
 
 -- the response to the question of a name, whatever the tests of its bytes give
-named-there : (old : State) (dir : ℕ) (name : List ℕ) (long utf8 valid : Bool)
+named-there : (old : SessionState) (dir : ℕ) (name : List ℕ) (long utf8 valid : Bool)
     → IsThere (answered old.session (if long then Err BadName
     else (if utf8 then (if valid then Ok (Find dir name) else Err BadName) else Err NotUtf8))).0
     (volume_in old).records dir name
@@ -189,8 +189,8 @@ named-there old dir name false true true = there-found (volume_in old).records d
     (first_refusal (find_refusals (volume_in old) dir name))
     (node_in (volume_in old).records dir name) refl
 
-pub found-node : {old new : State} {status before after : ℕ} (dir : ℕ) (name : List ℕ)
-    → Finds old new (named_question dir name) status before after → status ≡ 0
+pub found-node : {old new : SessionState} {status before after : ℕ} (dir : ℕ) (name : List ℕ)
+    → FindsNode old new (named_question dir name) status before after → status ≡ 0
     → node_in (volume_in old).records dir name ≡ Some after
 found-node {old = old} {before = before} {after = after} dir name finds ok =
     from (at finds.responds (sym finds.code ∙ ok))
@@ -209,9 +209,9 @@ found-node {old = old} {before = before} {after = after} dir name finds ok =
         (sym (finds.out ∙ ap (λ (r : Response). node_after r before) there.1))
 
 -- a name that is too long is refused unread
-pub finds-long : {old : State} {status before : ℕ} (dir : ℕ) (name : List ℕ)
+pub finds-long : {old : SessionState} {status before : ℕ} (dir : ℕ) (name : List ℕ)
     → nat_lt 255 (length name) ≡ true → status ≡ code_of BadName
-    → Finds old old (named_question dir name) status before before
+    → FindsNode old old (named_question dir name) status before before
 finds-long dir name long code = finds-as {p = Err BadName} (rw long refl) (record {
   response = Refuses BadName;
   responds = inr refl;

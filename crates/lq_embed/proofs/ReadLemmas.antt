@@ -5,12 +5,12 @@ use Rattle.std.proofs.lemmas.List.{drop_more, drop-set-lt, length-take, set-get_
 use Rattle.lq_value.specs.declared.refusal.Refusal.{Refusal}
 use Rattle.lq_desk_world.specs.Events.{Answer}
 use Rattle.lq_desk_world.specs.Events as answer
-use Rattle.lq_embed.specs.declared.outs.MessageOut.{MessageOut}
+use Rattle.lq_embed.specs.declared.out_structs.MessageOut.{MessageOut}
 use Rattle.lq_embed.specs.Reads.{IsStopped, ReadsEach, ReadsOne, last_count, last_status, parcel_in, place_after}
-use Rattle.lq_embed.specs.State.{State}
+use Rattle.lq_embed.specs.SessionState.{SessionState}
 
 -- one more read, in the next place
-each-more : {slot : ℕ} {last new : State} {place read : MessageOut} (old : State)
+each-more : {slot : ℕ} {last new : SessionState} {place read : MessageOut} (old : SessionState)
     (places reads : List MessageOut) → ReadsEach slot old places reads last
     → ReadsOne last new slot (Ok true) place read
     → ReadsEach slot old (places ++ (place ∷ [])) (reads ++ (read ∷ [])) new
@@ -19,7 +19,7 @@ each-more {slot = slot} {new = new} {place = place} {read = read} old [] reads e
   read,
   [],
   ap (λ rs. rs ++ (read ∷ [])) each.0,
-  subst (λ (s : State). ReadsOne s new slot (Ok true) place read) each.1 one,
+  subst (λ (s : SessionState). ReadsOne s new slot (Ok true) place read) each.1 one,
   (refl, refl),
 )
 each-more {slot = slot} {read = read} old (first ∷ places) reads each one = (
@@ -32,13 +32,13 @@ each-more {slot = slot} {read = read} old (first ∷ places) reads each one = (
 )
 
 -- how far the loop has come: each place before this one has what was read, the others are as before
-pub record AreRead (slot : ℕ) (first now : State) (i : ℕ) (before places : List MessageOut)
+pub record AreRead (slot : ℕ) (first now : SessionState) (i : ℕ) (before places : List MessageOut)
     : Type 0 where
   pub each : ReadsEach slot first (take i before) (take i places) now
   pub rest : drop i places ≡ drop i before
 
 -- the places left are those that there were
-next-left : {slot : ℕ} {first now : State} {i : ℕ} {before places : List MessageOut}
+next-left : {slot : ℕ} {first now : SessionState} {i : ℕ} {before places : List MessageOut}
     {place : MessageOut} (d : MessageOut) → AreRead slot first now i before places
     → i < length before → i < length places → place ≡ get_or places i d
     → place ∷ drop (i + 1) places ≡ get_or before i d ∷ drop (i + 1) before
@@ -46,14 +46,14 @@ next-left {i = i} {before = before} {places = places} d was lt inside at =
     ap (λ x. x ∷ drop (i + 1) places) at ∙ (sym (drop_more places i d inside)
     ∙ (was.rest ∙ drop_more before i d lt))
 
-next-same : {slot : ℕ} {first now : State} {i : ℕ} {before places : List MessageOut}
+next-same : {slot : ℕ} {first now : SessionState} {i : ℕ} {before places : List MessageOut}
     {place : MessageOut} (d : MessageOut) → AreRead slot first now i before places
     → i < length before → i < length places → place ≡ get_or places i d
     → get_or before i d ≡ place
 next-same d was lt inside at = ap (λ xs. get_or xs 0 d) (sym (next-left d was lt inside at))
 
 -- one more
-pub read-next : {slot : ℕ} {first now new : State} {i : ℕ} {before places : List MessageOut}
+pub read-next : {slot : ℕ} {first now new : SessionState} {i : ℕ} {before places : List MessageOut}
     {place : MessageOut} (d read : MessageOut) → AreRead slot first now i before places
     → i < length before → i < length places → place ≡ get_or places i d → (there : Bool)
     → there ≡ true → ReadsOne now new slot (Ok there) place read
@@ -75,7 +75,7 @@ read-next {slot = slot} {first = first} {now = now} {new = new} {i = i} {before 
     }
 
 -- each place was read into
-pub read-all : {slot : ℕ} {first now : State} {i : ℕ} {before places : List MessageOut}
+pub read-all : {slot : ℕ} {first now : SessionState} {i : ℕ} {before places : List MessageOut}
     → AreRead slot first now i before places → length before ≤ i → length places ≤ i
     → ReadsEach slot first before places now
 read-all {slot = slot} {first = first} {now = now} {i = i} {before = before} {places = places}
@@ -99,7 +99,7 @@ place-stays answer.Finished place none = refl
 place-stays (answer.Refused refusal) place none = refl
 
 -- a read that gives neither, after which the loop ends
-pub read-stop : {slot : ℕ} {first now new : State} {i : ℕ} {before places : List MessageOut}
+pub read-stop : {slot : ℕ} {first now new : SessionState} {i : ℕ} {before places : List MessageOut}
     {place read : MessageOut} {outcome : Result Bool Refusal} {status got_before got : ℕ}
     (d : MessageOut) → AreRead slot first now i before places → i < length before
     → i < length places → place ≡ get_or places i d → ReadsOne now new slot outcome place read

@@ -2,11 +2,11 @@
 use Rattle.std.proofs.Common.{◌≡◌, ◌∙◌, ◌+◌, ◌≤◌, ◌<◌, ℕ, zero, suc, List, [], ◌∷◌, length, get_or, take, drop, set, refl, sym, ap, subst, add-one, arith, true}
 use Rattle.lq_value.specs.declared.entry.Entry.{Entry}
 use Rattle.lq_volume.specs.State as volume
-use Rattle.lq_embed.specs.declared.outs.RowOut.{RowOut}
-use Rattle.lq_embed.specs.Calls.{Gives}
+use Rattle.lq_embed.specs.declared.out_structs.RowOut.{RowOut}
+use Rattle.lq_embed.specs.Calls.{GivesRow}
 use Rattle.lq_embed.specs.Outs.{row_after}
 use Rattle.lq_embed.specs.Rows.{Takes, rows_after}
-use Rattle.lq_embed.specs.State.{State, volume_in, with_entries}
+use Rattle.lq_embed.specs.SessionState.{SessionState, volume_in, with_entries}
 
 -- what is left after one more of a list that isn't at its end
 left-next : {A : Type 0} (i : ℕ) (xs : List A) (x : A) (rest : List A) → drop i xs ≡ x ∷ rest
@@ -59,24 +59,25 @@ rows-full s (suc i) (e ∷ es) (row ∷ rows) le =
     ap (λ ys. row_after s e row ∷ ys) (rows-full s i es rows (omega arith))
 
 -- how far the loop has come: each place before this one has its entry
-pub record AreGiven (first now : State) (i : ℕ) (before places : List RowOut)
+pub record AreGiven (first now : SessionState) (i : ℕ) (before places : List RowOut)
     : Type 0 where
   pub within : i ≤ length first.entries
   pub rows : places ≡ rows_after (volume_in first) (take i first.entries) before
   pub state : now ≡ with_entries first (drop i first.entries)
 
 -- one more
-pub given-next : {first now new : State} {i : ℕ} {before places : List RowOut} {place : RowOut}
+pub given-next : {first now new : SessionState} {i : ℕ} {before places : List RowOut}
+    {place : RowOut}
     (d row : RowOut) → AreGiven first now i before places → i < length before
-    → place ≡ get_or places i d → Gives now new true place row now.entries
+    → place ≡ get_or places i d → GivesRow now new true place row now.entries
     → AreGiven first new (i + 1) before (set places i row)
 given-next {first = first} {now = now} {new = new} {i = i} {before = before} {places = places}
     {place = place} d row was lt at gives =
     from (drop i first.entries) refl
-    (subst (λ (s : State). Gives s new true place row s.entries) was.state gives)
+    (subst (λ (s : SessionState). GivesRow s new true place row s.entries) was.state gives)
   where
     from : (left : List Entry) → drop i first.entries ≡ left
-        → Gives (with_entries first (drop i first.entries)) new true place row left
+        → GivesRow (with_entries first (drop i first.entries)) new true place row left
         → AreGiven first new (i + 1) before (set places i row)
     from [] is there = absurd (let no : ⊥ = cc in no)
     from (e ∷ rest) is there =
@@ -94,7 +95,7 @@ given-next {first = first} {now = now} {new = new} {i = i} {before = before} {pl
         }
 
 -- where no place is left
-pub given-full : {first now : State} {i got : ℕ} {before places : List RowOut}
+pub given-full : {first now : SessionState} {i got : ℕ} {before places : List RowOut}
     → AreGiven first now i before places → i ≡ length before → got ≡ i
     → Takes first now got before places
 given-full {first = first} {i = i} {before = before} was all count = record {

@@ -11,9 +11,9 @@ use Rattle.lq_volume.specs.State as volume
 use Rattle.lq_volume.specs.State.{Record, record_at}
 use Rattle.lq_volume.specs.Attributes.{value_of}
 use Rattle.lq_volume.specs.Lookup.{entry_refusals}
-use Rattle.lq_embed.specs.declared.outs.AttrOut.{AttrOut}
+use Rattle.lq_embed.specs.declared.out_structs.AttrOut.{AttrOut}
 use Rattle.lq_embed.specs.Outs.{attr_after}
-use Rattle.lq_embed.specs.State.{State}
+use Rattle.lq_embed.specs.SessionState.{SessionState}
 
 -- an attribute, if it is there
 abbrev pub attr_or : Option (List ℕ × Value) → Result (List ℕ × Value) Refusal
@@ -27,8 +27,8 @@ unless_refused (Some refusal) attr = Err refusal
 unless_refused None attr = attr_or attr
 
 -- the attribute at an index, from 0
-abbrev pub attr_by_place : volume.State → ℕ → ℕ → Result (List ℕ × Value) Refusal
-attr_by_place s node index = unless_refused (first_refusal (entry_refusals s node))
+abbrev pub attr_by_index : volume.State → ℕ → ℕ → Result (List ℕ × Value) Refusal
+attr_by_index s node index = unless_refused (first_refusal (entry_refusals s node))
     (option_and_then (λ r. slice_get r.attrs index) (record_at s node))
 
 -- the attribute with a name
@@ -53,14 +53,14 @@ attr_out (Err refusal) out = out
 attr_out (Ok attr) out = attr_after attr.0 attr.1 out
 
 -- a look at an attribute
-pub record ShowsAttr (old new : State) (attr : Result (List ℕ × Value) Refusal) (status : ℕ)
+pub record ShowsAttr (old new : SessionState) (attr : Result (List ℕ × Value) Refusal) (status : ℕ)
     (before after : AttrOut) : Type 0 where
   pub code : status ≡ attr_status attr
   pub out : after ≡ attr_out attr before
   pub stays : new ≡ old
 
 -- the same, or memory ran out
-abbrev pub ShowsNamed : State → State → Result (List ℕ × Value) Refusal → ℕ
+abbrev pub ShowsNamed : SessionState → SessionState → Result (List ℕ × Value) Refusal → ℕ
     → AttrOut → AttrOut → Type 0
 ShowsNamed old new attr status before after = ShowsAttr old new attr status before after
     ⊎ ShowsAttr old new (Err NoMemory) status before after

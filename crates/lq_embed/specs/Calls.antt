@@ -15,15 +15,15 @@ use Rattle.lq_script_desk.specs.Session.{Session}
 use Rattle.lq_script_desk.specs.Keeps.{without_fold}
 use Rattle.lq_script_desk.specs.Answered.{answered}
 use Rattle.lq_script_desk.specs.Turned.{Turned}
-use Rattle.lq_embed.specs.declared.outs.AppliedOut.{AppliedOut}
-use Rattle.lq_embed.specs.declared.outs.OpeningOut.{OpeningOut}
-use Rattle.lq_embed.specs.declared.outs.FetchedOut.{FetchedOut}
-use Rattle.lq_embed.specs.declared.outs.RebuiltOut.{RebuiltOut}
-use Rattle.lq_embed.specs.declared.outs.RowOut.{RowOut}
-use Rattle.lq_embed.specs.declared.outs.MessageOut.{MessageOut}
-use Rattle.lq_embed.specs.declared.outs.InfoOut.{InfoOut}
+use Rattle.lq_embed.specs.declared.out_structs.AppliedOut.{AppliedOut}
+use Rattle.lq_embed.specs.declared.out_structs.OpeningOut.{OpeningOut}
+use Rattle.lq_embed.specs.declared.out_structs.FetchedOut.{FetchedOut}
+use Rattle.lq_embed.specs.declared.out_structs.RebuiltOut.{RebuiltOut}
+use Rattle.lq_embed.specs.declared.out_structs.RowOut.{RowOut}
+use Rattle.lq_embed.specs.declared.out_structs.MessageOut.{MessageOut}
+use Rattle.lq_embed.specs.declared.out_structs.InfoOut.{InfoOut}
 use Rattle.lq_embed.specs.Outs.{applied_after, opening_after, entries_after, change_after, fault_after, read_after, node_after, fetched_after, rebuilt_after, fetched_entries, rebuilt_entries, looked_fault, info_after, row_after}
-use Rattle.lq_embed.specs.State.{State, volume_in, with_session, with_entries, with_fault, with_pushed}
+use Rattle.lq_embed.specs.SessionState.{SessionState, volume_in, with_session, with_entries, with_fault, with_pushed}
 use Rattle.lq_embed.specs.Status.{status_of, response_status}
 
 -- ---- events
@@ -42,7 +42,7 @@ Asks old new (Ok (Event event)) answer =
 Asks old new (Ok look) answer = IsBarred old new BadLine answer
 
 -- a change
-pub record Changes (old new : State) (q : Result Question Refusal) (status : ℕ)
+pub record Changes (old new : SessionState) (q : Result Question Refusal) (status : ℕ)
     (before after : AppliedOut) : Type 0 where
   pub answer : Answer
   pub asks : Asks old.session new.session q answer
@@ -51,7 +51,8 @@ pub record Changes (old new : State) (q : Result Question Refusal) (status : ℕ
   pub beside : new ≡ with_session old new.session
 
 -- an opening, whose result is to be given; the stack of pushes afterwards
-pub record Opens (old new : State) (stack : Stacked) (q : Result Question Refusal) (status : ℕ)
+pub record Opens (old new : SessionState) (stack : Stacked) (q : Result Question Refusal)
+    (status : ℕ)
     (before after : OpeningOut) : Type 0 where
   pub answer : Answer
   pub asks : Asks old.session new.session q answer
@@ -63,7 +64,7 @@ pub record Opens (old new : State) (stack : Stacked) (q : Result Question Refusa
   pub pushed : new.pushed ≡ stack
 
 -- a read of a slot
-pub record IsRead (old new : State) (event : Event_) (status : ℕ)
+pub record ReadsSlot (old new : SessionState) (event : Event_) (status : ℕ)
     (before after : MessageOut) : Type 0 where
   pub answer : Answer
   pub turned : Turned old.session new.session event answer
@@ -72,7 +73,8 @@ pub record IsRead (old new : State) (event : Event_) (status : ℕ)
   pub beside : new ≡ with_session old new.session
 
 -- the end of a subscription, which gives the last change that it covers
-pub record Ends (old new : State) (event : Event_) (status : ℕ) (before after : ℕ) : Type 0 where
+pub record Ends (old new : SessionState) (event : Event_) (status : ℕ) (before after : ℕ) :
+    Type 0 where
   pub answer : Answer
   pub turned : Turned old.session new.session event answer
   pub code : status ≡ status_of answer
@@ -80,18 +82,18 @@ pub record Ends (old new : State) (event : Event_) (status : ℕ) (before after 
   pub beside : new ≡ with_session old new.session
 
 -- another act at a slot, which gives nothing
-pub record Acts (old new : State) (event : Event_) (status : ℕ) : Type 0 where
+pub record Acts (old new : SessionState) (event : Event_) (status : ℕ) : Type 0 where
   pub answer : Answer
   pub turned : Turned old.session new.session event answer
   pub code : status ≡ status_of answer
   pub beside : new ≡ with_session old new.session
 
 -- the bit of each slot in this word tells whether a read of it would give a message or the mark
-abbrev pub TellsSlots : State → ℕ → Type 0
+abbrev pub TellsSlots : SessionState → ℕ → Type 0
 TellsSlots s word = TellsReady s.session.core word
 
 -- the state with no rebuilt result at a slot
-abbrev pub forgotten : State → ℕ → State
+abbrev pub forgotten : SessionState → ℕ → SessionState
 forgotten s slot = with_session s (without_fold s.session slot)
 
 -- ---- looks
@@ -102,7 +104,8 @@ Responds session q response = (response ≡ Refuses NoMemory)
     ⊎ (response ≡ (answered session q).0)
 
 -- the node at a place
-pub record Finds (old new : State) (q : Result Question Refusal) (status : ℕ) (before after : ℕ)
+pub record FindsNode (old new : SessionState) (q : Result Question Refusal) (status : ℕ)
+    (before after : ℕ)
     : Type 0 where
   pub response : Response
   pub responds : Responds old.session q response
@@ -111,7 +114,8 @@ pub record Finds (old new : State) (q : Result Question Refusal) (status : ℕ) 
   pub stays : new ≡ old
 
 -- a fetch, whose result is to be given; the stack of pushes afterwards
-pub record Fetches (old new : State) (stack : Stacked) (q : Result Question Refusal) (status : ℕ)
+pub record Fetches (old new : SessionState) (stack : Stacked) (q : Result Question Refusal)
+    (status : ℕ)
     (before after : FetchedOut) : Type 0 where
   pub response : Response
   pub responds : Responds old.session q response
@@ -124,7 +128,7 @@ pub record Fetches (old new : State) (stack : Stacked) (q : Result Question Refu
   pub pushed : new.pushed ≡ stack
 
 -- a slot's rebuilt result, which is to be given
-pub record Rebuilds (old new : State) (q : Result Question Refusal) (status : ℕ)
+pub record Rebuilds (old new : SessionState) (q : Result Question Refusal) (status : ℕ)
     (before after : RebuiltOut) : Type 0 where
   pub response : Response
   pub responds : Responds old.session q response
@@ -133,7 +137,7 @@ pub record Rebuilds (old new : State) (q : Result Question Refusal) (status : �
   pub entries : new ≡ with_entries old (rebuilt_entries response old.entries)
 
 -- the entry of a node
-pub record Shows (old new : State) (q : Result Question Refusal) (status : ℕ)
+pub record ShowsEntry (old new : SessionState) (q : Result Question Refusal) (status : ℕ)
     (before after : InfoOut) : Type 0 where
   pub code : status ≡ response_status (answered old.session q).0
   pub out : after ≡ info_after (answered old.session q).0 before
@@ -144,14 +148,14 @@ pub record Shows (old new : State) (q : Result Question Refusal) (status : ℕ)
 -- A push. One that is read and fits gives the stack after it, or memory runs out. One that doesn't
 -- fit is refused, and the number of pushes before it is kept as its place. A refused push leaves
 -- the stack.
-abbrev pub Pushes : State → State → Result (Option Stacked) Refusal → ℕ → Type 0
+abbrev pub Pushes : SessionState → SessionState → Result (Option Stacked) Refusal → ℕ → Type 0
 Pushes old new (Err refusal) status = (status ≡ code_of refusal) × (new ≡ old)
 Pushes old new (Ok None) status = (status ≡ 20) × (new ≡ with_fault old old.pushed.pushes)
 Pushes old new (Ok (Some stack)) status =
     ((status ≡ 0) × (new ≡ with_pushed old stack)) ⊎ ((status ≡ 15) × (new ≡ old))
 
 -- the next entry of a result, if there is one
-abbrev pub Gives : State → State → Bool → RowOut → RowOut → List Entry → Type 0
-Gives old new there before after [] = (there ≡ false) × (new ≡ old) × (after ≡ before)
-Gives old new there before after (entry ∷ entries) = (there ≡ true)
+abbrev pub GivesRow : SessionState → SessionState → Bool → RowOut → RowOut → List Entry → Type 0
+GivesRow old new there before after [] = (there ≡ false) × (new ≡ old) × (after ≡ before)
+GivesRow old new there before after (entry ∷ entries) = (there ≡ true)
     × (new ≡ with_entries old entries) × (after ≡ row_after (volume_in old) entry before)

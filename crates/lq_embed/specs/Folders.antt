@@ -6,7 +6,7 @@ use Rattle.lq_value.specs.Refusal.{IsRefusedBy, first_refusal}
 use Rattle.lq_volume.specs.Folder.{AreChildren, Leads}
 use Rattle.lq_volume.specs.Lookup.{children_refusals, path_refusals}
 use Rattle.lq_volume.specs.State.{root}
-use Rattle.lq_embed.specs.State.{State, volume_in, with_entries, with_text}
+use Rattle.lq_embed.specs.SessionState.{SessionState, volume_in, with_entries, with_text}
 use Rattle.lq_embed.specs.Status.{outcome_status}
 
 -- each name with `/` before it
@@ -29,7 +29,7 @@ found_or (Ok found) before = found
 found_or (Err refusal) before = before
 
 -- the entries in a folder, which are to be given
-pub record Lists (old new : State) (dir status before after : ℕ) : Type 0 where
+pub record Lists (old new : SessionState) (dir status before after : ℕ) : Type 0 where
   pub outcome : Result (List Entry) Refusal
   pub refused : IsRefusedBy outcome (first_refusal (children_refusals (volume_in old) dir))
   pub children : IfOk outcome (λ entries. AreChildren (volume_in old).records dir entries)
@@ -38,13 +38,13 @@ pub record Lists (old new : State) (dir status before after : ℕ) : Type 0 wher
   pub entries : new ≡ with_entries old (found_or outcome old.entries)
 
 -- the text is that of names which lead from the root to the node
-pub record IsPathText (s : State) (node : ℕ) (written : List ℕ) : Type 0 where
+pub record IsPathText (s : SessionState) (node : ℕ) (written : List ℕ) : Type 0 where
   pub names : List (List ℕ)
   pub leads : Leads (volume_in s).records root names node
   pub text : written ≡ path_text names
 
 -- the path of a node, which is the text then
-pub record Paths (old new : State) (node status before after : ℕ) : Type 0 where
+pub record Paths (old new : SessionState) (node status before after : ℕ) : Type 0 where
   pub outcome : Result (List ℕ) Refusal
   pub refused : IsRefusedBy outcome (first_refusal (path_refusals (volume_in old) node))
   pub path : IfOk outcome (λ text. IsPathText old node text)

@@ -1,4 +1,4 @@
-pub mod State
+pub mod SessionState
 pub mod Status
 pub mod Outs
 pub mod Numbers

@@ -3,23 +3,23 @@ use Rattle.std.specs.Prelude.{◌≡◌, ◌==◌, ◌&&◌, ℕ, Bool, Result, 
 use Rattle.lq_value.specs.declared.refusal.Refusal.{Refusal}
 use Rattle.lq_predicate.specs.Stacked.{Stacked}
 use Rattle.lq_script_request.specs.declared.question.Question.{Question}
-use Rattle.lq_embed.specs.declared.outs.OpenOptions.{OpenOptions}
-use Rattle.lq_embed.specs.declared.outs.OpeningOut.{OpeningOut}
+use Rattle.lq_embed.specs.declared.out_structs.OpenOptions.{OpenOptions}
+use Rattle.lq_embed.specs.declared.out_structs.OpeningOut.{OpeningOut}
 use Rattle.lq_embed.specs.Calls.{Opens, forgotten}
-use Rattle.lq_embed.specs.State.{State}
+use Rattle.lq_embed.specs.SessionState.{SessionState}
 
 -- 0 stands for the largest
 abbrev pub backlog_of : ℕ → ℕ
 backlog_of backlog = if backlog == 0 then 65536 else backlog
 
 -- the state after a slot was opened, with no rebuilt result there where none is wanted
-abbrev pub kept_by : Bool → ℕ → ℕ → State → State
+abbrev pub kept_by : Bool → ℕ → ℕ → SessionState → SessionState
 kept_by no_result status slot s =
     if no_result && status == 0 then forgotten s slot else s
 
 -- an opening, after which the slot has a rebuilt result only where it is wanted
-pub record OpensBy (old new : State) (stack : Stacked) (options : OpenOptions)
+pub record OpensBy (old new : SessionState) (stack : Stacked) (options : OpenOptions)
     (q : Result Question Refusal) (status : ℕ) (before after : OpeningOut) : Type 0 where
-  pub opened : State
+  pub opened : SessionState
   pub opens : Opens old opened stack q status before after
   pub kept : new ≡ kept_by options.no_result status after.slot opened

@@ -14,17 +14,17 @@ use Rattle.lq_update.specs.declared.mark.Cause.{Cause}
 use Rattle.lq_update.specs.declared.mark.Cause.TheVariants as cause
 use Rattle.lq_update.specs.declared.parcel.Parcel.TheVariants.{Update, Fin}
 use Rattle.lq_desk_world.specs.Events.{Answer, Changed, Opened, Took, Empty, Ended, Shut, Refused}
-use Rattle.lq_script_desk.specs.Answered.{shown_in}
+use Rattle.lq_script_desk.specs.Answered.{entry_answer}
 use Rattle.lq_script_desk.specs.Response.{Response, Found, Listed, Fetched, Rebuilt, Refuses}
 use Rattle.lq_embed.specs.Numbers.{number_of_kind}
-use Rattle.lq_embed.specs.declared.outs.AppliedOut.{AppliedOut}
-use Rattle.lq_embed.specs.declared.outs.OpeningOut.{OpeningOut}
-use Rattle.lq_embed.specs.declared.outs.FetchedOut.{FetchedOut}
-use Rattle.lq_embed.specs.declared.outs.RebuiltOut.{RebuiltOut}
-use Rattle.lq_embed.specs.declared.outs.RowOut.{RowOut}
-use Rattle.lq_embed.specs.declared.outs.MessageOut.{MessageOut}
-use Rattle.lq_embed.specs.declared.outs.InfoOut.{InfoOut}
-use Rattle.lq_embed.specs.declared.outs.AttrOut.{AttrOut}
+use Rattle.lq_embed.specs.declared.out_structs.AppliedOut.{AppliedOut}
+use Rattle.lq_embed.specs.declared.out_structs.OpeningOut.{OpeningOut}
+use Rattle.lq_embed.specs.declared.out_structs.FetchedOut.{FetchedOut}
+use Rattle.lq_embed.specs.declared.out_structs.RebuiltOut.{RebuiltOut}
+use Rattle.lq_embed.specs.declared.out_structs.RowOut.{RowOut}
+use Rattle.lq_embed.specs.declared.out_structs.MessageOut.{MessageOut}
+use Rattle.lq_embed.specs.declared.out_structs.InfoOut.{InfoOut}
+use Rattle.lq_embed.specs.declared.out_structs.AttrOut.{AttrOut}
 
 -- ---- texts
 
@@ -35,8 +35,8 @@ ended (byte ∷ room) = 0 ∷ room
 
 -- a text at the front of room, and a NUL after it, if they fit; room that is smaller than the text
 -- stays
-abbrev pub written : List ℕ → List ℕ → List ℕ
-written text room =
+abbrev pub text_put : List ℕ → List ℕ → List ℕ
+text_put text room =
     if nat_le (length text) (length room) then text ++ ended (drop (length text) room) else room
 
 -- ---- changes and openings
@@ -102,8 +102,8 @@ message_after m out = record {
   last = m.last;
   name_size = length m.name;
   from_name_size = length (from_name_of m.op);
-  name = written m.name out.name;
-  from_name = written (from_name_of m.op) out.from_name;
+  name = text_put m.name out.name;
+  from_name = text_put (from_name_of m.op) out.from_name;
 }
 
 -- nothing but a number of `what`, a `seq`, a change and a cause
@@ -120,8 +120,8 @@ bare_after what seq change cause out = record {
   last = false;
   name_size = 0;
   from_name_size = 0;
-  name = written [] out.name;
-  from_name = written [] out.from_name;
+  name = text_put [] out.name;
+  from_name = text_put [] out.from_name;
 }
 
 abbrev pub read_after : Answer → MessageOut → MessageOut
@@ -169,7 +169,7 @@ info_after (Listed node r) out = record {
   kind = number_of_kind r.kind;
   attr_count = length r.attrs;
   name_size = length r.name;
-  name = written r.name out.name;
+  name = text_put r.name out.name;
 }
 info_after response out = out
 
@@ -191,11 +191,11 @@ abbrev pub row_after : volume.State → Entry → RowOut → RowOut
 row_after s e out = record {
   dir = e.dir;
   node = e.node;
-  size = size_in (shown_in s e.node);
-  time = time_in (shown_in s e.node);
-  kind = kind_in (shown_in s e.node);
+  size = size_in (entry_answer s e.node);
+  time = time_in (entry_answer s e.node);
+  kind = kind_in (entry_answer s e.node);
   name_size = length e.name;
-  name = written e.name out.name;
+  name = text_put e.name out.name;
 }
 
 -- ---- attributes
@@ -229,8 +229,8 @@ attr_after name v out = record {
   natural = natural_of v;
   name_size = length name;
   text_size = length (text_of v);
-  name = written name out.name;
-  text = written (text_of v) out.text;
+  name = text_put name out.name;
+  text = text_put (text_of v) out.text;
 }
 
 -- ---- pushes

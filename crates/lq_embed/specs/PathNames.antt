@@ -4,9 +4,9 @@ use Rattle.lq_value.specs.declared.refusal.Refusal.{Refusal}
 use Rattle.lq_value.specs.declared.refusal.Refusal.TheVariants.{BadName}
 use Rattle.lq_volume.specs.Folder.{Leads}
 use Rattle.lq_script_request.specs.declared.question.Question.{Question}
-use Rattle.lq_embed.specs.Calls.{Finds}
+use Rattle.lq_embed.specs.Calls.{FindsNode}
 use Rattle.lq_embed.specs.Questions.{find_question}
-use Rattle.lq_embed.specs.State.{State, volume_in}
+use Rattle.lq_embed.specs.SessionState.{SessionState, volume_in}
 
 -- what stands between the `/` of a path, before the first and after the last
 abbrev pub with_byte : ℕ → List (List ℕ) → List (List ℕ)
@@ -37,13 +37,14 @@ abbrev pub named_question : ℕ → List ℕ → Result Question Refusal
 named_question dir name = if nat_lt 255 (length name) then Err BadName else find_question dir name
 
 -- the names lead to the node, folder by folder
-pub record IsFoundAt (old new : State) (dir : ℕ) (path : List ℕ) (status after : ℕ) : Type 0 where
+pub record IsFoundAt (old new : SessionState) (dir : ℕ) (path : List ℕ) (status after : ℕ) :
+    Type 0 where
   pub leads : Leads (volume_in old).records dir (names_in path) after
   pub code : status ≡ 0
   pub stays : new ≡ old
 
 -- the names before one lead to a node, and the look-up of that one there is refused
-pub record IsLostAt (old new : State) (dir : ℕ) (path : List ℕ) (status before after : ℕ)
+pub record IsLostAt (old new : SessionState) (dir : ℕ) (path : List ℕ) (status before after : ℕ)
     : Type 0 where
   pub names : List (List ℕ)
   pub name : List ℕ
@@ -52,10 +53,10 @@ pub record IsLostAt (old new : State) (dir : ℕ) (path : List ℕ) (status befo
   pub folder : ℕ
   pub leads : Leads (volume_in old).records dir names folder
   pub found : ℕ
-  pub finds : Finds old new (named_question folder name) status 0 found
+  pub finds : FindsNode old new (named_question folder name) status 0 found
   pub code : status ≢ 0
   pub out : after ≡ before
 
-abbrev pub FindsPath : State → State → ℕ → List ℕ → ℕ → ℕ → ℕ → Type 0
+abbrev pub FindsPath : SessionState → SessionState → ℕ → List ℕ → ℕ → ℕ → ℕ → Type 0
 FindsPath old new dir path status before after =
     IsFoundAt old new dir path status after ⊎ IsLostAt old new dir path status before after

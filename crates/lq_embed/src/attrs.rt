@@ -1,13 +1,13 @@
 //! The attributes of an entry.
 ghost use Rattle.std.specs.Prelude.{◌≡◌};
 ghost use Rattle.lq_value.specs.Value.{shown_by};
-ghost use Rattle.lq_embed.specs.Attrs.{ShowsAttr, ShowsNamed, attr_by_name, attr_by_place, attr_out, attr_status, attr_with_name};
+ghost use Rattle.lq_embed.specs.Attrs.{ShowsAttr, ShowsNamed, attr_by_name, attr_by_index, attr_out, attr_status, attr_with_name};
 ghost use Rattle.lq_embed.specs.Outs.{attr_after};
-ghost use Rattle.lq_embed.specs.State.{holds, volume_in};
+ghost use Rattle.lq_embed.specs.SessionState.{holds, volume_in};
 
 use crate::embedded::Embedded;
-use crate::outs::AttrOut;
-use crate::put::put_text;
+use crate::out_structs::AttrOut;
+use crate::out_text::put_text;
 use crate::statuses::status;
 use lq_value::{AttrName, Refusal, View};
 
@@ -19,7 +19,7 @@ impl Embedded {
     /// `NoAttr` where the entry has no such index.
     pub fn attr_at(&mut self, node: u64, index: usize, out: &mut AttrOut) -> u32
         ensures { ShowsAttr (holds self.old) (holds self.new)
-            (attr_by_place (volume_in (holds self.old)) node index) result out.old out.new }
+            (attr_by_index (volume_in (holds self.old)) node index) result out.old out.new }
     {
         match self.session.volume().entry(node) {
             Err(refusal) => status(refusal),

@@ -6,12 +6,12 @@ ghost use Rattle.lq_script_request.specs.Request.{asks_remove, asks_write, quest
 ghost use Rattle.lq_embed.specs.Calls.{Changes};
 ghost use Rattle.lq_embed.specs.Outs.{applied_after};
 ghost use Rattle.lq_embed.specs.Questions.{create_question, move_question, set_question, set_text_question, unset_question};
-ghost use Rattle.lq_embed.specs.State.{holds};
+ghost use Rattle.lq_embed.specs.SessionState.{holds};
 ghost use Rattle.lq_embed.specs.Status.{status_of};
 
 use crate::embedded::Embedded;
 use crate::numbers::kind_numbered;
-use crate::outs::AppliedOut;
+use crate::out_structs::AppliedOut;
 use crate::statuses::status;
 use lq_desk::Reply;
 use lq_script_request::Request;
@@ -41,7 +41,7 @@ impl Embedded {
         let Some(kind) = kind_numbered(kind) else {
             return status(Refusal::BadLine);
         };
-        let reply = self.carry_out(&Request::Create {
+        let reply = self.answer_request(&Request::Create {
             dir,
             name,
             kind,
@@ -56,7 +56,7 @@ impl Embedded {
         ensures { Changes (holds self.old) (holds self.new) (question_for (asks_remove node))
             result out.old out.new }
     {
-        applied(self.carry_out(&Request::Remove { node }), out)
+        applied(self.answer_request(&Request::Remove { node }), out)
     }
 
     /// Moves the entry of a node to another place; with `clobber` another node there is removed.
@@ -77,7 +77,7 @@ impl Embedded {
         let Ok(name) = str::from_utf8(name) else {
             return status(Refusal::NotUtf8);
         };
-        let reply = self.carry_out(&Request::Move {
+        let reply = self.answer_request(&Request::Move {
             node,
             dir,
             name,
@@ -92,7 +92,10 @@ impl Embedded {
         ensures { Changes (holds self.old) (holds self.new)
             (question_for (asks_write node size time)) result out.old out.new }
     {
-        applied(self.carry_out(&Request::Write { node, size, time }), out)
+        applied(
+            self.answer_request(&Request::Write { node, size, time }),
+            out,
+        )
     }
 
     /// Sets an attribute of an entry to a text.
@@ -110,7 +113,10 @@ impl Embedded {
             return status(Refusal::NotUtf8);
         };
         let value = View::Text(text);
-        applied(self.carry_out(&Request::Set { node, attr, value }), out)
+        applied(
+            self.answer_request(&Request::Set { node, attr, value }),
+            out,
+        )
     }
 
     /// Sets an attribute of an entry to a number of 32 bits with a sign. Refused as `set_text`, but
@@ -123,7 +129,10 @@ impl Embedded {
             return status(Refusal::NotUtf8);
         };
         let value = View::Int32(value);
-        applied(self.carry_out(&Request::Set { node, attr, value }), out)
+        applied(
+            self.answer_request(&Request::Set { node, attr, value }),
+            out,
+        )
     }
 
     /// Sets an attribute of an entry to a number of 64 bits with a sign. Refused as `set_int32`.
@@ -135,7 +144,10 @@ impl Embedded {
             return status(Refusal::NotUtf8);
         };
         let value = View::Int64(value);
-        applied(self.carry_out(&Request::Set { node, attr, value }), out)
+        applied(
+            self.answer_request(&Request::Set { node, attr, value }),
+            out,
+        )
     }
 
     /// Sets an attribute of an entry to a number of 32 bits without a sign. Refused as `set_int32`.
@@ -147,7 +159,10 @@ impl Embedded {
             return status(Refusal::NotUtf8);
         };
         let value = View::UInt32(value);
-        applied(self.carry_out(&Request::Set { node, attr, value }), out)
+        applied(
+            self.answer_request(&Request::Set { node, attr, value }),
+            out,
+        )
     }
 
     /// Sets an attribute of an entry to a number of 64 bits without a sign. Refused as `set_int32`.
@@ -159,7 +174,10 @@ impl Embedded {
             return status(Refusal::NotUtf8);
         };
         let value = View::UInt64(value);
-        applied(self.carry_out(&Request::Set { node, attr, value }), out)
+        applied(
+            self.answer_request(&Request::Set { node, attr, value }),
+            out,
+        )
     }
 
     /// Removes an attribute of an entry.
@@ -173,7 +191,7 @@ impl Embedded {
         let Ok(attr) = str::from_utf8(attr) else {
             return status(Refusal::NotUtf8);
         };
-        applied(self.carry_out(&Request::Unset { node, attr }), out)
+        applied(self.answer_request(&Request::Unset { node, attr }), out)
     }
 }
 

@@ -6,7 +6,7 @@ ghost use Rattle.lq_script_desk.specs.Keeps.{keeps};
 ghost use Rattle.lq_script_request.specs.Asked.{asked};
 ghost use Rattle.lq_script_request.specs.Request.{question_for};
 ghost use Rattle.lq_embed.specs.Calls.{Asks};
-ghost use Rattle.lq_embed.specs.State.{first_state, holds, volume_in, with_session};
+ghost use Rattle.lq_embed.specs.SessionState.{first_state, holds, volume_in, with_session};
 
 use lq_desk::Reply;
 use lq_predicate::Stack;
@@ -18,7 +18,7 @@ use std::vec::IntoIter;
 
 /// A session, and what its calls gave that wasn't fetched yet.
 ///
-/// Contracts see it as the `State` that it holds.
+/// Contracts see it as the `SessionState` that it holds.
 pub struct Embedded {
     pub(crate) alloc: Global,
     pub(crate) session: Session,
@@ -66,7 +66,7 @@ impl Embedded {
     }
 
     // Carries out the event that a request asks for.
-    pub(crate) fn carry_out(&mut self, request: &Request<'_>) -> Reply
+    pub(crate) fn answer_request(&mut self, request: &Request<'_>) -> Reply
         ensures asks { Asks (keeps self.old.session) (keeps self.new.session)
             (question_for (asked request.now)) (answer_of result) }
         ensures beside { holds self.new ≡ with_session (holds self.old) (keeps self.new.session) }

@@ -1,8 +1,8 @@
 //! The entry at the end of a path.
 ghost use Rattle.std.specs.Prelude.{◌≡◌, ◌+◌, ◌≤◌, drop, length};
-ghost use Rattle.lq_embed.specs.Calls.{Finds};
+ghost use Rattle.lq_embed.specs.Calls.{FindsNode};
 ghost use Rattle.lq_embed.specs.PathNames.{FindsPath, name_length, named_question};
-ghost use Rattle.lq_embed.specs.State.{holds};
+ghost use Rattle.lq_embed.specs.SessionState.{holds};
 
 use crate::embedded::Embedded;
 use crate::statuses::status;
@@ -43,7 +43,7 @@ impl Embedded {
 
     // Finds the node at a place; the size of the name is tested before its bytes.
     fn find_named(&mut self, dir: u64, name: &[u8], node: &mut u64) -> u32
-        ensures { Finds (holds self.old) (holds self.new) (named_question dir name.now)
+        ensures { FindsNode (holds self.old) (holds self.new) (named_question dir name.now)
             result node.old node.new }
     {
         if name.len() > MAX_NAME {

@@ -1,10 +1,10 @@
 //! A session for a caller without lines: typed calls with numbered statuses, and what they give
 //! kept until it is asked for.
 //!
-//! Contracts see what an embedded session holds as a `State` (`specs/State`). Each call asks the
-//! question that a line with the same fields asks (`specs/Questions`), and `specs/Calls` ties a
-//! call's status and what it writes to the answer. The structs have C's layout. Nothing
-//! here waits. Begin with `embedded`, then `changes`, then `live`.
+//! Contracts see what an embedded session holds as a `SessionState` (`specs/SessionState`). Each
+//! call asks the question that a line with the same fields asks (`specs/Questions`), and
+//! `specs/Calls` ties a call's status and what it writes to the answer. The structs have C's
+//! layout. Nothing here waits. Begin with `embedded`, then `changes`, then `live_queries`.
 #![tactic(auto)]
 
 mod attrs;
@@ -14,21 +14,21 @@ mod find_path;
 mod folders;
 mod laws;
 mod lines;
-mod live;
-mod looks;
+mod live_queries;
+mod lookups;
 mod numbers;
 mod options;
-mod outs;
+mod out_structs;
+mod out_text;
 mod pushes;
-mod put;
 mod reads;
 mod rows;
 mod statuses;
 
 pub use embedded::Embedded;
 pub use laws::embedded_may_be_sent;
-pub use outs::{
+pub use out_structs::{
     AppliedOut, AttrOut, FetchedOut, InfoOut, MessageOut, OpenOptions, OpeningOut, RebuiltOut,
     RowOut,
 };
-pub use put::put_text;
+pub use out_text::put_text;

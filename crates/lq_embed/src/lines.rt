@@ -5,7 +5,7 @@ ghost use Rattle.lq_script_lines.specs.Lines.{line_of, reply_to, state_after, wi
 ghost use Rattle.lq_script_desk.specs.Script.{world_rules};
 ghost use Rattle.lq_script_desk.specs.History.{question_of};
 ghost use Rattle.lq_script_desk.specs.SessionHistory.{LineKeepsHistory};
-ghost use Rattle.lq_embed.specs.State.{holds, with_session, with_text};
+ghost use Rattle.lq_embed.specs.SessionState.{holds, with_session, with_text};
 
 use crate::embedded::Embedded;
 use lq_script_lines::Responder;

@@ -3,10 +3,10 @@ ghost use Rattle.std.specs.Prelude.{◌≡◌};
 ghost use Rattle.lq_predicate.specs.Stack.{only_part};
 ghost use Rattle.lq_embed.specs.Opening.{OpensBy, backlog_of, kept_by};
 ghost use Rattle.lq_embed.specs.Questions.{left_by, open_pushed, open_question};
-ghost use Rattle.lq_embed.specs.State.{holds};
+ghost use Rattle.lq_embed.specs.SessionState.{holds};
 
 use crate::embedded::Embedded;
-use crate::outs::{OpenOptions, OpeningOut};
+use crate::out_structs::{OpenOptions, OpeningOut};
 
 /// The places of each port: a caller without threads can't tell them from the backlog.
 const PORT: u64 = 1;

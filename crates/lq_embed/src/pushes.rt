@@ -10,11 +10,11 @@ ghost use Rattle.lq_embed.specs.Numbers.{op_numbered};
 ghost use Rattle.lq_embed.specs.Outs.{outcome_fault};
 ghost use Rattle.lq_embed.specs.Status.{outcome_status};
 ghost use Rattle.lq_embed.specs.Questions.{fetch_pushed, left_by, open_pushed, push_attr_outcome, push_op_outcome, push_text_outcome};
-ghost use Rattle.lq_embed.specs.State.{holds, with_fault, with_pushed};
+ghost use Rattle.lq_embed.specs.SessionState.{holds, with_fault, with_pushed};
 
 use crate::embedded::Embedded;
 use crate::numbers::op_numbered;
-use crate::outs::{FetchedOut, OpeningOut};
+use crate::out_structs::{FetchedOut, OpeningOut};
 use crate::statuses::status;
 use lq_desk::Event;
 use lq_predicate::{Predicate, Stack, StackOp};

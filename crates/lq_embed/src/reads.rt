@@ -3,11 +3,11 @@ ghost use Rattle.std.specs.Prelude.{◌≡◌};
 ghost use Rattle.lq_desk.specs.Reply.{answer_of};
 ghost use Rattle.lq_embed.specs.Outs.{read_after};
 ghost use Rattle.lq_embed.specs.Reads.{Drops, ReadsMany, ReadsOne, Skips};
-ghost use Rattle.lq_embed.specs.State.{holds};
+ghost use Rattle.lq_embed.specs.SessionState.{holds};
 
 use crate::embedded::Embedded;
-use crate::live::taken;
-use crate::outs::MessageOut;
+use crate::live_queries::taken;
+use crate::out_structs::MessageOut;
 use crate::statuses::status;
 use lq_desk::{Event, Read, Reply};
 use lq_value::Refusal;

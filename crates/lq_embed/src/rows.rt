@@ -1,9 +1,9 @@
 //! The entries of a result, several at once.
 ghost use Rattle.lq_embed.specs.Rows.{Takes};
-ghost use Rattle.lq_embed.specs.State.{holds};
+ghost use Rattle.lq_embed.specs.SessionState.{holds};
 
 use crate::embedded::Embedded;
-use crate::outs::RowOut;
+use crate::out_structs::RowOut;
 
 impl Embedded {
     /// Writes the next entries of the last result, one to each place of `out` from the first on,

@@ -6,7 +6,7 @@ use Rattle.lq_volume.specs.State.{State}
 use Rattle.lq_volume.specs.declared.change.Change.{Change}
 use Rattle.lq_volume.specs.Book.{Book, Extends, state_at}
 use Rattle.lq_volume.specs.Result.{result_of}
-use Rattle.lq_board.specs.Roll.{numbers, without}
+use Rattle.lq_board.specs.Roll.{numbers, without_number}
 use Rattle.lq_board.specs.Token.{BoardName, SeatToken}
 use Rattle.lq_update.specs.declared.mark.Mark.{Mark}
 use Rattle.lq_update.specs.Updates.{updates_of}
@@ -25,7 +25,7 @@ use Rattle.lq_server.specs.Opened.{IsNewReader}
 use Rattle.lq_server.specs.Syncing.{IsSynced}
 use Rattle.lq_server.specs.Headline.{ReaderIsTold}
 use Rattle.lq_server.specs.Retired.{IsRetired}
-use Rattle.lq_model.specs.Followed.{GoesOut, IsFollowed}
+use Rattle.lq_model.specs.Followed.{HasHungUp, IsFollowed}
 
 -- a book that goes on from another has no fewer changes
 pub extends_length : (b c : Book) → Extends c b → length b.changes ≤ length c.changes
@@ -38,7 +38,7 @@ none_counted zero h = refl
 none_counted (suc k) h = absurd (omega (arith, ap (λ (l : List ℕ). length l) h))
 
 -- nobody is left of a list of one
-pub alone : (k : ℕ) → without k (k ∷ []) ≡ []
+pub alone : (k : ℕ) → without_number k (k ∷ []) ≡ []
 alone k = ap (λ (b : Bool). cond b [] (k ∷ [])) (eq-eqb k k refl)
 
 -- a mark is there, where the test says so
@@ -57,7 +57,7 @@ pub followed : UpdatesStay → BooksExtendOn → StatesStay
     → (start : State) (q : Query) (board : BoardName) (begun : Book) (port backlog : ℕ)
     (first old new : ReaderHold) (x : Synced) (one : SeatToken Identity) (z : Retired)
     (changes : List Change)
-    → IsNewReader first board begun q false port backlog → GoesOut first old → IsSynced old new x
+    → IsNewReader first board begun q false port backlog → HasHungUp first old → IsSynced old new x
     → ReaderIsTold new
     → Meets new.seat one → (by : IsRetired start one.book z.volume z.changes)
     → by.book.changes ≡ changes → length begun.changes ≡ 0

@@ -22,14 +22,14 @@ use Rattle.lq_server.specs.Retired.{IsRetired}
 use Rattle.lq_model.specs.declared.model.Followed.{Followed}
 
 -- a reader of the same subscription, at the same server
-pub record GoesOn (old new : ReaderHold) : Type 0 where
+pub record IsSameReader (old new : ReaderHold) : Type 0 where
   pub own : IsOwn new
   pub board : new.seat.board ≡ old.seat.board
   pub floor : new.reading.port.floor ≡ old.reading.port.floor
 
 -- it has also asked for its end, and has read its mark
-pub record GoesOut (old new : ReaderHold) : Type 0 where
-  pub goes : GoesOn old new
+pub record HasHungUp (old new : ReaderHold) : Type 0 where
+  pub goes : IsSameReader old new
   pub asked : new.hang_up_asked ≡ true
   pub marked : IsSome (mark_read new.reading)
 

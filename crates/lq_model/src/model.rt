@@ -6,7 +6,7 @@ ghost use Rattle.lq_board.specs.Roll.{numbers};
 ghost use Rattle.lq_board.specs.Token.{counted_board};
 ghost use Rattle.lq_server.specs.Own.{IsOwn};
 ghost use Rattle.lq_server.specs.Retired.{IsRetired};
-ghost use Rattle.lq_model.specs.Followed.{AreRefused, GoesOut, HasApplied, HasStopped, IsFollowRefused, IsFollowed};
+ghost use Rattle.lq_model.specs.Followed.{AreRefused, HasHungUp, HasApplied, HasStopped, IsFollowRefused, IsFollowed};
 
 use lq_board::Seat;
 use lq_desk_sub::Read;
@@ -168,7 +168,8 @@ impl Work for Reads {
 
     ghost can = { λ reads board. (reads.reader.seat.board ≡ board) × IsOwn reads.reader };
 
-    ghost gives = { λ reads _ given. IfOk given (GoesOut reads.reader) × FailsOnlyForMemory given };
+    ghost gives = { λ reads _ given. IfOk given (HasHungUp reads.reader)
+        × FailsOnlyForMemory given };
 
     fn work<N: Named, R: Wait>(self, rt: &R, server: &Server<N>) -> Result<Reader, Refusal> {
         let Reads { reader, reads } = self;
@@ -201,7 +202,7 @@ fn read_out<N: Named, R: Wait>(
     reads: u64,
 ) -> Result<Reader, Refusal>
     requires { (reader.seat.board ≡ N.board) × IsOwn reader }
-    ensures ok { IfOk result (GoesOut reader) }
+    ensures ok { IfOk result (HasHungUp reader) }
     ensures refused { FailsOnlyForMemory result }
 {
     for _ in 0..reads {

@@ -1,13 +1,13 @@
 -- What an end knows after a step, so that the invariant of its type stays.
 use Rattle.std.proofs.Common.{◌≡◌, ◌+◌, ℕ, Bool, true, false, List, [], ◌∷◌, ◌++◌, length, drop, sym, ap, ◌∙◌, subst, ⊎_elim, append_assoc, append-nil, arith, length-append}
-use Rattle.lq_port.specs.declared.rule.Known.{Known}
-use Rattle.lq_port.specs.Port.{known, put_of, Adds, IsLegal, Removes}
+use Rattle.lq_port.specs.declared.step_types.Known.{Known}
+use Rattle.lq_port.specs.Port.{known_alone, put_of, AddsItem, IsLegal, Removes}
 use Rattle.lq_port.proofs.PortLemmas.{nil_is_legal, snoc_is_legal}
 
 module _ {T F : Type 0} (follows : List T → F → T → Type 0) where
   -- an end of a new port
   pub new_end :
-      (v : Known T F) (n : ℕ) (f : F) (puts takes : Bool) → v ≡ known n puts takes f [] []
+      (v : Known T F) (n : ℕ) (f : F) (puts takes : Bool) → v ≡ known_alone n puts takes f [] []
       → (length v.taken ≡ 0) × (length (put_of v) ≡ 0) × IsLegal follows v.floor (put_of v)
   new_end v n f puts takes e = (
     ap (λ (u : Known T F). length u.taken) e,
@@ -18,7 +18,7 @@ module _ {T F : Type 0} (follows : List T → F → T → Type 0) where
 
   -- all puts stay legal after a put
   pub put_is_legal :
-      (v w : Known T F) (x : T) → Adds v x w → IsLegal follows v.floor (put_of v)
+      (v w : Known T F) (x : T) → AddsItem v x w → IsLegal follows v.floor (put_of v)
       → follows (put_of v) v.floor x → IsLegal follows w.floor (put_of w)
   put_is_legal v w x e legal ok =
       let same : (v.taken ++ v.ahead) ++ x ∷ [] ≡ v.taken ++ (v.ahead ++ x ∷ []) =
@@ -29,7 +29,7 @@ module _ {T F : Type 0} (follows : List T → F → T → Type 0) where
 
   -- a put is one more
   pub length-put :
-      (v w : Known T F) (x : T) → Adds v x w → length (put_of w) ≡ length (put_of v) + 1
+      (v w : Known T F) (x : T) → AddsItem v x w → length (put_of w) ≡ length (put_of v) + 1
   length-put v w x e =
       ap (λ (u : Known T F). length (put_of u)) e
       ∙ omega (
@@ -40,12 +40,12 @@ module _ {T F : Type 0} (follows : List T → F → T → Type 0) where
       )
 
   -- the room is what it was
-  pub room_stays : (v w : Known T F) (x : T) (n : ℕ) → Adds v x w → v.room ≡ n → w.room ≡ n
+  pub room_stays : (v w : Known T F) (x : T) (n : ℕ) → AddsItem v x w → v.room ≡ n → w.room ≡ n
   room_stays v w x n e room = ap (λ (u : Known T F). u.room) e ∙ room
 
   -- the end for puts stays one
   pub putter_stays :
-      (v w : Known T F) (x : T) → Adds v x w → (w.puts ≡ true) × (w.takes ≡ false)
+      (v w : Known T F) (x : T) → AddsItem v x w → (w.puts ≡ true) × (w.takes ≡ false)
   putter_stays v w x e = (ap (λ (u : Known T F). u.puts) e, ap (λ (u : Known T F). u.takes) e)
 
   -- what is known to be put stays legal after a take

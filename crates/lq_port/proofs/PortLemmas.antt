@@ -5,8 +5,8 @@ use mathlib.Core.Option.{some, some-ne-none}
 use lib.ListN.{get_elem?}
 use Rattle.crossbeam_channel.specs.Fifo.{Pushes, Pops, Forks, Merges, Learns}
 use Rattle.atomic_table.proofs.Lists.{at_set, at_snoc}
-use Rattle.lq_port.specs.declared.rule.Known.{Known}
-use Rattle.lq_port.specs.Port.{known, putter, taker, idle, together, put_of, Adds, Totals, IsLegal, Removes, Fits, Kept}
+use Rattle.lq_port.specs.declared.step_types.Known.{Known}
+use Rattle.lq_port.specs.Port.{known_alone, putter, taker, idle, together, put_of, AddsItem, Totals, IsLegal, Removes, PassFits, PortRule}
 use Rattle.lq_port.proofs.ListLemmas.{nil_has_no_place, split_at_back, drop-length_append, front_of, IsPrefix-snoc, IsPrefix-equal, place_at_back, AllAt, AllAt-set}
 
 module _ {T F : Type 0} (follows : List T → F → T → Type 0) where
@@ -25,9 +25,9 @@ module _ {T F : Type 0} (follows : List T → F → T → Type 0) where
       (split_at_back xs x before y after e)
 
   -- The rule holds of a new channel, and its one pass.
-  pub begins : (f : F) → Kept follows [] (known 0 true true f [] [] ∷ [])
+  pub begins : (f : F) → PortRule follows [] (known_alone 0 true true f [] [] ∷ [])
   begins f =
-      let k : Known T F = known 0 true true f [] [] in
+      let k : Known T F = known_alone 0 true true f [] [] in
       let none : IsPrefix {A = T} [] [] = ([], refl) in
       record {
         input = 0;
@@ -40,7 +40,7 @@ module _ {T F : Type 0} (follows : List T → F → T → Type 0) where
         within = omega arith;
         legal = nil_is_legal f;
         fits =
-            AllAt-set (Fits follows 0 0 0 f [] []) (k ∷ []) 0 k (
+            AllAt-set (PassFits follows 0 0 0 f [] []) (k ∷ []) 0 k (
               (λ _. (refl, refl, refl, none, refl)),
               (λ _. (refl, refl, refl, none)),
               (λ _ _. (refl, none, refl)),
@@ -53,9 +53,9 @@ module _ {T F : Type 0} (follows : List T → F → T → Type 0) where
   pub adds :
       (n pass : ℕ) (v : Known T F) (x : T) → v.puts ≡ true → v.room ≡ n
       → follows (put_of v) v.floor x
-      → Pushes (Kept follows) n pass v x (Adds v x)
+      → Pushes (PortRule follows) n pass v x (AddsItem v x)
   adds n pass v x may all_room ok items views room h at =
-      let w : Known T F = known v.room true false v.floor v.taken (v.ahead ++ x ∷ []) in
+      let w : Known T F = known_alone v.room true false v.floor v.taken (v.ahead ++ x ∷ []) in
       let mine = h.fits pass v at in
       let m = mine.0 may in
       let put : List T = h.put ++ x ∷ [] in
@@ -63,9 +63,9 @@ module _ {T F : Type 0} (follows : List T → F → T → Type 0) where
       subst (λ (z : List T × F). follows z.0 z.1 x) (λ i. (m.2 i, m.1 i)) ok in
       let all : put_of w ≡ put =
       sym (append_assoc v.taken v.ahead (x ∷ [])) ∙ ap (λ l. l ++ x ∷ []) m.2 in
-      let fits : AllAt (Fits follows h.input h.output h.room h.floor put h.taken)
+      let fits : AllAt (PassFits follows h.input h.output h.room h.floor put h.taken)
       (set views pass w) =
-      AllAt-set (Fits follows h.input h.output h.room h.floor put h.taken) views pass w (
+      AllAt-set (PassFits follows h.input h.output h.room h.floor put h.taken) views pass w (
         (λ _. (m.0, m.1, all, m.3, m.4)),
         (λ p. absurd (true≢false (sym p))),
         (λ _ p. absurd (true≢false (sym p))),
@@ -96,9 +96,10 @@ module _ {T F : Type 0} (follows : List T → F → T → Type 0) where
   -- A take keeps the rule.
   pub removes :
       (pass : ℕ) (v : Known T F) → v.takes ≡ true
-      → Pops (Kept follows) pass v (Removes follows v)
+      → Pops (PortRule follows) pass v (Removes follows v)
   removes pass v may x items views h at =
-      let w : Known T F = known v.room false true v.floor (v.taken ++ x ∷ []) (drop 1 v.ahead) in
+      let w : Known T F = known_alone v.room false true v.floor (v.taken ++ x ∷ [])
+      (drop 1 v.ahead) in
       let mine = h.fits pass v at in
       let t = mine.1 may in
       let taken : List T = h.taken ++ x ∷ [] in
@@ -113,9 +114,9 @@ module _ {T F : Type 0} (follows : List T → F → T → Type 0) where
       let begin : put_of w ++ f.1.0 ≡ h.put =
       append_assoc (v.taken ++ x ∷ []) (drop 1 v.ahead) f.1.0
       ∙ (λ i. same i ++ f.1.1 i) ∙ sym step in
-      let fits : AllAt (Fits follows h.input h.output h.room h.floor h.put taken)
+      let fits : AllAt (PassFits follows h.input h.output h.room h.floor h.put taken)
       (set views pass w) =
-      AllAt-set (Fits follows h.input h.output h.room h.floor h.put taken) views pass w (
+      AllAt-set (PassFits follows h.input h.output h.room h.floor h.put taken) views pass w (
         (λ p. absurd (true≢false (sym p))),
         (λ _. (t.0, t.1, same, (f.1.0, begin))),
         (λ p _. absurd (true≢false (sym p))),
@@ -151,7 +152,7 @@ module _ {T F : Type 0} (follows : List T → F → T → Type 0) where
   -- What the port holds is no more than what the end for puts knows to wait.
   pub full :
       (pass : ℕ) (v : Known T F) → v.puts ≡ true
-      → Learns (Kept follows) pass v (λ items. length items ≤ length v.ahead)
+      → Learns (PortRule follows) pass v (λ items. length items ≤ length v.ahead)
   full pass v may items views h at =
       let m = (h.fits pass v at).0 may in
       let s = m.3 in
@@ -168,7 +169,7 @@ module _ {T F : Type 0} (follows : List T → F → T → Type 0) where
   -- What the end for takes knows to wait is a front of what the port holds.
   pub empty :
       (pass : ℕ) (v : Known T F) → v.takes ≡ true
-      → Learns (Kept follows) pass v (λ items. IsPrefix v.ahead items)
+      → Learns (PortRule follows) pass v (λ items. IsPrefix v.ahead items)
   empty pass v may items views h at =
       let t = (h.fits pass v at).1 may in (
         t.3.0,
@@ -182,7 +183,7 @@ module _ {T F : Type 0} (follows : List T → F → T → Type 0) where
       (pass : ℕ) (v : Known T F) (n : ℕ) (f : F) → v.puts ≡ true → v.takes ≡ true
       → ((k : ℕ) → k ≤ v.room → k ≤ length (put_of v) → k ≤ n)
       → (IsLegal follows v.floor (put_of v) → IsLegal follows f (put_of v))
-      → Forks (Kept follows) pass v (putter n f v) (taker n f v)
+      → Forks (PortRule follows) pass v (putter n f v) (taker n f v)
   cuts pass v n f a b room again items views h at =
       let l : Known T F = putter n f v in
       let r : Known T F = taker n f v in
@@ -208,7 +209,7 @@ module _ {T F : Type 0} (follows : List T → F → T → Type 0) where
         (λ p. absurd (other ((o.0 p).0 ∙ sym m.0))),
         (λ p. other ((o.1 p).0 ∙ sym t.0)),
       )) in
-      let fits : Fits follows h.input (length vs) n f h.put h.taken (length vs) r = (
+      let fits : PassFits follows h.input (length vs) n f h.put h.taken (length vs) r = (
         (λ p. absurd (true≢false (sym p))),
         (λ _. (refl, refl, t.2, t.3)),
         (λ p _. absurd (true≢false (sym p))),
@@ -238,7 +239,7 @@ module _ {T F : Type 0} (follows : List T → F → T → Type 0) where
             place_at_back vs r u j
             (λ x. (old j u x).1 (ap (λ (y : Known T F). y.takes) (sym is))) e in
             subst (λ (z : ℕ × Known T F).
-            Fits follows h.input (length vs) n f h.put h.taken z.0 z.1)
+            PassFits follows h.input (length vs) n f h.put h.taken z.0 z.1)
             (λ i. (sym here i, is i)) fits)
             (at_snoc vs r u j e);
       }
@@ -246,14 +247,14 @@ module _ {T F : Type 0} (follows : List T → F → T → Type 0) where
   -- The joined pass is cut anew.
   pub parts :
       (pass : ℕ) (v : Known T F) → v.puts ≡ true → v.takes ≡ true
-      → Forks (Kept follows) pass v (putter v.room v.floor v) (taker v.room v.floor v)
+      → Forks (PortRule follows) pass v (putter v.room v.floor v) (taker v.room v.floor v)
   parts pass v a b = cuts pass v v.room v.floor a b (λ k less long. less) (λ h. h)
 
   -- The first pass is cut, and the room and the floor are set.
   pub opens :
       (pass : ℕ) (v : Known T F) (n : ℕ) (f : F) → v.puts ≡ true → v.takes ≡ true
       → put_of v ≡ []
-      → Forks (Kept follows) pass v (putter n f v) (taker n f v)
+      → Forks (PortRule follows) pass v (putter n f v) (taker n f v)
   opens pass v n f a b none =
       cuts pass v n f a b (λ k less long. omega (arith, ap length none))
       (λ _. subst (IsLegal follows f) (sym none) (nil_is_legal f))
@@ -261,7 +262,7 @@ module _ {T F : Type 0} (follows : List T → F → T → Type 0) where
   -- All that the end for takes knows leaves it.
   pub leaves :
       (pass : ℕ) (v : Known T F) → v.takes ≡ true → v.puts ≡ false
-      → Forks (Kept follows) pass v (idle v) v
+      → Forks (PortRule follows) pass v (idle v) v
   leaves pass v b alone items views h at =
       let l : Known T F = idle v in
       let mine = h.fits pass v at in
@@ -278,7 +279,7 @@ module _ {T F : Type 0} (follows : List T → F → T → Type 0) where
       ((λ p. absurd (true≢false (sym p))), (λ p. true≢false (sym p)))
       (λ j u other e.
       let o = h.fits j u e in (o.0, (λ p. other ((o.1 p).0 ∙ sym t.0)))) in
-      let fits : Fits follows h.input (length vs) h.room h.floor h.put h.taken (length vs) v = (
+      let fits : PassFits follows h.input (length vs) h.room h.floor h.put h.taken (length vs) v = (
         (λ p. absurd (true≢false (sym p ∙ alone))),
         (λ _. (refl, t.1, t.2, t.3)),
         (λ p _. absurd (true≢false (sym p ∙ alone))),
@@ -302,7 +303,7 @@ module _ {T F : Type 0} (follows : List T → F → T → Type 0) where
             place_at_back vs v u j
             (λ x. (old j u x).1 (ap (λ (y : Known T F). y.takes) (sym is) ∙ b)) e in
             subst (λ (z : ℕ × Known T F).
-            Fits follows h.input (length vs) h.room h.floor h.put h.taken z.0 z.1)
+            PassFits follows h.input (length vs) h.room h.floor h.put h.taken z.0 z.1)
             (λ i. (sym here i, is i)) fits)
             (at_snoc vs v u j e);
       }
@@ -311,7 +312,7 @@ module _ {T F : Type 0} (follows : List T → F → T → Type 0) where
   pub merges :
       (pass : ℕ) (v : Known T F) (other : ℕ) (w : Known T F) (f : F)
       → v.puts ≡ true → w.takes ≡ true
-      → Merges (Kept follows) pass v other w (together v w) (known 0 false false f [] [])
+      → Merges (PortRule follows) pass v other w (together v w) (known_alone 0 false false f [] [])
   merges pass v other w f a b items views h at two at' =
       let both : Known T F = together v w in
       let mine = h.fits pass v at in
@@ -326,13 +327,13 @@ module _ {T F : Type 0} (follows : List T → F → T → Type 0) where
       let rest : drop (length w.taken) (put_of v) ≡ items =
       ap (drop (length w.taken)) all ∙ drop-length_append w.taken items in
       let put : put_of both ≡ h.put = ap (λ l. w.taken ++ l) rest ∙ sym all ∙ m.2 in
-      let fits : Fits follows h.input pass h.room h.floor h.put h.taken pass both = (
+      let fits : PassFits follows h.input pass h.room h.floor h.put h.taken pass both = (
         (λ _. (m.0, m.1, put, IsPrefix-equal w.taken h.taken t.2, m.4)),
         (λ _. (refl, m.1, t.2, IsPrefix-equal (put_of both) h.put put)),
         (λ _ _. (m.2, t.3, t.1)),
       ) in
       let Now : ℕ → Known T F → Type 0 =
-      λ j y. j ≢ other → Fits follows h.input pass h.room h.floor h.put h.taken j y in
+      λ j y. j ≢ other → PassFits follows h.input pass h.room h.floor h.put h.taken j y in
       let now : AllAt Now vs =
       AllAt-set Now views pass both (λ _. fits)
       (λ j y _ e apart.
@@ -341,7 +342,7 @@ module _ {T F : Type 0} (follows : List T → F → T → Type 0) where
         (λ p. absurd (apart ((o.1 p).0 ∙ sym t.0))),
         (λ _ p. absurd (apart ((o.1 p).0 ∙ sym t.0))),
       )) in
-      let s : Known T F = known 0 false false f [] [] in
+      let s : Known T F = known_alone 0 false false f [] [] in
       record {
         input = h.input;
         output = pass;
@@ -353,7 +354,7 @@ module _ {T F : Type 0} (follows : List T → F → T → Type 0) where
         within = h.within;
         legal = h.legal;
         fits =
-            AllAt-set (Fits follows h.input pass h.room h.floor h.put h.taken) vs other s (
+            AllAt-set (PassFits follows h.input pass h.room h.floor h.put h.taken) vs other s (
               (λ p. absurd (true≢false (sym p))),
               (λ p. absurd (true≢false (sym p))),
               (λ p _. absurd (true≢false (sym p))),
@@ -364,7 +365,7 @@ module _ {T F : Type 0} (follows : List T → F → T → Type 0) where
   -- The joined pass knows all that the port holds.
   pub totals :
       (pass : ℕ) (v : Known T F) → v.puts ≡ true → v.takes ≡ true
-      → Learns (Kept follows) pass v (Totals v)
+      → Learns (PortRule follows) pass v (Totals v)
   totals pass v a b items views h at =
       let mine = h.fits pass v at in
       let m = mine.0 a in

@@ -6,7 +6,7 @@ use Rattle.crossbeam_channel.specs.declared.flavors.array.Key.{Key}
 use Rattle.crossbeam_channel.specs.declared.flavors.array.Rows.{Rows}
 use Rattle.crossbeam_channel.specs.declared.flavors.array.Doing.{Doing}
 use Rattle.crossbeam_channel.specs.Claims.{Pass, view}
-use Rattle.lq_port.specs.declared.rule.Known.{Known}
+use Rattle.lq_port.specs.declared.step_types.Known.{Known}
 
 -- the identity of a port
 abbrev pub PortName : Type 0 → Type 0
@@ -61,9 +61,9 @@ module _ {T F : Type 0} where
   IsTaker v = (v.puts ≡ false) × (v.takes ≡ true)
 
 -- the identity of a channel's port
-abbrev pub name_of :
+abbrev pub port_name_of :
     {T V Q M L A : Type 0} → Rows (Badge (Key T)) (Doing T V) Q M (Key T) L A → PortName T
-name_of c = (c.stamps.shared.table_id, c.stamps.shared.key)
+port_name_of c = (c.stamps.shared.table_id, c.stamps.shared.key)
 
 -- the end made of a channel and a pass
 abbrev pub end_of :
@@ -72,7 +72,7 @@ abbrev pub end_of :
     → Pass T (Known T F) → End T F
 end_of c pass =
     record {
-      port = name_of c;
+      port = port_name_of c;
       places = c.cap;
       floor = (known_of pass).floor;
       taken = (known_of pass).taken;

@@ -6,7 +6,7 @@ use lib.ListN.{get_elem?}
 use Rattle.lq_value.specs.declared.refusal.Refusal.{Refusal}
 use Rattle.lq_value.specs.declared.refusal.Refusal.TheVariants.{BadPort}
 use Rattle.lq_port.specs.declared.ends.TheConstants.{MAX_PLACES}
-use Rattle.lq_port.specs.declared.rule.Known.{Known}
+use Rattle.lq_port.specs.declared.step_types.Known.{Known}
 
 -- why a port with this many places is refused
 abbrev pub port_refusal : ℕ → Option Refusal
@@ -14,8 +14,8 @@ port_refusal places = if (places == 0) || nat_lt MAX_PLACES places then Some Bad
 
 module _ {T F : Type 0} where
   -- what an end knows while it isn't joined with the other
-  abbrev pub known : ℕ → Bool → Bool → F → List T → List T → Known T F
-  known room puts takes floor taken ahead =
+  abbrev pub known_alone : ℕ → Bool → Bool → F → List T → List T → Known T F
+  known_alone room puts takes floor taken ahead =
       record {
         puts = puts;
         takes = takes;
@@ -30,15 +30,15 @@ module _ {T F : Type 0} where
 
   -- the end for puts after a split
   abbrev pub putter : ℕ → F → Known T F → Known T F
-  putter room floor v = known room true false floor v.taken v.ahead
+  putter room floor v = known_alone room true false floor v.taken v.ahead
 
   -- the end for takes after a split
   abbrev pub taker : ℕ → F → Known T F → Known T F
-  taker room floor v = known room false true floor v.taken v.ahead
+  taker room floor v = known_alone room false true floor v.taken v.ahead
 
   -- an end that may do nothing
   abbrev pub idle : Known T F → Known T F
-  idle v = known v.room false false v.floor v.taken v.ahead
+  idle v = known_alone v.room false false v.floor v.taken v.ahead
 
   -- all puts that the end knows
   abbrev pub put_of : Known T F → List T
@@ -60,8 +60,8 @@ module _ {T F : Type 0} where
       }
 
   -- x was put at the back
-  abbrev pub Adds : Known T F → T → Known T F → Type 0
-  Adds v x w = w ≡ known v.room true false v.floor v.taken (v.ahead ++ x ∷ [])
+  abbrev pub AddsItem : Known T F → T → Known T F → Type 0
+  AddsItem v x w = w ≡ known_alone v.room true false v.floor v.taken (v.ahead ++ x ∷ [])
 
   -- what both ends know together is what the port holds, which is no more than its room
   abbrev pub Totals : Known T F → List T → Type 0
@@ -94,15 +94,15 @@ module _ {T F : Type 0} (follows : List T → F → T → Type 0) where
   -- x is added to what was taken. It was the first item known to wait, if any was.
   abbrev pub Removes : Known T F → T → Known T F → Type 0
   Removes v x w =
-      (w ≡ known v.room false true v.floor (v.taken ++ x ∷ []) (drop 1 v.ahead))
+      (w ≡ known_alone v.room false true v.floor (v.taken ++ x ∷ []) (drop 1 v.ahead))
       × ((v.ahead ≡ []) ⊎ (v.ahead ≡ x ∷ drop 1 v.ahead))
       × follows v.taken v.floor x
 
   -- Only the pass `input` may put, and it knows all puts and the room. Only the pass `output` may
   -- take, and it knows all takes. What each knows of the other is a prefix. A pass that may do both
   -- keeps what the two knew.
-  abbrev pub Fits : ℕ → ℕ → ℕ → F → List T → List T → ℕ → Known T F → Type 0
-  Fits input output room floor put taken pass v =
+  abbrev pub PassFits : ℕ → ℕ → ℕ → F → List T → List T → ℕ → Known T F → Type 0
+  PassFits input output room floor put taken pass v =
       (v.puts ≡ true
       → (pass ≡ input) × (v.floor ≡ floor) × (put_of v ≡ put) × IsPrefix v.taken taken
       × (v.room ≡ room))
@@ -112,7 +112,7 @@ module _ {T F : Type 0} (follows : List T → F → T → Type 0) where
       → (v.whole ≡ put) × IsPrefix v.seen put × (v.told ≡ floor))
 
   -- the rule for the waiting items, oldest first, and for what each pass knows
-  pub record Kept (items : List T) (views : List (Known T F)) : Type 0 where
+  pub record PortRule (items : List T) (views : List (Known T F)) : Type 0 where
     pub input : ℕ
     pub output : ℕ
     pub room : ℕ
@@ -124,4 +124,4 @@ module _ {T F : Type 0} (follows : List T → F → T → Type 0) where
     pub legal : IsLegal floor put
     pub fits :
         (pass : ℕ) (v : Known T F) → get_elem? views pass ≡ some v
-        → Fits input output room floor put taken pass v
+        → PassFits input output room floor put taken pass v

@@ -5,9 +5,9 @@ ghost use Rattle.lq_value.specs.Refusal.{IsRefusedBy};
 ghost use Rattle.lq_port.specs.End.{all_put, IsSamePort, IsFull, Gains, Loses};
 ghost use Rattle.lq_port.specs.Port.{IsLegal, port_refusal};
 
-use crate::follows::Follows;
-use crate::rule::{InOrder, Known, Put, Take};
-use crate::steps::{PortPass, PortReceiver, PortSender, meet, wait_for_ever};
+use crate::channel::{PortPass, PortReceiver, PortSender, meet, wait_for_ever};
+use crate::item_law::Follows;
+use crate::step_types::{InOrder, Known, Put, Take};
 use crossbeam_channel::{TrySendError, bounded_with};
 use lq_value::Refusal;
 use std::alloc::Global;

@@ -3,13 +3,13 @@
 //! Contracts see an end as the record `End` of `specs/End`: which port it is, its places and floor,
 //! what was taken, and what was put after that. `specs/Port` has the rule that joins the two ends.
 //! `put`, `take` and `take_waiting` may wait. An end may cross threads if its items may. Begin with
-//! `follows`, then `ends`.
+//! `item_law`, then `ends`.
 #![tactic(auto)]
 
+mod channel;
 mod ends;
-mod follows;
-mod rule;
-mod steps;
+mod item_law;
+mod step_types;
 
 pub use ends::{MAX_PLACES, PortIn, PortOut, make};
-pub use follows::Follows;
+pub use item_law::Follows;

@@ -7,7 +7,7 @@ use Rattle.lq_value.specs.declared.refusal.Refusal.TheVariants.{NoMemory}
 use Rattle.lq_predicate_formula.specs.Query.{Query}
 use Rattle.lq_predicate_formula.specs.Canonical.{canonical, depth}
 use Rattle.lq_predicate_formula.specs.Faults.{IsFaulty, IsReading, Reads, most_bytes, most_depth}
-use Rattle.lq_predicate_formula.specs.Machine.{State, step}
+use Rattle.lq_predicate_formula.specs.Machine.{MachineState, step}
 use Rattle.lq_predicate_formula.specs.Tokens.{Placed, Yields}
 use Rattle.lq_predicate_formula.specs.MachineReading.{finished}
 use Rattle.lq_predicate_formula.specs.Capped.{capped}
@@ -100,7 +100,7 @@ fits text q e is same deep long =
     (finished_whole text q e.bytes is (le-leb (depth q) 64 (omega (arith, d, deep))) b long))
 
 -- the place of a pattern's fault is a number of 64 bits
-pub token_fits : (text : List ℕ) (place : ℕ) (rest : List ℕ) (s : State) (count : ℕ)
+pub token_fits : (text : List ℕ) (place : ℕ) (rest : List ℕ) (s : MachineState) (count : ℕ)
     → SoFar text place rest s count → (t : Placed) (next : ℕ) (behind : List ℕ) (o : Option ℕ)
     → Yields place rest t next behind → next + length behind ≡ place + length rest
     → pattern_fault s.expected t.token ≡ o → IfSome o (λ k. t.raw_place + k < 2 ^ 64)
@@ -109,7 +109,7 @@ token_fits text place rest s count h t next behind (Some k) y total e =
     place_fits text place rest s count h t next behind k y total e
 
 -- the token can't be taken
-pub token_stops : (text : List ℕ) (place : ℕ) (rest : List ℕ) (s : State) (count : ℕ)
+pub token_stops : (text : List ℕ) (place : ℕ) (rest : List ℕ) (s : MachineState) (count : ℕ)
     → SoFar text place rest s count → (t : Placed) (ts : List Placed) (o : Option ℕ) (p : ℕ)
     → tokens_from place rest ≡ t ∷ ts → step s t.token ≡ None → pattern_fault s.expected t.token ≡ o
     → MatchOption o (p ≡ plain_place (length text) t) (λ k. p ≡ t.raw_place + k)

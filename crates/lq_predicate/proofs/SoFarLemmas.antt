@@ -7,7 +7,7 @@ use Rattle.lq_predicate_formula.specs.Words.{WordIs, WordsAre}
 use Rattle.lq_predicate_formula.specs.Tokens.{HasTokens, Placed, Yields, bare}
 use Rattle.lq_predicate_formula.specs.Query.{Query}
 use Rattle.lq_predicate_formula.specs.Grammar.{nesting}
-use Rattle.lq_predicate_formula.specs.Machine.{State, start, step, whole, weight}
+use Rattle.lq_predicate_formula.specs.Machine.{MachineState, start, step, finished_query, weight}
 use Rattle.lq_predicate_formula.specs.Faults.{most_bytes, most_comparisons}
 use Rattle.lq_predicate_formula.specs.MachineReading.{after_token, fault_place, finished, machine_reading, read_tokens, word_count}
 use Rattle.lq_predicate_formula.proofs.OneReadingLemmas.{machine_reads}
@@ -20,7 +20,8 @@ use Rattle.lq_predicate.proofs.TokenListLemmas.{the_tokens, tokens_from, tokens_
 use Rattle.lq_predicate.proofs.WeightLemmas.{step_weight}
 
 -- a formula is read up to a place: what the whole reading is, from the state there
-pub record SoFar (text : List ℕ) (place : ℕ) (rest : List ℕ) (s : State) (count : ℕ) : Type 0 where
+pub record SoFar (text : List ℕ) (place : ℕ) (rest : List ℕ) (s : MachineState) (count : ℕ) :
+    Type 0 where
   pub reads : read_tokens (length text) s count (tokens_from place rest) ≡ reading_of text
   pub few : count ≤ 512
   pub small : weight s ≤ 64
@@ -33,7 +34,7 @@ machine_finds text = (the_reading text).only (machine_reading text (tokens_of te
     (machine_reads text (tokens_of text) (the_tokens 0 text).has)
 
 -- before the first token nothing has been read
-pub starts : (text : List ℕ) (s : State) → length text ≤ 4096 → s ≡ start nesting
+pub starts : (text : List ℕ) (s : MachineState) → length text ≤ 4096 → s ≡ start nesting
     → SoFar text 0 text s 0
 starts text s h e = record {
   reads = ap (λ x. read_tokens (length text) x 0 (tokens_of text)) e
@@ -46,7 +47,7 @@ starts text s h e = record {
 }
 
 -- one token, and the others behind it
-one_token : (end : ℕ) (s : State) (count : ℕ) (t : Placed) (ts : List Placed)
+one_token : (end : ℕ) (s : MachineState) (count : ℕ) (t : Placed) (ts : List Placed)
     → read_tokens end s count (t ∷ ts)
     ≡ after_token (fault_place end s.expected t) t (step s t.token)
     (count + word_count t.token) (λ s'. read_tokens end s' (count + word_count t.token) ts)
@@ -54,11 +55,12 @@ unfolding read_tokens
 one_token end s count t ts = refl
 
 -- where no token is left, the reading is whether a whole query stands there
-no_token : (end : ℕ) (s : State) (count : ℕ) → read_tokens end s count [] ≡ finished end (whole s)
+no_token : (end : ℕ) (s : MachineState) (count : ℕ) → read_tokens end s count []
+    ≡ finished end (finished_query s)
 unfolding read_tokens
 no_token end s count = refl
 
-module _ (text : List ℕ) (place : ℕ) (rest : List ℕ) (s : State) (count : ℕ)
+module _ (text : List ℕ) (place : ℕ) (rest : List ℕ) (s : MachineState) (count : ℕ)
     (h : SoFar text place rest s count) where
   -- where a token is next, the reading goes on from what the machine makes of it
   reads_on : (t : Placed) (ts : List Placed) → tokens_from place rest ≡ t ∷ ts
@@ -69,13 +71,13 @@ module _ (text : List ℕ) (place : ℕ) (rest : List ℕ) (s : State) (count : 
       sym h.reads ∙ ap (read_tokens (length text) s count) e ∙ one_token (length text) s count t ts
 
   -- one token more
-  pub goes_on : (t : Placed) (next : ℕ) (behind : List ℕ) (s' : State) (n : ℕ)
+  pub goes_on : (t : Placed) (next : ℕ) (behind : List ℕ) (s' : MachineState) (n : ℕ)
       → tokens_from place rest ≡ t ∷ tokens_from next behind → step s t.token ≡ Some s'
       → n ≡ count + word_count t.token → n ≤ 512 → next + length behind ≡ place + length rest
       → SoFar text next behind s' n
   goes_on t next behind s' n e k same few room = record {
     reads =
-        let others : State → Result Query ℕ =
+        let others : MachineState → Result Query ℕ =
         λ x. read_tokens (length text) x (count + word_count t.token) (tokens_from next behind) in
         let fault = fault_place (length text) s.expected t in
         ap (λ m. read_tokens (length text) s' m (tokens_from next behind)) same
@@ -113,11 +115,11 @@ module _ (text : List ℕ) (place : ℕ) (rest : List ℕ) (s : State) (count : 
       stops t ts (t.raw_place + k) e none (sym (fault_place-pattern (length text) s.expected t k f))
 
   -- it is a word too many
-  pub one_too_many : (t : Placed) (ts : List Placed) (s' : State) (n : ℕ)
+  pub one_too_many : (t : Placed) (ts : List Placed) (s' : MachineState) (n : ℕ)
       → tokens_from place rest ≡ t ∷ ts → step s t.token ≡ Some s' → n ≡ count + word_count t.token
       → 512 < n → Some t.place ≡ fault_of (reading_of text)
   one_too_many t ts s' n e k same many =
-      let others : State → Result Query ℕ =
+      let others : MachineState → Result Query ℕ =
       λ x. read_tokens (length text) x (count + word_count t.token) ts in
       sym (ap fault_of (reads_on t ts e ∙ ap (λ o.
       after_token (fault_place (length text) s.expected t) t o (count + word_count t.token)
@@ -126,7 +128,7 @@ module _ (text : List ℕ) (place : ℕ) (rest : List ℕ) (s : State) (count : 
       (most_comparisons + most_comparisons) (subst (λ m. 512 < m) same many))))
 
   -- the text ends here
-  pub ends : (o : Option Query) → tokens_from place rest ≡ [] → whole s ≡ o
+  pub ends : (o : Option Query) → tokens_from place rest ≡ [] → finished_query s ≡ o
       → reading_of text ≡ finished (length text) o
   ends o e k = sym h.reads ∙ ap (read_tokens (length text) s count) e
       ∙ no_token (length text) s count ∙ ap (finished (length text)) k
@@ -148,12 +150,13 @@ passes true r place fine = refl
 passes false r place fine = cc
 
 -- it takes its token
-taken_by : (fault : ℕ) (t : Placed) (o : Option State) (n : ℕ) (others : State → Result Query ℕ)
+taken_by : (fault : ℕ) (t : Placed) (o : Option MachineState) (n : ℕ)
+    (others : MachineState → Result Query ℕ)
     → fault_of (after_token fault t o n others) ≡ None → IsSome o
 taken_by fault t None n others fine = cc
 taken_by fault t (Some s) n others fine = refl
 
-module _ (text : List ℕ) (place : ℕ) (rest : List ℕ) (s : State) (count : ℕ)
+module _ (text : List ℕ) (place : ℕ) (rest : List ℕ) (s : MachineState) (count : ℕ)
     (h : SoFar text place rest s count) (fine : fault_of (reading_of text) ≡ None) where
   -- the next token can be taken
   pub takes : (t : Placed) (ts : List Placed) → tokens_from place rest ≡ t ∷ ts
@@ -164,13 +167,13 @@ module _ (text : List ℕ) (place : ℕ) (rest : List ℕ) (s : State) (count : 
       (sym (ap fault_of (reads_on text place rest s count h t ts e)) ∙ fine)
 
   -- and the text reads on behind it
-  pub reads_further : (t : Placed) (next : ℕ) (behind : List ℕ) (s' : State)
+  pub reads_further : (t : Placed) (next : ℕ) (behind : List ℕ) (s' : MachineState)
       → tokens_from place rest ≡ t ∷ tokens_from next behind → step s t.token ≡ Some s'
       → next + length behind ≡ place + length rest
       → SoFar text next behind s' (count + word_count t.token)
   reads_further t next behind s' e k room =
       let n = count + word_count t.token in
-      let others : State → Result Query ℕ =
+      let others : MachineState → Result Query ℕ =
       λ x. read_tokens (length text) x n (tokens_from next behind) in
       let on = reads_on text place rest s count h t (tokens_from next behind) e
       ∙ ap (λ o. after_token (fault_place (length text) s.expected t) t o n others) k in

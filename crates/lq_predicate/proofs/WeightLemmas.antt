@@ -4,24 +4,24 @@ use Rattle.std.specs.Prelude.{option_map}
 use Rattle.lq_predicate_formula.specs.Tokens.{Token, opens, closes, bang, ands, ors, op, word, lone, cut}
 use Rattle.lq_predicate_formula.specs.Literals.{name_of, literal_of}
 use Rattle.lq_predicate_formula.specs.Query.{Compare}
-use Rattle.lq_predicate_formula.specs.Machine.{Frame, Expected, operand, after_attr, after_op, after_operand, State, completed, step, open_weight, weight}
+use Rattle.lq_predicate_formula.specs.Machine.{Frame, Expected, operand, after_attr, after_op, after_operand, MachineState, completed, step, open_weight, weight}
 
 -- nothing is both None and Some
 fails : {A : Type 0} {X : Type 0} (x : A) → None ≡ Some x → X
 fails x e = cc
 
 -- a state that equals one within a weight is within it
-light : (s s' : State) (n : ℕ) → Some s ≡ Some s' → weight s ≤ n → weight s' ≤ n
+light : (s s' : MachineState) (n : ℕ) → Some s ≡ Some s' → weight s ≤ n → weight s' ≤ n
 light s s' n e h = let same : s ≡ s' = cc in subst (λ x. weight x ≤ n) same h
 
 -- what a word leads to is within the weight of each state that it may lead to
-mapped_light : {A : Type 0} (o : Option A) (f : A → State) (s : State) (n : ℕ)
+mapped_light : {A : Type 0} (o : Option A) (f : A → MachineState) (s : MachineState) (n : ℕ)
     → ((x : A) → weight (f x) ≤ n) → option_map f o ≡ Some s → weight s ≤ n
 mapped_light None f s n h e = fails s e
 mapped_light (Some x) f s n h e = light (f x) s n e (h x)
 
 -- a step from a state leads to none that weighs more
-lighter : (p : Expected) (below : List Frame) (f : Frame) (n : ℕ) (t : Token) (s : State)
+lighter : (p : Expected) (below : List Frame) (f : Frame) (n : ℕ) (t : Token) (s : MachineState)
     → step (record { below = below; top = f; expected = p; room = n }) t ≡ Some s
     → weight s ≤ n + (f.bangs + open_weight below)
 lighter operand below f n (word a) s e = mapped_light (name_of a)
@@ -69,7 +69,8 @@ lighter after_operand below f n bang s e = fails s e
 lighter after_operand below f n opens s e = fails s e
 
 -- no step adds to the weight of a state
-pub step_weight : (s : State) (t : Token) (s' : State) (n : ℕ) → step s t ≡ Some s' → weight s ≤ n
+pub step_weight : (s : MachineState) (t : Token) (s' : MachineState) (n : ℕ) → step s t ≡ Some s'
+    → weight s ≤ n
     → weight s' ≤ n
 step_weight s t s' n e h =
     let l : weight s' ≤ weight s = lighter s.expected s.below s.top s.room t s' e in

@@ -8,7 +8,7 @@ use Rattle.lq_predicate_formula.specs.PredicateLimits.{is_within}
 use Rattle.lq_predicate_formula.specs.Query.{Compare}
 
 -- the literal suits the operator, some text writes it, and the comparison is within the limits
-pub record IsComparison (attr : List ℕ) (op : Op) (literal : Literal) : Type 0 where
+pub record IsGoodComparison (attr : List ℕ) (op : Op) (literal : Literal) : Type 0 where
   pub suited : IsTrue (suits literal op)
   pub good : IsGoodLiteral literal
   pub within : IsTrue (is_within (Compare attr op literal))

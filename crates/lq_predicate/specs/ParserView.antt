@@ -2,7 +2,7 @@
 use Rattle.std.specs.Prelude.{ℕ, List, map, reverse, Vec, Option, None}
 use Rattle.std.specs.declared.alloc.Global.{Global}
 use Rattle.lq_predicate_formula.specs.Tokens.{Token, opens, closes, bang, ands, ors, op, word, lone, cut}
-use Rattle.lq_predicate_formula.specs.Machine.{Frame, Expected, operand, after_attr, after_op, after_operand, State}
+use Rattle.lq_predicate_formula.specs.Machine.{Frame, Expected, operand, after_attr, after_op, after_operand, MachineState}
 use Rattle.lq_predicate_formula.specs.MachineReading.{pattern_fault_of_word}
 use Rattle.lq_predicate.specs.declared.parser.TreeFrame.{TreeFrame}
 use Rattle.lq_predicate.specs.declared.expected.Expected.{Expected as Expects}
@@ -22,12 +22,12 @@ expected_of (expects.AfterAttr a) = after_attr a
 expected_of (expects.AfterOp a o) = after_op a o
 expected_of expects.AfterOperand = after_operand
 
-abbrev pub state_at : Vec TreeFrame Global → TreeFrame → Expected → ℕ → State
-state_at below top expected room =
+abbrev pub machine_at : Vec TreeFrame Global → TreeFrame → Expected → ℕ → MachineState
+machine_at below top expected room =
     record { below = below_of below; top = frame_of top; expected = expected; room = room }
 
-abbrev pub state_of : Parser → State
-state_of m = state_at m.below m.top (expected_of m.expected) m.room
+abbrev pub machine_of : Parser → MachineState
+machine_of m = machine_at m.below m.top (expected_of m.expected) m.room
 
 -- the offset in a token of its pattern's fault, if the token is a literal that is read as a pattern
 abbrev pub pattern_fault : Expected → Token → Option ℕ

@@ -2,7 +2,7 @@
 use Rattle.std.specs.Prelude.{◌≡◌, ◌++◌, ℕ, List, [], ◌∷◌, length, map, reverse, Option, None, Some, Result, Ok, Err, ⊤}
 use Rattle.lq_predicate_formula.specs.Canonical.{canonical, depth}
 use Rattle.lq_predicate_formula.specs.Capped.{capped}
-use Rattle.lq_predicate_formula.specs.Machine.{Frame, Expected, operand, after_attr, after_op, after_operand, State, step_at, whole}
+use Rattle.lq_predicate_formula.specs.Machine.{Frame, Expected, operand, after_attr, after_op, after_operand, MachineState, step_at, finished_query}
 use Rattle.lq_predicate_formula.specs.Query.{Query, And, both_of, queries}
 use Rattle.lq_predicate_formula.specs.Sizes.{name_bytes}
 use Rattle.lq_predicate_formula.specs.Tokens.{Token}
@@ -40,22 +40,22 @@ size_expected (after_op a o) = expects.AfterOp (name_bytes a) o
 size_expected after_operand = expects.AfterOperand
 
 -- The validator has the sizes of the state's parts; the innermost frame below is its last one.
-pub record Shows (g : Validator) (s : State) : Type 0 where
+pub record ShowsSizes (g : Validator) (s : MachineState) : Type 0 where
   pub below : reverse g.below.items ≡ map size_frame s.below
   pub top : g.top ≡ size_frame s.top
   pub expected : g.expected ≡ size_expected s.expected
   pub room : g.room ≡ s.room
 
 -- the validator shows the state after the token; or there is none, and this is its pattern's fault
-abbrev pub IsStepAt : Expected → State → Token → Result ⊤ (Option ℕ) → Validator → Type 0
+abbrev pub IsStepAt : Expected → MachineState → Token → Result ⊤ (Option ℕ) → Validator → Type 0
 IsStepAt p s t (Ok done) g =
-    (s' : State) × (step_at p s t ≡ Some s') × (pattern_fault p t ≡ None) × Shows g s'
+    (s' : MachineState) × (step_at p s t ≡ Some s') × (pattern_fault p t ≡ None) × ShowsSizes g s'
 IsStepAt p s t (Err k) g = (step_at p s t ≡ None) × (pattern_fault p t ≡ k)
 
-abbrev pub IsStepOf : State → Token → Result ⊤ (Option ℕ) → Validator → Type 0
+abbrev pub IsStepOf : MachineState → Token → Result ⊤ (Option ℕ) → Validator → Type 0
 IsStepOf s t r g = IsStepAt s.expected s t r g
 
 -- the size of the query that the state is complete with
-abbrev pub IsEndOf : State → Option QuerySize → Type 0
-IsEndOf s None = whole s ≡ None
-IsEndOf s (Some e) = (q : Query) × (whole s ≡ Some q) × (e ≡ query_size q)
+abbrev pub IsEndOf : MachineState → Option QuerySize → Type 0
+IsEndOf s None = finished_query s ≡ None
+IsEndOf s (Some e) = (q : Query) × (finished_query s ≡ Some q) × (e ≡ query_size q)

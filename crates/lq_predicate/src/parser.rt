@@ -1,11 +1,11 @@
 //! Builds a formula's query from its tokens, from the left, with a stack of the formulas that are
 //! begun. The formula is known to read, so a token is refused only for lack of memory.
 ghost use Rattle.std.specs.Prelude.{◌≡◌, ◌≤◌, ◌<◌, ◌+◌, ◌^◌, Some, IfOk, IsSome};
-ghost use Rattle.lq_predicate_formula.specs.Machine.{at_end, at_operand, completed, empty_frame as no_parts, after_operand, operand, said_by, start, step, weight, whole};
+ghost use Rattle.lq_predicate_formula.specs.Machine.{at_end, at_operand, completed, empty_frame as no_parts, after_operand, operand, said_by, start, step, weight, finished_query};
 ghost use Rattle.lq_predicate_formula.specs.Grammar.{nesting};
 ghost use Rattle.lq_predicate_formula.specs.TokenView.{token_of};
 ghost use Rattle.lq_value.specs.Refusal.{FailsOnlyForMemory};
-ghost use Rattle.lq_predicate.specs.ParserView.{below_of, frame_of, state_at, state_of};
+ghost use Rattle.lq_predicate.specs.ParserView.{below_of, frame_of, machine_at, machine_of};
 
 use crate::expected::Expected;
 use crate::validator::NESTING;
@@ -32,7 +32,7 @@ pub(crate) struct Parser {
 }
 
 pub(crate) fn new_parser(alloc: Global) -> Parser
-    ensures { state_of result ≡ start nesting }
+    ensures { machine_of result ≡ start nesting }
 {
     Parser {
         below: Vec::new(alloc),
@@ -61,7 +61,8 @@ fn complete(
     room: usize,
 ) -> Result<Parser, AllocError>
     requires { room + top.bangs < 2 ^ 64 }
-    ensures { IfOk result (λ m. state_of m ≡ completed tree (below_of below) (frame_of top) room) }
+    ensures { IfOk result (λ m. machine_of m ≡ completed tree (below_of below)
+        (frame_of top) room) }
 {
     let room = room + top.bangs;
     top.and_parts.push(tree.negated(alloc, top.bangs)?)?;
@@ -90,10 +91,10 @@ fn read_operand(
     room: usize,
     token: &Token,
 ) -> Result<Parser, Refusal>
-    requires light { weight (state_at below top operand room) ≤ 64 }
-    requires taken { IsSome (at_operand (state_at below top operand room) (token_of token.now)) }
-    ensures value { IfOk result (λ m. at_operand (state_at below top operand room)
-        (token_of token.now) ≡ Some (state_of m)) }
+    requires light { weight (machine_at below top operand room) ≤ 64 }
+    requires taken { IsSome (at_operand (machine_at below top operand room) (token_of token.now)) }
+    ensures value { IfOk result (λ m. at_operand (machine_at below top operand room)
+        (token_of token.now) ≡ Some (machine_of m)) }
     ensures refused { FailsOnlyForMemory result }
 {
     match token {
@@ -135,10 +136,11 @@ fn read_after_operand(
     room: usize,
     token: &Token,
 ) -> Result<Parser, Refusal>
-    requires light { weight (state_at below top after_operand room) ≤ 64 }
-    requires taken { IsSome (at_end (state_at below top after_operand room) (token_of token.now)) }
-    ensures value { IfOk result (λ m. at_end (state_at below top after_operand room)
-        (token_of token.now) ≡ Some (state_of m)) }
+    requires light { weight (machine_at below top after_operand room) ≤ 64 }
+    requires taken { IsSome (at_end (machine_at below top after_operand room)
+        (token_of token.now)) }
+    ensures value { IfOk result (λ m. at_end (machine_at below top after_operand room)
+        (token_of token.now) ≡ Some (machine_of m)) }
     ensures refused { FailsOnlyForMemory result }
 {
     match token {
@@ -182,10 +184,10 @@ fn read_after_operand(
 
 // Reads one more token.
 pub(crate) fn read_token(alloc: Global, parser: Parser, token: &Token) -> Result<Parser, Refusal>
-    requires light { weight (state_of parser) ≤ 64 }
-    requires taken { IsSome (step (state_of parser) (token_of token.now)) }
+    requires light { weight (machine_of parser) ≤ 64 }
+    requires taken { IsSome (step (machine_of parser) (token_of token.now)) }
     ensures value { IfOk result
-        (λ m. step (state_of parser) (token_of token.now) ≡ Some (state_of m)) }
+        (λ m. step (machine_of parser) (token_of token.now) ≡ Some (machine_of m)) }
     ensures refused { FailsOnlyForMemory result }
 {
     let Parser {
@@ -218,8 +220,8 @@ pub(crate) fn read_token(alloc: Global, parser: Parser, token: &Token) -> Result
 
 // The query, at the end of the formula.
 pub(crate) fn end_of(parser: Parser) -> Result<Tree, AllocError>
-    requires { IsSome (whole (state_of parser)) }
-    ensures { IfOk result (λ tree. whole (state_of parser) ≡ Some tree) }
+    requires { IsSome (finished_query (machine_of parser)) }
+    ensures { IfOk result (λ tree. finished_query (machine_of parser) ≡ Some tree) }
 {
     tree_of(parser.top)
 }

@@ -49,7 +49,7 @@ impl Predicate {
     ghost use Rattle.lq_predicate_formula.specs.Canonical.{comparisons};
     ghost use Rattle.lq_predicate_formula.specs.Limits.{IsProper};
     ghost use Rattle.lq_predicate_formula.specs.PredicateLimits.{if_within, is_formed, is_predicate, is_within};
-    ghost use Rattle.lq_predicate.specs.Comparison.{IsComparison};
+    ghost use Rattle.lq_predicate.specs.Comparison.{IsGoodComparison};
 
     /// The comparison of an attribute with a literal. It takes no memory.
     ///
@@ -60,7 +60,7 @@ impl Predicate {
         ensures some { IfSome result (λ made. made ≡ Compare attr op literal) }
 
         // Made exactly where it is a predicate.
-        ensures made { IsSome result ↔ IsComparison attr op literal }
+        ensures made { IsSome result ↔ IsGoodComparison attr op literal }
     {
         if !literal.suits(op) || !has_source(&literal) {
             return None;

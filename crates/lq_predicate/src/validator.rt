@@ -1,10 +1,10 @@
 //! Reads tokens from the left without taking memory: it keeps only the size of what it read.
 ghost use Rattle.std.specs.Prelude.{◌≡◌, ◌≤◌, ◌+◌, ℕ, List, map, reverse};
-ghost use Rattle.lq_predicate_formula.specs.Machine.{Frame, State, after_attr, after_op, after_operand, completed, operand, weight};
+ghost use Rattle.lq_predicate_formula.specs.Machine.{Frame, MachineState, after_attr, after_op, after_operand, completed, operand, weight};
 ghost use Rattle.lq_predicate_formula.specs.Query.{Query};
 ghost use Rattle.lq_predicate_formula.specs.Sizes.{name_bytes};
 ghost use Rattle.lq_predicate_formula.specs.TokenView.{token_of};
-ghost use Rattle.lq_predicate.specs.Validator.{IsEndOf, IsStepAt, IsStepOf, Shows, after_or, query_size, size_frame};
+ghost use Rattle.lq_predicate.specs.Validator.{IsEndOf, IsStepAt, IsStepOf, ShowsSizes, after_or, query_size, size_frame};
 
 use crate::expected::Expected;
 use crate::query_size::{
@@ -29,7 +29,7 @@ pub(crate) struct Validator {
 
 // Reads one more token. Else gives the offset in the token of its pattern's fault, if that is why.
 pub(crate) fn validate_token(validator: &mut Validator, token: &Token) -> Result<(), Option<u64>>
-    ensures { (s : State) → Shows validator.old s → weight s ≤ 64
+    ensures { (s : MachineState) → ShowsSizes validator.old s → weight s ≤ 64
         → IsStepOf s (token_of token.now) result validator.new }
 {
     match validator.expected {
@@ -41,7 +41,7 @@ pub(crate) fn validate_token(validator: &mut Validator, token: &Token) -> Result
 }
 
 fn at_operand(validator: &mut Validator, token: &Token) -> Result<(), Option<u64>>
-    ensures { (s : State) → Shows validator.old s → weight s ≤ 64
+    ensures { (s : MachineState) → ShowsSizes validator.old s → weight s ≤ 64
         → IsStepAt operand s (token_of token.now) result validator.new }
 {
     match token {
@@ -79,7 +79,8 @@ fn at_operand(validator: &mut Validator, token: &Token) -> Result<(), Option<u64
 }
 
 fn after_attr(validator: &mut Validator, attr: usize, token: &Token) -> Result<(), Option<u64>>
-    ensures { (s : State) (name : List ℕ) → Shows validator.old s → attr ≡ name_bytes name
+    ensures { (s : MachineState) (name : List ℕ) → ShowsSizes validator.old s → attr
+        ≡ name_bytes name
         → IsStepAt (after_attr name) s (token_of token.now) result validator.new }
 {
     match token {
@@ -97,7 +98,7 @@ fn after_op(
     op: Op,
     token: &Token,
 ) -> Result<(), Option<u64>>
-    ensures { (s : State) (name : List ℕ) → Shows validator.old s → weight s ≤ 64
+    ensures { (s : MachineState) (name : List ℕ) → ShowsSizes validator.old s → weight s ≤ 64
         → attr ≡ name_bytes name
         → IsStepAt (after_op name op) s (token_of token.now) result validator.new }
 {
@@ -118,7 +119,7 @@ fn after_op(
 }
 
 fn after_operand(validator: &mut Validator, token: &Token) -> Result<(), Option<u64>>
-    ensures { (s : State) → Shows validator.old s → weight s ≤ 64
+    ensures { (s : MachineState) → ShowsSizes validator.old s → weight s ≤ 64
         → IsStepAt after_operand s (token_of token.now) result validator.new }
 {
     match token {
@@ -162,7 +163,7 @@ fn complete(validator: &mut Validator, part: QuerySize)
         → reverse validator.old.below.items ≡ map size_frame frames
         → validator.old.top ≡ size_frame f
         → validator.old.room + f.bangs ≤ 64
-        → Shows validator.new (completed q frames f validator.old.room) }
+        → ShowsSizes validator.new (completed q frames f validator.old.room) }
 {
     let bangs = validator.top.bangs;
     validator.top.and_parts = with_part(validator.top.and_parts, negated(part, bangs));
@@ -173,7 +174,7 @@ fn complete(validator: &mut Validator, part: QuerySize)
 
 // The size of the query, if the formula may end here.
 pub(crate) fn size_at_end(validator: &Validator) -> Option<QuerySize>
-    ensures { (s : State) → Shows validator.now s → IsEndOf s result }
+    ensures { (s : MachineState) → ShowsSizes validator.now s → IsEndOf s result }
 {
     match validator.expected {
         Expected::AfterOperand if validator.below.is_empty() => Some(size_of(validator.top)),

@@ -5,7 +5,7 @@ use Rattle.lq_predicate_formula.specs.Tokens.{Token, opens, closes, bang, ands, 
 use Rattle.lq_predicate_formula.specs.Literals.{literal_of, name_of}
 use Rattle.lq_predicate_formula.specs.Query.{Compare}
 use Rattle.lq_predicate_formula.specs.Grammar.{nesting}
-use Rattle.lq_predicate_formula.specs.Machine.{Frame, Expected, operand, after_attr, after_op, after_operand, State, completed, start, step, steps}
+use Rattle.lq_predicate_formula.specs.Machine.{Frame, Expected, operand, after_attr, after_op, after_operand, MachineState, completed, start, step, steps}
 use Rattle.lq_predicate_formula.specs.Faults.{AwaitsAttr, IsFaultOf, one_more, most_comparisons, op_count, operators}
 use Rattle.lq_predicate_formula.specs.MachineReading.{word_count}
 use Rattle.lq_predicate_formula.proofs.DepthLemmas.{at}
@@ -34,17 +34,19 @@ abbrev Balances : Expected → ℕ → ℕ → Expected → Type 0
 Balances p m n p' = m + extra_op p' + extra_word p ≡ n + n + extra_word p' + extra_op p
 
 -- what holds of a state holds of one that is the same
-carried : (P : State → Type 0) (x s : State) → Some x ≡ Some s → P x → P s
+carried : (P : MachineState → Type 0) (x s : MachineState) → Some x ≡ Some s → P x → P s
 carried P x s e h = let same : x ≡ s = cc in subst P same h
 
 -- what holds of each state that a word may lead to holds of the one it leads to
-carried_by : {A : Type 0} (P : State → Type 0) (r : Option A) (f : A → State) (s : State)
+carried_by : {A : Type 0} (P : MachineState → Type 0) (r : Option A) (f : A → MachineState)
+    (s : MachineState)
     → option_map f r ≡ Some s → ((x : A) → P (f x)) → P s
 carried_by P None f s e h = fails s e
 carried_by P (Some x) f s e h = carried P (f x) s e (h x)
 
 -- a step over a token keeps two words for each operator, but for what is still awaited
-step_balances : (p : Expected) (below : List Frame) (f : Frame) (n : ℕ) (t : Token) (s : State)
+step_balances : (p : Expected) (below : List Frame) (f : Frame) (n : ℕ) (t : Token)
+    (s : MachineState)
     → step (at p below f n) t ≡ Some s → Balances p (word_count t) (op_count t) s.expected
 step_balances operand below f zero opens s e = fails s e
 step_balances operand below f (suc n) opens s e =
@@ -105,9 +107,11 @@ one_step : (p p' p'' : Expected) (m n k l : ℕ) → Balances p m n p' → Balan
 one_step p p' p'' m n k l g h = omega arith
 
 -- `balanced` for what a first step has led to
-balance_then : (r : Option State) (x : State) (t : Token) (ts : List Token) (s : State)
+balance_then : (r : Option MachineState) (x : MachineState) (t : Token) (ts : List Token)
+    (s : MachineState)
     → step x t ≡ r
-    → ((y : State) → steps y ts ≡ Some s → Balances y.expected (words ts) (operators ts) s.expected)
+    → ((y : MachineState) → steps y ts ≡ Some s
+    → Balances y.expected (words ts) (operators ts) s.expected)
     → option_and_then (λ y. steps y ts) r ≡ Some s
     → Balances x.expected (word_count t + words ts) (op_count t + operators ts) s.expected
 balance_then None x t ts s f ih e = fails s e
@@ -116,13 +120,13 @@ balance_then (Some y) x t ts s f ih e =
     (step_balances x.expected x.below x.top x.room t y f) (ih y e)
 
 -- steps keep two words for each operator, but for what is still awaited
-pub balanced : (ts : List Token) (x s : State) → steps x ts ≡ Some s
+pub balanced : (ts : List Token) (x s : MachineState) → steps x ts ≡ Some s
     → Balances x.expected (words ts) (operators ts) s.expected
 balanced [] x s e = carried (λ y. Balances x.expected 0 0 y.expected) x s e (omega arith)
 balanced (t ∷ ts) x s e = balance_then (step x t) x t ts s refl (λ y h. balanced ts y s h) e
 
 -- a word that is taken behind so many: of the 257th comparison
-full_at : (p : Expected) (below : List Frame) (f : Frame) (n : ℕ) (w : List ℕ) (s : State)
+full_at : (p : Expected) (below : List Frame) (f : Frame) (n : ℕ) (w : List ℕ) (s : MachineState)
     (ts : List Token) → steps (start nesting) ts ≡ Some (at p below f n)
     → words ts ≡ most_comparisons + most_comparisons → step (at p below f n) (word w) ≡ Some s
     → AwaitsAttr ts × (operators ts ≡ most_comparisons)
@@ -136,7 +140,7 @@ full_at (after_op a o) below f n w s ts e m g =
 full_at after_operand below f n w s ts e m g = fails s g
 
 -- a word that is taken after the most words is at fault as one comparison too many
-pub full : (end : ℕ) (ts : List Token) (s s' : State) (here : Placed) (w : List ℕ)
+pub full : (end : ℕ) (ts : List Token) (s s' : MachineState) (here : Placed) (w : List ℕ)
     → steps (start nesting) ts ≡ Some s → words ts ≡ most_comparisons + most_comparisons
     → here.token ≡ word w → step s here.token ≡ Some s' → IsFaultOf end ts here here.place
 full end ts s s' here w e m h g =

@@ -5,14 +5,14 @@ use Rattle.std.proofs.lemmas.Option.{same_Some}
 use Rattle.lq_predicate_formula.specs.Tokens.{Token, opens, closes, bang, ands, ors, op, word}
 use Rattle.lq_predicate_formula.specs.Query.{Query, Compare, Not, both_of, either_of}
 use Rattle.lq_predicate_formula.specs.Grammar.{Reading, Follows, IsAnd, IsOr, IsComparison, IsNot, IsFormula}
-use Rattle.lq_predicate_formula.specs.Machine.{Frame, operand, after_attr, after_operand, State, empty_frame, start, frame_with, completed, run}
+use Rattle.lq_predicate_formula.specs.Machine.{Frame, operand, after_attr, after_operand, MachineState, empty_frame, start, frame_with, completed, run}
 
 -- a state that awaits an operand, and one behind an operand
-abbrev pub awaiting : List Frame → Frame → ℕ → State
+abbrev pub awaiting : List Frame → Frame → ℕ → MachineState
 awaiting below f n = record { below = below; top = f; expected = operand; room = n }
 
 -- a state after an operand: these parts of the or, these of its last and, and this room
-abbrev pub behind : List Frame → List Query → List Query → ℕ → State
+abbrev pub behind : List Frame → List Query → List Query → ℕ → MachineState
 behind below os xs n = record {
   below = below;
   top = record { or_parts = os; and_parts = xs; bangs = 0 };
@@ -68,7 +68,7 @@ and_runs n P takes ts r h below os rest =
     ∙ ands_run n P takes h.3.1 h.1 h.3.4 below os (h.0 ∷ []) rest
 
 -- what the machine has of a formula that is read, where it ends
-pub record Ends (below : List Frame) (n : ℕ) (s : State) (ts rest : List Token)
+pub record Ends (below : List Frame) (n : ℕ) (s : MachineState) (ts rest : List Token)
     (parts : List Query) : Type 0 where
   pub os : List Query
   pub xs : List Query

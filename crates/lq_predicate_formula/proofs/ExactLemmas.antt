@@ -8,7 +8,7 @@ use Rattle.lq_value.specs.declared.op.Op.TheVariants.{Eq}
 use Rattle.lq_predicate_formula.specs.Tokens.{Token, opens, closes, bang, ands, ors, op, word, lone, cut, Placed, HasTokens, bare}
 use Rattle.lq_predicate_formula.specs.Query.{Query, Compare}
 use Rattle.lq_predicate_formula.specs.Grammar.{IsFormula, nesting}
-use Rattle.lq_predicate_formula.specs.Machine.{Frame, Expected, operand, after_attr, after_op, after_operand, State, completed, run, start, step, steps, whole}
+use Rattle.lq_predicate_formula.specs.Machine.{Frame, Expected, operand, after_attr, after_op, after_operand, MachineState, completed, run, start, step, steps, finished_query}
 use Rattle.lq_predicate_formula.specs.Canonical.{canonical, depth}
 use Rattle.lq_predicate_formula.specs.Faults.{AreFine, AwaitsAttr, CanStand, IsFaultOf, stray, cut_off, alone, too_deep, bad_name, one_more, bad_pattern, IsFaulty, too_long, at_token, ends_early, too_much, kind_of, most_bytes, most_comparisons, most_depth}
 use Rattle.lq_predicate_formula.specs.MachineReading.{after_token, fault_place, fault_place_of, finished, machine_reading, place_with, read_tokens, word_count}
@@ -27,41 +27,42 @@ use Rattle.lq_predicate_formula.proofs.StoppedLemmas.{Seen, count_at, is_word, n
 -- ---- one token of the reading
 
 -- a token that is taken, and no word too many, is passed over
-taken_on : (end : ℕ) (s s' : State) (count : ℕ) (t : Placed) (rest : List Placed)
+taken_on : (end : ℕ) (s s' : MachineState) (count : ℕ) (t : Placed) (rest : List Placed)
     → step s t.token ≡ Some s'
     → nat_le (count + word_count t.token) (most_comparisons + most_comparisons) ≡ true
     → read_tokens end s count (t ∷ rest) ≡ read_tokens end s' (count + word_count t.token) rest
 unfolding read_tokens
 taken_on end s s' count t rest e k =
     let more = count + word_count t.token in
-    let others : State → Result Query ℕ = λ x. read_tokens end x more rest in
+    let others : MachineState → Result Query ℕ = λ x. read_tokens end x more rest in
     ap (λ o. after_token (fault_place end s.expected t) t o more others) e
     ∙ ap (λ b. if b then others s' else Err t.place) k
 
 -- where the machine refuses a token, the reading is the place of its fault
-refused_here : (end : ℕ) (s : State) (count : ℕ) (t : Placed) (rest : List Placed)
+refused_here : (end : ℕ) (s : MachineState) (count : ℕ) (t : Placed) (rest : List Placed)
     → step s t.token ≡ None
     → read_tokens end s count (t ∷ rest) ≡ Err (fault_place end s.expected t)
 unfolding read_tokens
 refused_here end s count t rest e =
     let more = count + word_count t.token in
-    let others : State → Result Query ℕ = λ x. read_tokens end x more rest in
+    let others : MachineState → Result Query ℕ = λ x. read_tokens end x more rest in
     ap (λ o. after_token (fault_place end s.expected t) t o more others) e
 
 -- where a token is one word too many, the reading is its place
-over_here : (end : ℕ) (s s' : State) (count : ℕ) (t : Placed) (rest : List Placed)
+over_here : (end : ℕ) (s s' : MachineState) (count : ℕ) (t : Placed) (rest : List Placed)
     → step s t.token ≡ Some s'
     → nat_le (count + word_count t.token) (most_comparisons + most_comparisons) ≡ false
     → read_tokens end s count (t ∷ rest) ≡ Err t.place
 unfolding read_tokens
 over_here end s s' count t rest e k =
     let more = count + word_count t.token in
-    let others : State → Result Query ℕ = λ x. read_tokens end x more rest in
+    let others : MachineState → Result Query ℕ = λ x. read_tokens end x more rest in
     ap (λ o. after_token (fault_place end s.expected t) t o more others) e
     ∙ ap (λ b. if b then others s' else Err t.place) k
 
 -- at the end of the text the reading is whether a whole query stands there
-read_end : (end : ℕ) (s : State) (count : ℕ) → read_tokens end s count [] ≡ finished end (whole s)
+read_end : (end : ℕ) (s : MachineState) (count : ℕ) → read_tokens end s count []
+    ≡ finished end (finished_query s)
 unfolding read_tokens
 read_end end s count = refl
 
@@ -69,19 +70,19 @@ read_end end s count = refl
 
 -- the state behind the tokens, from where the reading goes on
 record Takes (end : ℕ) (ts : List Placed) : Type 0 where
-  pub s : State
+  pub s : MachineState
   pub count : ℕ
   pub seen : Seen ts s count
   pub goes : (rest : List Placed)
       → read_tokens end (start nesting) 0 (ts ++ rest) ≡ read_tokens end s count rest
 
 -- the reading goes on past these tokens from this state and this count of words
-abbrev GoesOn : ℕ → List Placed → State → ℕ → Type 0
+abbrev GoesOn : ℕ → List Placed → MachineState → ℕ → Type 0
 GoesOn end seen s count = (rest : List Placed)
     → read_tokens end (start nesting) 0 (seen ++ rest) ≡ read_tokens end s count rest
 
 -- where no token is at fault, one that is taken is no word too many
-takes_few : (end : ℕ) (seen : List Placed) (t : Placed) (ts : List Placed) (s s' : State)
+takes_few : (end : ℕ) (seen : List Placed) (t : Placed) (ts : List Placed) (s s' : MachineState)
     (count : ℕ) (b : Bool) → AreFine end (seen ++ t ∷ ts) → Seen seen s count
     → GoesOn end seen s count → step s t.token ≡ Some s'
     → nat_le (count + word_count t.token) (most_comparisons + most_comparisons) ≡ b
@@ -102,10 +103,11 @@ takes_few end seen t ts s s' count false fine h g e k ih =
     (h.counted ∙ count_at t.token w.0 count w.1 h.few over) w.1 e))
 
 -- where no token is at fault, the next one is taken
-takes_one : (end : ℕ) (seen : List Placed) (t : Placed) (ts : List Placed) (s : State) (count : ℕ)
-    (o : Option State) → AreFine end (seen ++ t ∷ ts) → Seen seen s count
+takes_one : (end : ℕ) (seen : List Placed) (t : Placed) (ts : List Placed) (s : MachineState)
+    (count : ℕ)
+    (o : Option MachineState) → AreFine end (seen ++ t ∷ ts) → Seen seen s count
     → GoesOn end seen s count → step s t.token ≡ o
-    → ((s' : State) → Seen (seen ++ t ∷ []) s' (count + word_count t.token)
+    → ((s' : MachineState) → Seen (seen ++ t ∷ []) s' (count + word_count t.token)
     → GoesOn end (seen ++ t ∷ []) s' (count + word_count t.token)
     → Takes end ((seen ++ t ∷ []) ++ ts))
     → Takes end (seen ++ t ∷ ts)
@@ -117,7 +119,7 @@ takes_one end seen t ts s count (Some s') fine h g e ih = takes_few end seen t t
     (ih s')
 
 -- where no token is at fault, all that are left are taken
-takes : (end : ℕ) (ts seen : List Placed) (s : State) (count : ℕ) → AreFine end (seen ++ ts)
+takes : (end : ℕ) (ts seen : List Placed) (s : MachineState) (count : ℕ) → AreFine end (seen ++ ts)
     → Seen seen s count → GoesOn end seen s count → Takes end (seen ++ ts)
 takes end [] seen s count fine h g =
     subst (Takes end) (sym (append-nil seen)) (record { s = s; count = count; seen = h; goes = g })
@@ -170,7 +172,7 @@ literal_stands ts a o below f n w e =
     }
 
 -- an operator's literal may be any word, as far as the grammar goes
-word_stands : (ts : List Token) (s : State) (t : Token) (a : List ℕ) (o : Op) (w : List ℕ)
+word_stands : (ts : List Token) (s : MachineState) (t : Token) (a : List ℕ) (o : Op) (w : List ℕ)
     → steps (start nesting) ts ≡ Some s → s.expected ≡ after_op a o → t ≡ word w
     → CanStand (ts ++ t ∷ [])
 word_stands ts s t a o w e h k =
@@ -178,7 +180,7 @@ word_stands ts s t a o w e h k =
     (subst (λ q. steps (start nesting) ts ≡ Some (at q s.below s.top s.room)) h e))
 
 -- where the name of an attribute is awaited, no literal is
-not_literal : (ts : List Token) (s : State) (a : List ℕ) (o : Op)
+not_literal : (ts : List Token) (s : MachineState) (a : List ℕ) (o : Op)
     → steps (start nesting) ts ≡ Some s → AwaitsAttr ts → s.expected ≡ after_op a o → ⊥
 not_literal ts s a o e h k =
     let d = stands_outline nesting ts (word [] ∷ op Eq ∷ []) s e h in
@@ -186,11 +188,11 @@ not_literal ts s a o e h k =
     outline_steps (outline_of (at q s.below s.top s.room)) (word [] ∷ op Eq ∷ []) ≡ Some d.0) k d.1)
 
 -- nothing is both None and Some
-fails : {X : Type 0} (s : State) → None ≡ Some s → X
+fails : {X : Type 0} (s : MachineState) → None ≡ Some s → X
 fails s e = cc
 
 -- a state that took an operator awaits its literal
-op_place : (p : Expected) (below : List Frame) (f : Frame) (n : ℕ) (o : Op) (s : State)
+op_place : (p : Expected) (below : List Frame) (f : Frame) (n : ℕ) (o : Op) (s : MachineState)
     → step (at p below f n) (op o) ≡ Some s → (a : List ℕ) × (s.expected ≡ after_op a o)
 op_place operand below f n o s e = fails s e
 op_place (after_attr a) below f n o s e =
@@ -200,7 +202,7 @@ op_place (after_op a u) below f n o s e = fails s e
 op_place after_operand below f n o s e = fails s e
 
 -- tokens that end with an operator lead to a state that awaits its literal
-behind_op : (front : List Token) (o : Op) (s : State)
+behind_op : (front : List Token) (o : Op) (s : MachineState)
     → steps (start nesting) (front ++ op o ∷ []) ≡ Some s
     → (a : List ℕ) × (s.expected ≡ after_op a o)
 behind_op front o s e =
@@ -214,7 +216,7 @@ no_cut_word : (w : List ℕ) → word w ≡ cut → ⊥
 no_cut_word w e = cc
 
 -- the place of a fault is where the machine has it
-fault_is : (end : ℕ) (ts : List Token) (here : Placed) (s : State) (p : ℕ)
+fault_is : (end : ℕ) (ts : List Token) (here : Placed) (s : MachineState) (p : ℕ)
     → steps (start nesting) ts ≡ Some s → IsFaultOf end ts here p
     → fault_place end s.expected here ≡ p
 fault_is end ts here s p e (stray h k at) = plain_place end s.expected here.token here k
@@ -237,7 +239,7 @@ fault_is end ts here s p e (bad_pattern front o w k split h i at) =
     ∙ ap (λ r. place_with r here) i ∙ sym at
 
 -- the place of a fault of a token that the machine takes
-over_is : (end : ℕ) (ts : List Token) (here : Placed) (s s' : State) (p : ℕ)
+over_is : (end : ℕ) (ts : List Token) (here : Placed) (s s' : MachineState) (p : ℕ)
     → steps (start nesting) ts ≡ Some s → step s here.token ≡ Some s' → IsFaultOf end ts here p
     → here.place ≡ p
 over_is end ts here s s' p e g (stray h k at) = sym at
@@ -254,7 +256,8 @@ over_is end ts here s s' p e g (bad_pattern front o w k split h i at) =
 -- ---- the reading
 
 -- a token that is taken and yet at fault is one word too many, and the reading is its place
-stops_by : (end : ℕ) (before : List Placed) (here : Placed) (after : List Placed) (s s' : State)
+stops_by : (end : ℕ) (before : List Placed) (here : Placed) (after : List Placed)
+    (s s' : MachineState)
     (count p : ℕ) (b : Bool) → Seen before s count → IsFaultOf end (bare before) here p
     → AreFine end before → step s here.token ≡ Some s'
     → nat_le (count + word_count here.token) (most_comparisons + most_comparisons) ≡ b
@@ -270,8 +273,9 @@ stops_by end before here after s s' count p false h fault fine e k =
     ∙ ap Err (over_is end (bare before) here s s' p h.goes e fault)
 
 -- the reading stops at the first token that is at fault, with the fault's place
-stops_at : (end : ℕ) (before : List Placed) (here : Placed) (after : List Placed) (s : State)
-    (count p : ℕ) (o : Option State) → Seen before s count → IsFaultOf end (bare before) here p
+stops_at : (end : ℕ) (before : List Placed) (here : Placed) (after : List Placed) (s : MachineState)
+    (count p : ℕ) (o : Option MachineState) → Seen before s count
+    → IsFaultOf end (bare before) here p
     → AreFine end before → step s here.token ≡ o → read_tokens end s count (here ∷ after) ≡ Err p
 stops_at end before here after s count p None h fault fine e = refused_here end s count here after e
     ∙ ap Err (fault_is end (bare before) here s p h.goes fault)
@@ -291,14 +295,14 @@ short_reading text ts us has short is =
 -- where all tokens are taken, the reading is what stands at the end
 whole_reading : (text : List ℕ) (ts all : List Placed) → HasTokens 0 text ts
     → length text ≤ most_bytes → HasTokens 0 text all → (t : Takes (length text) all)
-    → machine_reading text ts ≡ finished (length text) (whole t.s)
+    → machine_reading text ts ≡ finished (length text) (finished_query t.s)
 whole_reading text ts all has short is t =
     short_reading text ts all has short is ∙ ap (read_tokens (length text) (start nesting) 0)
     (sym (append-nil all)) ∙ t.goes [] ∙ read_end (length text) t.s t.count
 
 -- where the tokens are no formula, the reading is the end of the text
 none_whole : (text : List ℕ) (all : List Placed) (t : Takes (length text) all) (o : Option Query)
-    → whole t.s ≡ o → ((q : Query) → IsFormula nesting (bare all) q → ⊥)
+    → finished_query t.s ≡ o → ((q : Query) → IsFormula nesting (bare all) q → ⊥)
     → finished (length text) o ≡ Err (length text)
 none_whole text all t None e h = refl
 none_whole text all t (Some q) e h = absurd (h q (reads_at_end (bare all) t.s q t.seen.goes e))
@@ -329,12 +333,13 @@ faulty_reading text ts p has (at_token short before here after is fine fault) =
     (length text) before here after t.s t.count p (step t.s here.token) t.seen fault fine refl
 faulty_reading text ts p has (ends_early short all is fine none at) =
     let t = takes_all (length text) all fine in
-    whole_reading text ts all has short is t ∙ none_whole text all t (whole t.s) refl none
+    whole_reading text ts all has short is t ∙ none_whole text all t (finished_query t.s) refl none
     ∙ ap Err (sym at)
 faulty_reading text ts p has (too_much short all is fine q formula over at) =
     let t = takes_all (length text) all fine in
     let goes = steps_run (bare all) (start nesting) t.s [] t.seen.goes in
-    let whole_is : whole t.s ≡ Some q = sym goes ∙ ap (run (start nesting)) (append-nil (bare all))
+    let whole_is : finished_query t.s ≡ Some q = sym goes
+    ∙ ap (run (start nesting)) (append-nil (bare all))
     ∙ formula_runs nesting (bare all) q formula in
     whole_reading text ts all has short is t ∙ ap (finished (length text)) whole_is
     ∙ too_big_by (length text) q over ∙ ap Err (sym at)

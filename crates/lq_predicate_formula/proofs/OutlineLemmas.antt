@@ -6,7 +6,7 @@ use Rattle.std.proofs.lemmas.Option.{none-some}
 use Rattle.lq_predicate_formula.specs.Tokens.{Token, opens, closes, bang, ands, ors, op, word, lone, cut}
 use Rattle.lq_predicate_formula.specs.Literals.{name_of, literal_of}
 use Rattle.lq_predicate_formula.specs.Query.{Compare}
-use Rattle.lq_predicate_formula.specs.Machine.{Frame, Expected, operand, after_attr, after_op, after_operand, State, start, completed, step, steps}
+use Rattle.lq_predicate_formula.specs.Machine.{Frame, Expected, operand, after_attr, after_op, after_operand, MachineState, start, completed, step, steps}
 use Rattle.lq_predicate_formula.specs.Faults.{CanStand, kind_of}
 use Rattle.lq_predicate_formula.proofs.CompleteLemmas.{formula_runs}
 use Rattle.lq_predicate_formula.proofs.DepthLemmas.{at, comes}
@@ -31,7 +31,7 @@ kind_expected (after_op a o) = a_literal
 kind_expected after_operand = behind
 
 -- the outline of a state
-abbrev pub outline_of : State → Outline
+abbrev pub outline_of : MachineState → Outline
 outline_of s = record { expected = kind_expected s.expected; parens = length s.below }
 
 -- one parenthesis less is open, if one was
@@ -104,17 +104,18 @@ outline_steps o [] = Some o
 outline_steps o (t ∷ ts) = option_and_then (λ o'. outline_steps o' ts) (outline_step o t)
 
 -- no state comes of a step that was refused
-fails : {X : Type 0} (s : State) → None ≡ Some s → X
+fails : {X : Type 0} (s : MachineState) → None ≡ Some s → X
 fails s e = cc
 
 -- what a word leads to has the outline that each of its states has
-mapped : {A : Type 0} (o : Option A) (f : A → State) (s : State) (y : Outline)
+mapped : {A : Type 0} (o : Option A) (f : A → MachineState) (s : MachineState) (y : Outline)
     → ((x : A) → outline_of (f x) ≡ y) → option_map f o ≡ Some s → Some y ≡ Some (outline_of s)
 mapped None f s y h e = fails s e
 mapped (Some x) f s y h e = ap Some (sym (h x)) ∙ ap (option_map outline_of) e
 
 -- a step of the machine, in outline
-step_outline : (p : Expected) (below : List Frame) (f : Frame) (n : ℕ) (t : Token) (s : State)
+step_outline : (p : Expected) (below : List Frame) (f : Frame) (n : ℕ) (t : Token)
+    (s : MachineState)
     → step (at p below f n) t ≡ Some s
     → outline_step (outline_of (at p below f n)) (kind_of t) ≡ Some (outline_of s)
 step_outline operand below f zero opens s e = fails s e
@@ -160,9 +161,9 @@ step_outline after_operand below f n lone s e = fails s e
 step_outline after_operand below f n cut s e = fails s e
 
 -- steps and their outlines agree for what a first step has led to
-outlined_then : (r : Option State) (r' : Option Outline) (ts : List Token) (s : State)
-    → ((x : State) → r ≡ Some x → r' ≡ Some (outline_of x))
-    → ((x : State) → steps x ts ≡ Some s
+outlined_then : (r : Option MachineState) (r' : Option Outline) (ts : List Token) (s : MachineState)
+    → ((x : MachineState) → r ≡ Some x → r' ≡ Some (outline_of x))
+    → ((x : MachineState) → steps x ts ≡ Some s
     → outline_steps (outline_of x) (map kind_of ts) ≡ Some (outline_of s))
     → option_and_then (λ x. steps x ts) r ≡ Some s
     → option_and_then (λ o. outline_steps o (map kind_of ts)) r' ≡ Some (outline_of s)
@@ -171,7 +172,7 @@ outlined_then (Some x) r' ts s h ih e =
     ap (option_and_then (λ o. outline_steps o (map kind_of ts))) (h x refl) ∙ ih x e
 
 -- steps of the machine, in outline
-pub steps_outline : (ts : List Token) (x s : State) → steps x ts ≡ Some s
+pub steps_outline : (ts : List Token) (x s : MachineState) → steps x ts ≡ Some s
     → outline_steps (outline_of x) (map kind_of ts) ≡ Some (outline_of s)
 steps_outline [] x s e = ap (option_map outline_of) e
 steps_outline (t ∷ ts) x s e =
@@ -195,7 +196,7 @@ outline_on (t ∷ ts) us o o' e =
     on_then (outline_step o t) ts us o' (λ x h. outline_on ts us x o' h) e
 
 -- where tokens can stand, they go on in outline from where the first of them lead
-pub stands_outline : (n : ℕ) (ts us : List Token) (s : State) → steps (start n) ts ≡ Some s
+pub stands_outline : (n : ℕ) (ts us : List Token) (s : MachineState) → steps (start n) ts ≡ Some s
     → CanStand (ts ++ us) → (o : Outline) × (outline_steps (outline_of s) (map kind_of us) ≡ Some o)
 stands_outline n ts us s e c =
     let d = comes c.words c.rest (start c.deep) c.q
@@ -210,7 +211,7 @@ stands_outline n ts us s e c =
     )
 
 -- A token whose kind has no step in outline can't stand.
-pub cannot : (n : ℕ) (ts : List Token) (t : Token) (s : State) → steps (start n) ts ≡ Some s
+pub cannot : (n : ℕ) (ts : List Token) (t : Token) (s : MachineState) → steps (start n) ts ≡ Some s
     → outline_step (outline_of s) (kind_of t) ≡ None → CanStand (ts ++ t ∷ []) → ⊥
 cannot n ts t s e f c =
     let h = stands_outline n ts (t ∷ []) s e c in

@@ -6,7 +6,7 @@ use Rattle.std.proofs.lemmas.Option.{none-some}
 use Rattle.lq_predicate_formula.specs.Tokens.{HasTokens, Token, Placed, bare}
 use Rattle.lq_predicate_formula.specs.Query.{Query}
 use Rattle.lq_predicate_formula.specs.Grammar.{IsFormula, nesting}
-use Rattle.lq_predicate_formula.specs.Machine.{State, start, step, whole, run}
+use Rattle.lq_predicate_formula.specs.Machine.{MachineState, start, step, finished_query, run}
 use Rattle.lq_predicate_formula.specs.Canonical.{canonical, comparisons, depth}
 use Rattle.lq_predicate_formula.specs.Faults.{Reads, most_bytes, most_comparisons, most_depth}
 use Rattle.lq_predicate_formula.specs.MachineReading.{after_token, fault_place, finished, machine_reading, read_tokens, word_count}
@@ -21,7 +21,7 @@ pub record IsSmall (q : Query) : Type 0 where
   pub brief : length (canonical q) ≤ most_bytes
 
 -- what it takes that the reading from a state on is a query
-pub record RunsWithin (s : State) (count : ℕ) (ts : List Placed) (q : Query) : Type 0 where
+pub record RunsWithin (s : MachineState) (count : ℕ) (ts : List Placed) (q : Query) : Type 0 where
   pub runs : run s (bare ts) ≡ Some q
   pub few : count ≤ most_comparisons + most_comparisons
       → count + words (bare ts) ≤ most_comparisons + most_comparisons
@@ -49,7 +49,8 @@ finished_ok end (Some r) q e = finished_by (nat_le (depth r) most_depth)
     (nat_le (length (canonical r)) most_bytes) end r q refl refl e
 
 -- a reading that goes on past a word has not too many words
-after_by : (fault count : ℕ) (t : Placed) (s : State) (others : State → Result Query ℕ) (q : Query)
+after_by : (fault count : ℕ) (t : Placed) (s : MachineState)
+    (others : MachineState → Result Query ℕ) (q : Query)
     (b : Bool) → (nat_le count (most_comparisons + most_comparisons) ≡ b)
     → (if b then others s else Err t.place) ≡ Ok q
     → (count ≤ most_comparisons + most_comparisons) × (others s ≡ Ok q)
@@ -57,9 +58,11 @@ after_by fault count t s others q true e f = (leb-true _ _ e, f)
 after_by fault count t s others q false e f = err_ok t.place q (Err t.place) refl f
 
 -- a token that was taken
-after_ok : (fault count : ℕ) (t : Placed) (o : Option State) (others : State → Result Query ℕ)
+after_ok : (fault count : ℕ) (t : Placed) (o : Option MachineState)
+    (others : MachineState → Result Query ℕ)
     (q : Query) → after_token fault t o count others ≡ Ok q
-    → (s : State) × (o ≡ Some s) × (count ≤ most_comparisons + most_comparisons) × (others s ≡ Ok q)
+    → (s : MachineState) × (o ≡ Some s) × (count ≤ most_comparisons + most_comparisons)
+    × (others s ≡ Ok q)
 after_ok fault count t None others q e = err_ok fault q (Err fault) refl e
 after_ok fault count t (Some s) others q e =
     let h =
@@ -67,11 +70,11 @@ after_ok fault count t (Some s) others q e =
     (s, refl, h.0, h.1)
 
 -- where the tokens are read as a query, the machine runs to it within the limits
-pub read_runs : (end : ℕ) (ts : List Placed) (s : State) (count : ℕ) (q : Query)
+pub read_runs : (end : ℕ) (ts : List Placed) (s : MachineState) (count : ℕ) (q : Query)
     → read_tokens end s count ts ≡ Ok q → RunsWithin s count ts q
 unfolding read_tokens
 read_runs end [] s count q e =
-    let h = finished_ok end (whole s) q e in
+    let h = finished_ok end (finished_query s) q e in
     record { runs = h.0; few = λ k. omega arith; small = h.1 }
 read_runs end (t ∷ ts) s count q e =
     let h = after_ok (fault_place end s.expected t) (count + word_count t.token) t (step s t.token)
@@ -98,22 +101,22 @@ finished_small end o q e h =
     ∙ ap (λ b. if b then Ok q else Err end) (test_true _ _ h.brief)
 
 -- where a step and the rest run to a query, the step leads to a state
-taken_run : (o : Option State) (ts : List Token) (q : Query)
+taken_run : (o : Option MachineState) (ts : List Token) (q : Query)
     → option_and_then (λ s'. run s' ts) o ≡ Some q
-    → (s : State) × (o ≡ Some s) × (run s ts ≡ Some q)
+    → (s : MachineState) × (o ≡ Some s) × (run s ts ≡ Some q)
 taken_run None ts q e = absurd (none-some q e)
 taken_run (Some s) ts q e = (s, refl, e)
 
 -- where the machine runs to a small query with not too many words, it is read
-pub run_is_read : (end : ℕ) (ts : List Placed) (s : State) (count : ℕ) (q : Query)
+pub run_is_read : (end : ℕ) (ts : List Placed) (s : MachineState) (count : ℕ) (q : Query)
     → run s (bare ts) ≡ Some q → count + words (bare ts) ≤ most_comparisons + most_comparisons
     → IsSmall q → read_tokens end s count ts ≡ Ok q
 unfolding read_tokens
-run_is_read end [] s count q e few small = finished_small end (whole s) q e small
+run_is_read end [] s count q e few small = finished_small end (finished_query s) q e small
 run_is_read end (t ∷ ts) s count q e few small =
     let h = taken_run (step s t.token) (bare ts) q e in
     let more = count + word_count t.token in
-    let others : State → Result Query ℕ = λ s'. read_tokens end s' more ts in
+    let others : MachineState → Result Query ℕ = λ s'. read_tokens end s' more ts in
     let k : more ≤ most_comparisons + most_comparisons = omega arith in
     let rest : more + words (bare ts) ≤ most_comparisons + most_comparisons = omega arith in
     ap (λ o. after_token (fault_place end s.expected t) t o more others) h.1

@@ -10,7 +10,7 @@ use Rattle.lq_predicate_formula.specs.Tokens.{Token, opens, closes, bang, ands, 
 use Rattle.lq_predicate_formula.specs.Literals.{bad_place, literal_fault, literal_of, name_of, pattern_literal}
 use Rattle.lq_predicate_formula.specs.Query.{Compare}
 use Rattle.lq_predicate_formula.specs.Grammar.{nesting}
-use Rattle.lq_predicate_formula.specs.Machine.{Frame, Expected, operand, after_attr, after_op, after_operand, State, completed, start, step, steps}
+use Rattle.lq_predicate_formula.specs.Machine.{Frame, Expected, operand, after_attr, after_op, after_operand, MachineState, completed, start, step, steps}
 use Rattle.lq_predicate_formula.specs.Faults.{AwaitsAttr, IsFaultOf, stray, cut_off, alone, too_deep, bad_name, bad_pattern, kind_of}
 use Rattle.lq_predicate_formula.specs.MachineReading.{fault_place, fault_place_of, place_with}
 use Rattle.lq_predicate_formula.proofs.StopLemmas.{not_begun, steps_push}
@@ -25,13 +25,13 @@ abbrev here_of : ℕ → ℕ → Token → Placed
 here_of place raw t = record { place = place; raw_place = raw; token = t }
 
 -- a token that can't stand where it is refused is at fault as a stray one
-stray_at : (end : ℕ) (ts : List Token) (s : State) (place raw : ℕ) (t : Token)
+stray_at : (end : ℕ) (ts : List Token) (s : MachineState) (place raw : ℕ) (t : Token)
     → steps (start nesting) ts ≡ Some s → outline_step (outline_of s) (kind_of t) ≡ None
     → (t ≡ cut → ⊥) → IsFaultOf end ts (here_of place raw t) place
 stray_at end ts s place raw t e f h = stray (cannot nesting ts t s e f) h refl
 
 -- a `(` or `!` that more room would take is at fault as too deep
-deep_at : (end : ℕ) (ts : List Token) (s y : State) (place raw : ℕ) (t : Token)
+deep_at : (end : ℕ) (ts : List Token) (s y : MachineState) (place raw : ℕ) (t : Token)
     → steps (start nesting) ts ≡ Some s → step s t ≡ None → (t ≡ opens) ⊎ (t ≡ bang)
     → step (wider 1 s) t ≡ Some y → IsFaultOf end ts (here_of place raw t) place
 deep_at end ts s y place raw t e f h g =
@@ -56,7 +56,7 @@ awaits_attr ts below f n e =
     }
 
 -- where a map of an option is None, the option is
-none_of : {A : Type 0} (r : Option A) (f : A → State) → option_map f r ≡ None → r ≡ None
+none_of : {A : Type 0} (r : Option A) (f : A → MachineState) → option_map f r ≡ None → r ≡ None
 none_of None f e = refl
 none_of (Some x) f e = some_none (f x) e
 
@@ -159,7 +159,7 @@ refused_at after_operand below f n lone end ts place raw e h = alone refl refl
 refused_at after_operand below f n cut end ts place raw e h = cut_off refl refl
 
 -- a token that the machine refuses is at fault, at the place that the reading says
-pub refused_fault : (end : ℕ) (ts : List Token) (s : State) (here : Placed)
+pub refused_fault : (end : ℕ) (ts : List Token) (s : MachineState) (here : Placed)
     → steps (start nesting) ts ≡ Some s → step s here.token ≡ None
     → IsFaultOf end ts here (fault_place end s.expected here)
 refused_fault end ts s here e h =

@@ -9,7 +9,7 @@ use Rattle.std.proofs.lemmas.List.{append_assoc, append-nil, length-append, leng
 use Rattle.lq_value.specs.declared.op.Op.{Op}
 use Rattle.lq_value.specs.declared.op.Op.TheVariants.{Eq, Ne, Lt, Le, Gt, Ge}
 use Rattle.lq_predicate_formula.specs.Bytes.{ends_word, is_space}
-use Rattle.lq_predicate_formula.specs.Tokens.{Token, opens, closes, bang, ands, ors, op, word, lone, cut, Placed, Sign, plain, escaped, sign_bytes, AllGoOn, AreSigns, AreWithout, EndsWord, HasNoEnd, IsBlank, IsMark, IsNotNext, IsOp, IsQuoted, IsToken, IsTokenAt, IsUnclosed, IsUnquoted, HasTokens, Yields}
+use Rattle.lq_predicate_formula.specs.Tokens.{Token, opens, closes, bang, ands, ors, op, word, lone, cut, Placed, Sign, plain, escaped, sign_bytes, AllGoOn, AreSigns, AreWithout, EndsWord, HasNoEnd, IsBlank, IsQuote, IsNotNext, IsOp, IsQuoted, IsToken, IsTokenAt, IsUnclosed, IsUnquoted, HasTokens, Yields}
 use Rattle.lq_predicate_formula.specs.Lexing.{spaces, word_bytes, quoted_bytes, Front, fixed, begins_with, longer, quoted_front, word_front, is_symbol, symbol_front, front, front_at, placed_at, BeginsBy, trimmed}
 
 -- ---- tests of bytes
@@ -168,14 +168,14 @@ signs_quoted m (escaped b ∷ ss) rest h =
     ∙ farther_two (length (sign_bytes ss)) (quoted_bytes m false rest)
 
 -- the mark ends a quoted text
-mark_ends : (m : ℕ) (rest : List ℕ) → IsMark m → quoted_bytes m false (m ∷ rest) ≡ Some 0
+mark_ends : (m : ℕ) (rest : List ℕ) → IsQuote m → quoted_bytes m false (m ∷ rest) ≡ Some 0
 mark_ends m rest (inl e) =
     subst (λ x. quoted_bytes x false (x ∷ rest) ≡ Some 0) (sym e) refl
 mark_ends m rest (inr e) =
     subst (λ x. quoted_bytes x false (x ∷ rest) ≡ Some 0) (sym e) refl
 
 -- a quoted text ends at its mark
-quoted_is : (m : ℕ) (raw rest : List ℕ) → IsMark m → AreWithout m raw
+quoted_is : (m : ℕ) (raw rest : List ℕ) → IsQuote m → AreWithout m raw
     → quoted_bytes m false (raw ++ m ∷ rest) ≡ Some (length raw)
 quoted_is m raw rest mark h =
     let e : length (sign_bytes h.0) + 0 ≡ length (sign_bytes h.0) = omega arith in
@@ -203,7 +203,7 @@ no_end_none m bs h = elim h.2 [
 ]
 
 -- a mark begins a quoted text
-mark_front : (m : ℕ) (bs : List ℕ) → IsMark m
+mark_front : (m : ℕ) (bs : List ℕ) → IsQuote m
     → front m bs ≡ quoted_front bs (quoted_bytes m false bs)
 mark_front m bs (inl e) =
     subst (λ x. front x bs ≡ quoted_front bs (quoted_bytes x false bs)) (sym e) refl
@@ -312,7 +312,7 @@ begun_signs (plain b ∷ ss) h some = (b, sign_bytes ss, refl, no_space b h.0.1)
 begun_signs (escaped b ∷ ss) h some = (92, b ∷ sign_bytes ss, refl, refl)
 
 -- a mark is no white space
-mark_no_space : (m : ℕ) → IsMark m → is_space m ≡ false
+mark_no_space : (m : ℕ) → IsQuote m → is_space m ≡ false
 mark_no_space m (inl e) = ap is_space e
 mark_no_space m (inr e) = ap is_space e
 
@@ -646,14 +646,14 @@ symbol_stands at b bs h =
     (λ f. inr (one_byte b 124 e, is_not_next 124 bs f)))))))))
 
 -- a mark is one of two
-mark_is : (b : ℕ) → (b == 34 || b == 39) ≡ true → IsMark b
+mark_is : (b : ℕ) → (b == 34 || b == 39) ≡ true → IsQuote b
 mark_is b e = elim (or_cases _ _ e) [
   | inl h ↦ inl (eqb-true b 34 h)
   | inr h ↦ inr (eqb-true b 39 h)
 ]
 
 -- a quoted text, with its end or without
-quoted_stands_by : (at m : ℕ) (bs : List ℕ) (o : Option ℕ) → IsMark m → Closed m o bs
+quoted_stands_by : (at m : ℕ) (bs : List ℕ) (o : Option ℕ) → IsQuote m → Closed m o bs
     → Stands at (m ∷ bs) (quoted_front bs o)
 quoted_stands_by at m bs None mark c =
     unquoted at (m ∷ bs) cut (suc (length bs))

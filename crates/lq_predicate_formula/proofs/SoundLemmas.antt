@@ -8,7 +8,7 @@ use Rattle.lq_value.specs.declared.literal.Literal.{Literal}
 use Rattle.lq_predicate_formula.specs.Literals.{name_of, literal_of}
 use Rattle.lq_predicate_formula.specs.Query.{Query, Compare, Not, both_of, either_of}
 use Rattle.lq_predicate_formula.specs.Grammar.{Follows, IsAnd, IsOr, IsNot, IsFormula}
-use Rattle.lq_predicate_formula.specs.Machine.{Frame, Expected, operand, after_attr, after_op, after_operand, State, empty_frame, start, negate, frame_with, completed, said_by, run}
+use Rattle.lq_predicate_formula.specs.Machine.{Frame, Expected, operand, after_attr, after_op, after_operand, MachineState, empty_frame, start, negate, frame_with, completed, said_by, run}
 
 -- The tokens end a frame behind an operand: more parts of its
 -- and, more parts of its or, and then what K takes.
@@ -71,7 +71,7 @@ EndsAt (after_op a o) below f n q ts = AwaitsLiteral below f n a o q ts
 EndsAt after_operand below f n q ts = After below f.or_parts f.and_parts n q ts
 
 -- a state by its parts
-abbrev at : Expected → List Frame → Frame → ℕ → State
+abbrev at : Expected → List Frame → Frame → ℕ → MachineState
 at p below f n = record { below = below; top = f; expected = p; room = n }
 
 -- ---- one token more, at the front
@@ -223,14 +223,14 @@ fails : {A : Type 0} {X : Type 0} (x : A) → None ≡ Some x → X
 fails x e = cc
 
 -- the two values of a step that was taken
-pub record Taken (A : Type 0) (o : Option A) (f : A → State) (ts : List Token)
+pub record Taken (A : Type 0) (o : Option A) (f : A → MachineState) (ts : List Token)
     (q : Query) : Type 0 where
   pub value : A
   pub is : o ≡ Some value
   pub goes : run (f value) ts ≡ Some q
 
 -- where a word and the rest run to a query, the word is a name or a literal
-taken : {A : Type 0} (o : Option A) (f : A → State) (ts : List Token) (q : Query)
+taken : {A : Type 0} (o : Option A) (f : A → MachineState) (ts : List Token) (q : Query)
     → option_and_then (λ s. run s ts) (option_map f o) ≡ Some q → Taken A o f ts q
 taken None f ts q e = fails q e
 taken (Some x) f ts q e = record { value = x; is = refl; goes = e }

@@ -11,7 +11,7 @@ use Rattle.std.specs.declared.cmp.Ordering.TheVariants.{Less, Greater}
 use Rattle.std.proofs.lemmas.Int.{ints, clamps}
 use Rattle.std.proofs.lemmas.List.Sums.{fold-append}
 use Rattle.std.proofs.lemmas.Slice.Eq.{bytes_eq-Decides}
-use Rattle.lq_value.specs.Held.{Held, Number}
+use Rattle.lq_value.specs.PlainValue.{PlainValue, Number}
 use Rattle.lq_value.specs.Compare.{compares_number, literal_number}
 use Rattle.lq_value.specs.declared.literal.Literal.{Literal}
 use Rattle.lq_value.specs.declared.op.Op.{Op}
@@ -104,7 +104,7 @@ beside-alike (n ∷ ns) l g a b h =
 -- ---- and then the truth stays
 
 -- what is shown is the same, or a number that stands alike to some numbers
-record Near (ns : List ℤ) (held now : Option Held) : Type 0 where
+record Near (ns : List ℤ) (held now : Option PlainValue) : Type 0 where
   from : ℤ
   to : ℤ
   was : held ≡ Some (Number from)

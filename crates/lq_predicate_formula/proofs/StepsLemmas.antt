@@ -6,7 +6,7 @@ use Rattle.lq_predicate_formula.specs.Tokens.{Token, opens, closes, bang, ands, 
 use Rattle.lq_predicate_formula.specs.Literals.{literal_of, name_of}
 use Rattle.lq_predicate_formula.specs.Query.{Query, Compare}
 use Rattle.lq_predicate_formula.specs.Grammar.{IsFormula}
-use Rattle.lq_predicate_formula.specs.Machine.{Frame, Expected, operand, after_attr, after_op, after_operand, State, completed, start, step, steps}
+use Rattle.lq_predicate_formula.specs.Machine.{Frame, Expected, operand, after_attr, after_op, after_operand, MachineState, completed, start, step, steps}
 use Rattle.lq_predicate_formula.proofs.SoundLemmas.{run_reads}
 use Rattle.lq_predicate_formula.proofs.StopLemmas.{leads_on, steps_run}
 use Rattle.lq_predicate_formula.proofs.DepthLemmas.{at}
@@ -14,7 +14,7 @@ use Rattle.lq_predicate_formula.proofs.DepthLemmas.{at}
 -- ---- steps over two lists
 
 -- no state comes of a step that was refused
-pub fails : {X : Type 0} (s : State) → None ≡ Some s → X
+pub fails : {X : Type 0} (s : MachineState) → None ≡ Some s → X
 fails s e = cc
 
 -- nothing is both Some and None
@@ -22,42 +22,42 @@ pub some_none : {A : Type 0} {X : Type 0} (x : A) → Some x ≡ None → X
 some_none x e = cc
 
 -- `split_steps` for what a first step has led to
-split_then : (r : Option State) (ts us : List Token) (s : State)
-    → ((x : State) → steps x (ts ++ us) ≡ Some s
-    → (y : State) × (steps x ts ≡ Some y) × (steps y us ≡ Some s))
+split_then : (r : Option MachineState) (ts us : List Token) (s : MachineState)
+    → ((x : MachineState) → steps x (ts ++ us) ≡ Some s
+    → (y : MachineState) × (steps x ts ≡ Some y) × (steps y us ≡ Some s))
     → option_and_then (λ x. steps x (ts ++ us)) r ≡ Some s
-    → (y : State) × (option_and_then (λ x. steps x ts) r ≡ Some y) × (steps y us ≡ Some s)
+    → (y : MachineState) × (option_and_then (λ x. steps x ts) r ≡ Some y) × (steps y us ≡ Some s)
 split_then None ts us s ih e = fails s e
 split_then (Some x) ts us s ih e = ih x e
 
 -- the state between
-pub split_steps : (ts us : List Token) (x s : State) → steps x (ts ++ us) ≡ Some s
-    → (y : State) × (steps x ts ≡ Some y) × (steps y us ≡ Some s)
+pub split_steps : (ts us : List Token) (x s : MachineState) → steps x (ts ++ us) ≡ Some s
+    → (y : MachineState) × (steps x ts ≡ Some y) × (steps y us ≡ Some s)
 split_steps [] us x s e = (x, refl, e)
 split_steps (t ∷ ts) us x s e = split_then (step x t) ts us s (λ y h. split_steps ts us y s h) e
 
 -- `steps_on` for what a first step has led to
-on_then : (r : Option State) (ts us : List Token) (s : State)
-    → ((x : State) → steps x ts ≡ Some s → steps x (ts ++ us) ≡ steps s us)
+on_then : (r : Option MachineState) (ts us : List Token) (s : MachineState)
+    → ((x : MachineState) → steps x ts ≡ Some s → steps x (ts ++ us) ≡ steps s us)
     → option_and_then (λ x. steps x ts) r ≡ Some s
     → option_and_then (λ x. steps x (ts ++ us)) r ≡ steps s us
 on_then None ts us s ih e = fails s e
 on_then (Some x) ts us s ih e = ih x e
 
 -- steps over two lists are those over the second, from where the first has led
-pub steps_on : (ts us : List Token) (x s : State) → steps x ts ≡ Some s
+pub steps_on : (ts us : List Token) (x s : MachineState) → steps x ts ≡ Some s
     → steps x (ts ++ us) ≡ steps s us
 steps_on [] us x s e = let same : x ≡ s = cc in ap (λ y. steps y us) same
 steps_on (t ∷ ts) us x s e = on_then (step x t) ts us s (λ y h. steps_on ts us y s h) e
 
 -- where a first step and the others lead to a state, the first leads to one
-pub first_then : (r : Option State) (ts : List Token) (s : State)
-    → option_and_then (λ x. steps x ts) r ≡ Some s → (y : State) × (r ≡ Some y)
+pub first_then : (r : Option MachineState) (ts : List Token) (s : MachineState)
+    → option_and_then (λ x. steps x ts) r ≡ Some s → (y : MachineState) × (r ≡ Some y)
 first_then None ts s e = fails s e
 first_then (Some x) ts s e = (x, refl)
 
 -- tokens that were taken begin a formula
-pub begun_at : (n : ℕ) (ts : List Token) (s : State) → steps (start n) ts ≡ Some s
+pub begun_at : (n : ℕ) (ts : List Token) (s : MachineState) → steps (start n) ts ≡ Some s
     → (rest : List Token) × (q : Query) × IsFormula n (ts ++ rest) q
 begun_at n ts s e =
     let h = leads_on s.expected s.below s.top s.room in
@@ -73,7 +73,7 @@ op_of_expected (after_op a o) = Some o
 op_of_expected after_operand = None
 
 -- the operator whose literal is awaited in a state
-abbrev op_of : State → Option Op
+abbrev op_of : MachineState → Option Op
 op_of s = op_of_expected s.expected
 
 -- the operator that a token is
@@ -89,13 +89,13 @@ op_in lone = None
 op_in cut = None
 
 -- a word leads to a state with no operator
-none_mapped : {A : Type 0} (r : Option A) (f : A → State) (s : State)
+none_mapped : {A : Type 0} (r : Option A) (f : A → MachineState) (s : MachineState)
     → ((x : A) → op_of (f x) ≡ None) → option_map f r ≡ Some s → Some None ≡ Some (op_of s)
 none_mapped None f s h e = fails s e
 none_mapped (Some x) f s h e = ap Some (sym (h x)) ∙ ap (option_map op_of) e
 
 -- behind a step stands the operator of its token
-step_op : (p : Expected) (below : List Frame) (f : Frame) (n : ℕ) (t : Token) (s : State)
+step_op : (p : Expected) (below : List Frame) (f : Frame) (n : ℕ) (t : Token) (s : MachineState)
     → step (at p below f n) t ≡ Some s → Some (op_in t) ≡ Some (op_of s)
 step_op operand below f zero opens s e = fails s e
 step_op operand below f (suc n) opens s e = ap (option_map op_of) e
@@ -156,12 +156,13 @@ is_op lone o e = absurd (no_op o e)
 is_op cut o e = absurd (no_op o e)
 
 -- what leads to a state behind an operator is nothing, or ends with that operator
-abbrev EndsWith : List Token → State → Op → Type 0
+abbrev EndsWith : List Token → MachineState → Op → Type 0
 EndsWith ts x o =
     ((ts ≡ []) × (op_of x ≡ Some o)) ⊎ ((front : List Token) × (ts ≡ front ++ op o ∷ []))
 
 -- a token more in front keeps what the list ends with
-ends_by : (x y : State) (t : Token) (ts : List Token) (o : Op) → step x t ≡ Some y → EndsWith ts y o
+ends_by : (x y : MachineState) (t : Token) (ts : List Token) (o : Op) → step x t ≡ Some y
+    → EndsWith ts y o
     → EndsWith (t ∷ ts) x o
 ends_by x y t ts o e (inl h) =
     let same : Some (op_in t) ≡ Some (op_of y) = step_op x.expected x.below x.top x.room t y e in
@@ -170,14 +171,16 @@ ends_by x y t ts o e (inl h) =
 ends_by x y t ts o e (inr h) = inr (t ∷ h.0, ap (λ us. t ∷ us) h.1)
 
 -- `ends_with` for what a first step has led to
-ends_then : (r : Option State) (x : State) (t : Token) (ts : List Token) (s : State) (o : Op)
-    → step x t ≡ r → ((y : State) → steps y ts ≡ Some s → EndsWith ts y o)
+ends_then : (r : Option MachineState) (x : MachineState) (t : Token) (ts : List Token)
+    (s : MachineState) (o : Op)
+    → step x t ≡ r → ((y : MachineState) → steps y ts ≡ Some s → EndsWith ts y o)
     → option_and_then (λ y. steps y ts) r ≡ Some s → EndsWith (t ∷ ts) x o
 ends_then None x t ts s o f ih e = fails s e
 ends_then (Some y) x t ts s o f ih e = ends_by x y t ts o f (ih y e)
 
 -- tokens that lead to a state after an operator end with that operator
-pub ends_with : (ts : List Token) (x s : State) (o : Op) → op_of s ≡ Some o → steps x ts ≡ Some s
+pub ends_with : (ts : List Token) (x s : MachineState) (o : Op) → op_of s ≡ Some o
+    → steps x ts ≡ Some s
     → EndsWith ts x o
 ends_with [] x s o h e = let same : x ≡ s = cc in inl (refl, ap op_of same ∙ h)
 ends_with (t ∷ ts) x s o h e =

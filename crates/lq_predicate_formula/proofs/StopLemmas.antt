@@ -13,12 +13,12 @@ use Rattle.lq_predicate_formula.specs.Tokens.{Token, closes, op, word}
 use Rattle.lq_predicate_formula.specs.Literals.{pattern_literal, literal_of}
 use Rattle.lq_predicate_formula.specs.Query.{Query, Compare}
 use Rattle.lq_predicate_formula.specs.Grammar.{IsFormula, nesting, IsBegun}
-use Rattle.lq_predicate_formula.specs.Machine.{Frame, Expected, operand, after_attr, after_op, after_operand, State, start, frame_with, completed, said_by, step, run, whole, steps}
+use Rattle.lq_predicate_formula.specs.Machine.{Frame, Expected, operand, after_attr, after_op, after_operand, MachineState, start, frame_with, completed, said_by, step, run, finished_query, steps}
 use Rattle.lq_predicate_formula.proofs.CompleteLemmas.{formula_runs}
 use Rattle.lq_predicate_formula.proofs.SoundLemmas.{run_reads}
 
 -- tokens that lead from a state to a query
-pub record Leads (s : State) : Type 0 where
+pub record Leads (s : MachineState) : Type 0 where
   pub rest : List Token
   pub q : Query
   pub runs : run s rest ≡ Some q
@@ -76,40 +76,40 @@ leads_on (after_op a o) below f n =
 leads_on after_operand below f n = leads_behind below f n
 
 -- `steps_run` for what a first step has led to
-runs_then : (r : Option State) (ts rest : List Token) (s' : State)
-    → ((s : State) → steps s ts ≡ Some s' → run s (ts ++ rest) ≡ run s' rest)
+runs_then : (r : Option MachineState) (ts rest : List Token) (s' : MachineState)
+    → ((s : MachineState) → steps s ts ≡ Some s' → run s (ts ++ rest) ≡ run s' rest)
     → option_and_then (λ s. steps s ts) r ≡ Some s'
     → option_and_then (λ s. run s (ts ++ rest)) r ≡ run s' rest
 runs_then None ts rest s' ih e = cc
 runs_then (Some s) ts rest s' ih e = ih s e
 
 -- where steps lead to a state, tokens after them run as from that state
-pub steps_run : (ts : List Token) (s s' : State) (rest : List Token) → steps s ts ≡ Some s'
+pub steps_run : (ts : List Token) (s s' : MachineState) (rest : List Token) → steps s ts ≡ Some s'
     → run s (ts ++ rest) ≡ run s' rest
 steps_run [] s s' rest e = let same : s ≡ s' = cc in ap (λ x. run x rest) same
 steps_run (t ∷ ts) s s' rest e = runs_then (step s t) ts rest s' (λ x h. steps_run ts x s' rest h) e
 
 -- the step after some others, for what a first step has led to
-steps_then : (r : Option State) (ts : List Token) (t : Token) (s' : State)
-    → ((s : State) → steps s ts ≡ Some s' → steps s (ts ++ t ∷ []) ≡ step s' t)
+steps_then : (r : Option MachineState) (ts : List Token) (t : Token) (s' : MachineState)
+    → ((s : MachineState) → steps s ts ≡ Some s' → steps s (ts ++ t ∷ []) ≡ step s' t)
     → option_and_then (λ s. steps s ts) r ≡ Some s'
     → option_and_then (λ s. steps s (ts ++ t ∷ [])) r ≡ step s' t
 steps_then None ts t s' ih e = cc
 steps_then (Some s) ts t s' ih e = ih s e
 
 -- an option that is passed on as `Some` is itself
-same_some : (r : Option State) → option_and_then (λ s. Some s) r ≡ r
+same_some : (r : Option MachineState) → option_and_then (λ s. Some s) r ≡ r
 same_some None = refl
 same_some (Some s) = refl
 
 -- one token more
-pub steps_push : (ts : List Token) (t : Token) (s s' : State) → steps s ts ≡ Some s'
+pub steps_push : (ts : List Token) (t : Token) (s s' : MachineState) → steps s ts ≡ Some s'
     → steps s (ts ++ t ∷ []) ≡ step s' t
 steps_push [] t s s' e = let same : s ≡ s' = cc in same_some (step s t) ∙ ap (λ x. step x t) same
 steps_push (u ∷ ts) t s s' e = steps_then (step s u) ts t s' (λ x h. steps_push ts t x s' h) e
 
 -- tokens that are taken begin a formula
-pub begun : (ts : List Token) (s : State) → steps (start nesting) ts ≡ Some s → IsBegun ts
+pub begun : (ts : List Token) (s : MachineState) → steps (start nesting) ts ≡ Some s → IsBegun ts
 begun ts s e =
     let h = leads_on s.expected s.below s.top s.room in (
       h.rest,
@@ -118,7 +118,7 @@ begun ts s e =
     )
 
 -- tokens with one after them that is refused begin no formula
-pub not_begun : (ts : List Token) (t : Token) (s : State)
+pub not_begun : (ts : List Token) (t : Token) (s : MachineState)
     → steps (start nesting) ts ≡ Some s → step s t ≡ None → IsBegun (ts ++ t ∷ []) → ⊥
 not_begun ts t s e f b =
     let reads = formula_runs nesting ((ts ++ t ∷ []) ++ b.0) b.1 b.2 in
@@ -127,13 +127,14 @@ not_begun ts t s e f b =
     ∙ ap (run (start nesting)) (sym (append_assoc ts (t ∷ []) b.0)) ∙ reads)
 
 -- where all tokens are taken and a query is whole, they are a formula of that query
-pub reads_at_end : (all : List Token) (s : State) (q : Query)
-    → steps (start nesting) all ≡ Some s → whole s ≡ Some q → IsFormula nesting all q
+pub reads_at_end : (all : List Token) (s : MachineState) (q : Query)
+    → steps (start nesting) all ≡ Some s → finished_query s ≡ Some q → IsFormula nesting all q
 reads_at_end all s q g f = run_reads nesting all q
     (ap (run (start nesting)) (sym (append-nil all)) ∙ steps_run all (start nesting) s [] g ∙ f)
 
 -- where all tokens are taken and no query is whole, they are no formula
-pub ends_none : (all : List Token) (s : State) → steps (start nesting) all ≡ Some s → whole s ≡ None
+pub ends_none : (all : List Token) (s : MachineState) → steps (start nesting) all ≡ Some s
+    → finished_query s ≡ None
     → (q : Query) → IsFormula nesting all q → ⊥
 ends_none all s g f q h = none-some q (sym f ∙ sym (steps_run all (start nesting) s [] g)
     ∙ ap (run (start nesting)) (append-nil all) ∙ formula_runs nesting all q h)

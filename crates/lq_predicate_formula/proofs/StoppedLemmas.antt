@@ -6,7 +6,7 @@ use Rattle.std.proofs.lemmas.List.{map-append}
 use Rattle.lq_predicate_formula.specs.Tokens.{Token, opens, closes, bang, ands, ors, op, word, lone, cut, Placed, HasTokens, bare}
 use Rattle.lq_predicate_formula.specs.Query.{Query}
 use Rattle.lq_predicate_formula.specs.Grammar.{IsFormula, nesting}
-use Rattle.lq_predicate_formula.specs.Machine.{State, start, step, steps, whole}
+use Rattle.lq_predicate_formula.specs.Machine.{MachineState, start, step, steps, finished_query}
 use Rattle.lq_predicate_formula.specs.Canonical.{canonical, depth}
 use Rattle.lq_predicate_formula.specs.Faults.{AreFine, IsFaultOf, IsFaulty, too_long, at_token, ends_early, too_much, most_bytes, most_comparisons, most_depth}
 use Rattle.lq_predicate_formula.specs.MachineReading.{after_token, fault_place, finished, machine_reading, read_tokens, word_count}
@@ -28,7 +28,7 @@ data Stops (end : ℕ) (all : List Placed) (place : ℕ) : Type 0 where
       → Stops end all place
 
 -- what was read up to a state
-pub record Seen (seen : List Placed) (s : State) (count : ℕ) : Type 0 where
+pub record Seen (seen : List Placed) (s : MachineState) (count : ℕ) : Type 0 where
   pub goes : steps (start nesting) (bare seen) ≡ Some s
   pub counted : words (bare seen) ≡ count
   pub few : count ≤ most_comparisons + most_comparisons
@@ -54,7 +54,7 @@ over_by true false end q p e f g = (inr (not_le _ _ f), same_place end p (Err en
 over_by false b end q p e f g = (inl (not_le _ _ e), same_place end p (Err end) refl g)
 
 -- no token that was passed over is at fault
-seen_fine : (end : ℕ) (seen : List Placed) (s : State) (count : ℕ) → Seen seen s count
+seen_fine : (end : ℕ) (seen : List Placed) (s : MachineState) (count : ℕ) → Seen seen s count
     → AreFine end seen
 seen_fine end seen s count h =
     let k = h.counted in
@@ -62,8 +62,9 @@ seen_fine end seen s count h =
     fine end seen s h.goes (omega arith)
 
 -- a reading that stops at the end has its fault there
-stops_whole : (end : ℕ) (all : List Placed) (s : State) (count : ℕ) (o : Option Query) (p : ℕ)
-    → Seen all s count → whole s ≡ o → finished end o ≡ Err p → Stops end all p
+stops_whole : (end : ℕ) (all : List Placed) (s : MachineState) (count : ℕ)
+    (o : Option Query) (p : ℕ)
+    → Seen all s count → finished_query s ≡ o → finished end o ≡ Err p → Stops end all p
 stops_whole end all s count None p h w e = too_soon (seen_fine end all s count h)
     (ends_none (bare all) s h.goes w) (same_place end p (Err end) refl e)
 stops_whole end all s count (Some q) p h w e =
@@ -92,7 +93,8 @@ pub count_at : (t : Token) (w : List ℕ) (n : ℕ)
 count_at t w n e h k = let one : word_count t ≡ 1 = ap word_count e in omega arith
 
 -- one token more is passed over, if it is taken and no word too many
-pub seen_more : (seen : List Placed) (t : Placed) (s s' : State) (count : ℕ) → Seen seen s count
+pub seen_more : (seen : List Placed) (t : Placed) (s s' : MachineState) (count : ℕ)
+    → Seen seen s count
     → step s t.token ≡ Some s' → count + word_count t.token ≤ most_comparisons + most_comparisons
     → Seen (seen ++ t ∷ []) s' (count + word_count t.token)
 seen_more seen t s s' count h e few =
@@ -106,8 +108,8 @@ seen_more seen t s s' count h e few =
     }
 
 -- a reading that stops after a token is taken stops at it, as one too many, or later
-count_by : (end : ℕ) (seen : List Placed) (t : Placed) (ts all : List Placed) (s s' : State)
-    (count p : ℕ) (others : State → Result Query ℕ) (b : Bool)
+count_by : (end : ℕ) (seen : List Placed) (t : Placed) (ts all : List Placed) (s s' : MachineState)
+    (count p : ℕ) (others : MachineState → Result Query ℕ) (b : Bool)
     → all ≡ seen ++ t ∷ ts → Seen seen s count → step s t.token ≡ Some s'
     → (Seen (seen ++ t ∷ []) s' (count + word_count t.token) → others s' ≡ Err p → Stops end all p)
     → nat_le (count + word_count t.token) (most_comparisons + most_comparisons) ≡ b
@@ -123,10 +125,10 @@ count_by end seen t ts all s s' count p others false a h e ih k f =
     (full end (bare seen) s s' t w.0 h.goes many w.1 e))
 
 -- a reading that stops at a token or later: it is refused, one too many, or passed over
-after_by : (end : ℕ) (seen : List Placed) (t : Placed) (ts all : List Placed) (s : State)
-    (count p : ℕ) (others : State → Result Query ℕ) (o : Option State)
+after_by : (end : ℕ) (seen : List Placed) (t : Placed) (ts all : List Placed) (s : MachineState)
+    (count p : ℕ) (others : MachineState → Result Query ℕ) (o : Option MachineState)
     → all ≡ seen ++ t ∷ ts → Seen seen s count → step s t.token ≡ o
-    → ((s' : State) → Seen (seen ++ t ∷ []) s' (count + word_count t.token)
+    → ((s' : MachineState) → Seen (seen ++ t ∷ []) s' (count + word_count t.token)
     → others s' ≡ Err p → Stops end all p)
     → after_token (fault_place end s.expected t) t o (count + word_count t.token) others ≡ Err p
     → Stops end all p
@@ -141,12 +143,13 @@ after_by end seen t ts all s count p others (Some s') a h e ih f =
     (nat_le (count + word_count t.token) (most_comparisons + most_comparisons)) a h e (ih s') refl f
 
 -- a reading that is a place stops at a fault there
-stops : (end : ℕ) (ts seen all : List Placed) (s : State) (count p : ℕ)
+stops : (end : ℕ) (ts seen all : List Placed) (s : MachineState) (count p : ℕ)
     → all ≡ seen ++ ts → Seen seen s count → read_tokens end s count ts ≡ Err p → Stops end all p
 unfolding read_tokens
 stops end [] seen all s count p a h e =
     let same : all ≡ seen = a ∙ append-nil seen in
-    stops_whole end all s count (whole s) p (subst (λ l. Seen l s count) (sym same) h) refl e
+    stops_whole end all s count (finished_query s) p
+    (subst (λ l. Seen l s count) (sym same) h) refl e
 stops end (t ∷ ts) seen all s count p a h e =
     after_by end seen t ts all s count p (λ s'. read_tokens end s' (count + word_count t.token) ts)
     (step s t.token) a h refl

@@ -10,7 +10,7 @@ use Rattle.lq_predicate_formula.specs.Tokens.{Token, op, word, lone, cut, Placed
 use Rattle.lq_predicate_formula.specs.Literals.{bad_place, literal_fault, literal_of, name_of, pattern_literal}
 use Rattle.lq_predicate_formula.specs.Query.{Compare}
 use Rattle.lq_predicate_formula.specs.Grammar.{nesting}
-use Rattle.lq_predicate_formula.specs.Machine.{Frame, Expected, operand, after_attr, after_op, after_operand, State, completed, start, step, steps}
+use Rattle.lq_predicate_formula.specs.Machine.{Frame, Expected, operand, after_attr, after_op, after_operand, MachineState, completed, start, step, steps}
 use Rattle.lq_predicate_formula.specs.Faults.{AreFine, IsFaultOf, stray, cut_off, alone, too_deep, bad_name, one_more, bad_pattern, most_comparisons, operators}
 use Rattle.lq_predicate_formula.proofs.StopLemmas.{begun, steps_push}
 use Rattle.lq_predicate_formula.proofs.DepthLemmas.{at}
@@ -22,7 +22,7 @@ use Rattle.lq_predicate_formula.proofs.BalanceLemmas.{balanced}
 -- ---- what is taken
 
 -- a text that is cut in a quoted word is never taken
-pub never_cut : (p : Expected) (below : List Frame) (f : Frame) (n : ℕ) (s : State)
+pub never_cut : (p : Expected) (below : List Frame) (f : Frame) (n : ℕ) (s : MachineState)
     → step (at p below f n) cut ≡ Some s → ⊥
 never_cut operand below f n s e = fails s e
 never_cut (after_attr a) below f n s e = fails s e
@@ -30,7 +30,7 @@ never_cut (after_op a o) below f n s e = fails s e
 never_cut after_operand below f n s e = fails s e
 
 -- a lone `&`, `|` or `=` is never taken
-never_lone : (p : Expected) (below : List Frame) (f : Frame) (n : ℕ) (s : State)
+never_lone : (p : Expected) (below : List Frame) (f : Frame) (n : ℕ) (s : MachineState)
     → step (at p below f n) lone ≡ Some s → ⊥
 never_lone operand below f n s e = fails s e
 never_lone (after_attr a) below f n s e = fails s e
@@ -42,12 +42,13 @@ pub no_outline : {X : Type 0} (o : Outline) → None ≡ Some o → X
 no_outline o e = cc
 
 -- where the option is None, its map is no state
-mapped_none : {A : Type 0} (r : Option A) (f : A → State) (s : State)
+mapped_none : {A : Type 0} (r : Option A) (f : A → MachineState) (s : MachineState)
     → r ≡ None → option_map f r ≡ Some s → ⊥
 mapped_none r f s h e = fails s (sym (ap (option_map f) h) ∙ e)
 
 -- a name is taken only where it is one, if an attribute is awaited
-never_nameless : (p : Expected) (below : List Frame) (f : Frame) (n : ℕ) (w : List ℕ) (s : State)
+never_nameless : (p : Expected) (below : List Frame) (f : Frame) (n : ℕ) (w : List ℕ)
+    (s : MachineState)
     → step (at p below f n) (word w) ≡ Some s → name_of w ≡ None → (o : Outline)
     → outline_steps (outline_of (at p below f n)) (word [] ∷ op Eq ∷ []) ≡ Some o → ⊥
 never_nameless operand below f n w s e h o k =
@@ -76,7 +77,7 @@ no_literal Ge w k e = no_place k e
 
 -- after an operator, a word with a bad place is not taken
 never_bad_at : (p : Expected) (below : List Frame) (f : Frame) (n : ℕ) (o : Op) (w : List ℕ) (k : ℕ)
-    (s s' : State) → step (at p below f n) (op o) ≡ Some s → step s (word w) ≡ Some s'
+    (s s' : MachineState) → step (at p below f n) (op o) ≡ Some s → step s (word w) ≡ Some s'
     → literal_fault o w ≡ Some k → ⊥
 never_bad_at operand below f n o w k s s' e g h = fails s e
 never_bad_at (after_attr a) below f n o w k s s' e g h =
@@ -87,7 +88,7 @@ never_bad_at (after_op a u) below f n o w k s s' e g h = fails s e
 never_bad_at after_operand below f n o w k s s' e g h = fails s e
 
 -- after tokens that end with an operator, a word with a bad place is not taken
-pub never_bad : (front : List Token) (o : Op) (w : List ℕ) (k : ℕ) (s s' : State)
+pub never_bad : (front : List Token) (o : Op) (w : List ℕ) (k : ℕ) (s s' : MachineState)
     → steps (start nesting) (front ++ op o ∷ []) ≡ Some s → step s (word w) ≡ Some s'
     → literal_fault o w ≡ Some k → ⊥
 never_bad front o w k s s' e g h =
@@ -97,7 +98,7 @@ never_bad front o w k s s' e g h =
     (sym (steps_push front (op o) (start nesting) y d.1) ∙ e) g h
 
 -- where a name is awaited and a word more is allowed, there are not the most comparisons
-never_full : (p : Expected) (below : List Frame) (f : Frame) (n : ℕ) (w : List ℕ) (s : State)
+never_full : (p : Expected) (below : List Frame) (f : Frame) (n : ℕ) (w : List ℕ) (s : MachineState)
     (ts : List Token) → steps (start nesting) ts ≡ Some (at p below f n)
     → step (at p below f n) (word w) ≡ Some s → operators ts ≡ most_comparisons
     → words (ts ++ word w ∷ []) ≤ most_comparisons + most_comparisons → (o : Outline)
@@ -110,7 +111,7 @@ never_full (after_op a u) below f n w s ts e g m few o k = no_outline o k
 never_full after_operand below f n w s ts e g m few o k = fails s g
 
 -- a token that is taken, with no more than so many words, is at no fault
-taken_fine : (end : ℕ) (front : List Token) (here : Placed) (s s' : State) (p : ℕ)
+taken_fine : (end : ℕ) (front : List Token) (here : Placed) (s s' : MachineState) (p : ℕ)
     → steps (start nesting) front ≡ Some s → step s here.token ≡ Some s'
     → words (front ++ here.token ∷ []) ≤ most_comparisons + most_comparisons
     → IsFaultOf end front here p → ⊥
@@ -144,7 +145,8 @@ taken_fine end front here s s' p e g few (bad_pattern f o w k split h i j) =
     (subst (λ t. step s t ≡ Some s') h g) i
 
 -- tokens that are taken, with no word too many, are not at fault
-pub fine : (end : ℕ) (seen : List Placed) (s : State) → steps (start nesting) (bare seen) ≡ Some s
+pub fine : (end : ℕ) (seen : List Placed) (s : MachineState)
+    → steps (start nesting) (bare seen) ≡ Some s
     → words (bare seen) ≤ most_comparisons + most_comparisons → AreFine end seen
 fine end seen s e few before here after p split fault =
     let t = here.token in

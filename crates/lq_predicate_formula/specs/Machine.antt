@@ -18,7 +18,7 @@ pub data Expected : Type 0 where
   after_op : List ℕ → Op → Expected
   after_operand : Expected
 
-pub record State : Type 0 where
+pub record MachineState : Type 0 where
   pub below : List Frame
   pub top : Frame
   pub expected : Expected
@@ -27,7 +27,7 @@ pub record State : Type 0 where
 abbrev pub empty_frame : Frame
 empty_frame = record { or_parts = []; and_parts = []; bangs = 0 }
 
-abbrev pub start : ℕ → State
+abbrev pub start : ℕ → MachineState
 start n = record { below = []; top = empty_frame; expected = operand; room = n }
 
 abbrev pub negate : ℕ → Query → Query
@@ -39,7 +39,7 @@ abbrev pub frame_with : Query → Frame → Frame
 frame_with q f =
     record { or_parts = f.or_parts; and_parts = f.and_parts ++ negate f.bangs q ∷ []; bangs = 0 }
 
-abbrev pub completed : Query → List Frame → Frame → ℕ → State
+abbrev pub completed : Query → List Frame → Frame → ℕ → MachineState
 completed q below f room =
     record { below = below; top = frame_with q f; expected = after_operand; room = room + f.bangs }
 
@@ -48,15 +48,15 @@ abbrev pub said_by : Frame → Query
 said_by f = either_of (f.or_parts ++ both_of f.and_parts ∷ [])
 
 -- one more `!` or parenthesis, if there is room
-abbrev pub deeper : ℕ → (ℕ → State) → Option State
+abbrev pub deeper : ℕ → (ℕ → MachineState) → Option MachineState
 deeper zero s = None
 deeper (suc n) s = Some (s n)
 
-abbrev pub close : List Frame → Frame → ℕ → Option State
+abbrev pub close : List Frame → Frame → ℕ → Option MachineState
 close [] f room = None
 close (g ∷ gs) f room = Some (completed (said_by f) gs g (suc room))
 
-abbrev pub at_operand : State → Token → Option State
+abbrev pub at_operand : MachineState → Token → Option MachineState
 at_operand s opens = deeper s.room
     (λ n. record { below = s.top ∷ s.below; top = empty_frame; expected = operand; room = n })
 at_operand s bang = deeper s.room (λ n. record {
@@ -74,7 +74,7 @@ at_operand s (op o) = None
 at_operand s lone = None
 at_operand s cut = None
 
-abbrev pub at_attr : State → List ℕ → Token → Option State
+abbrev pub at_attr : MachineState → List ℕ → Token → Option MachineState
 at_attr s a (op o) =
     Some (record { below = s.below; top = s.top; expected = after_op a o; room = s.room })
 at_attr s a opens = None
@@ -86,7 +86,7 @@ at_attr s a (word w) = None
 at_attr s a lone = None
 at_attr s a cut = None
 
-abbrev pub at_op : State → List ℕ → Op → Token → Option State
+abbrev pub at_op : MachineState → List ℕ → Op → Token → Option MachineState
 at_op s a o (word l) =
     option_map (λ literal. completed (Compare a o literal) s.below s.top s.room) (literal_of o l)
 at_op s a o opens = None
@@ -98,7 +98,7 @@ at_op s a o (op p) = None
 at_op s a o lone = None
 at_op s a o cut = None
 
-abbrev pub at_end : State → Token → Option State
+abbrev pub at_end : MachineState → Token → Option MachineState
 at_end s ands = Some (record {
   below = s.below;
   top = record { or_parts = s.top.or_parts; and_parts = s.top.and_parts; bangs = 0 };
@@ -123,14 +123,14 @@ at_end s (word w) = None
 at_end s lone = None
 at_end s cut = None
 
-abbrev pub step_at : Expected → State → Token → Option State
+abbrev pub step_at : Expected → MachineState → Token → Option MachineState
 step_at operand s t = at_operand s t
 step_at (after_attr a) s t = at_attr s a t
 step_at (after_op a o) s t = at_op s a o t
 step_at after_operand s t = at_end s t
 
 -- None where the token isn't allowed here, or would nest too deep
-abbrev pub step : State → Token → Option State
+abbrev pub step : MachineState → Token → Option MachineState
 step s t = step_at s.expected s t
 
 abbrev pub whole_at : Expected → List Frame → Frame → Option Query
@@ -141,15 +141,15 @@ whole_at (after_attr a) below f = None
 whole_at (after_op a o) below f = None
 
 -- the query, if the formula may end here
-abbrev pub whole : State → Option Query
-whole s = whole_at s.expected s.below s.top
+abbrev pub finished_query : MachineState → Option Query
+finished_query s = whole_at s.expected s.below s.top
 
-abbrev pub run : State → List Token → Option Query
-run s [] = whole s
+abbrev pub run : MachineState → List Token → Option Query
+run s [] = finished_query s
 run s (t ∷ ts) = option_and_then (λ s'. run s' ts) (step s t)
 
 -- the state after the tokens
-abbrev pub steps : State → List Token → Option State
+abbrev pub steps : MachineState → List Token → Option MachineState
 steps s [] = Some s
 steps s (t ∷ ts) = option_and_then (λ s'. steps s' ts) (step s t)
 
@@ -159,5 +159,5 @@ open_weight [] = 0
 open_weight (f ∷ fs) = suc f.bangs + open_weight fs
 
 -- the nesting so far plus the room that remains, which no step increases
-abbrev pub weight : State → ℕ
+abbrev pub weight : MachineState → ℕ
 weight s = s.room + (s.top.bangs + open_weight s.below)

@@ -7,7 +7,7 @@ use Rattle.lq_predicate_formula.specs.Query.{Query}
 use Rattle.lq_predicate_formula.specs.Grammar.{nesting}
 use Rattle.lq_predicate_formula.specs.Literals.{literal_fault}
 use Rattle.lq_predicate_formula.specs.Canonical.{canonical, depth}
-use Rattle.lq_predicate_formula.specs.Machine.{Expected, operand, after_attr, after_op, after_operand, State, start, step, whole}
+use Rattle.lq_predicate_formula.specs.Machine.{Expected, operand, after_attr, after_op, after_operand, MachineState, start, step, finished_query}
 use Rattle.lq_predicate_formula.specs.Faults.{most_bytes, most_comparisons, most_depth}
 
 -- ---- the place of the fault of a refused token
@@ -53,7 +53,8 @@ word_count lone = 0
 word_count cut = 0
 
 -- the state after a token and this many words, and the reading from there on
-abbrev pub after_token : ℕ → Placed → Option State → ℕ → (State → Result Query ℕ) → Result Query ℕ
+abbrev pub after_token : ℕ → Placed → Option MachineState → ℕ → (MachineState → Result Query ℕ)
+    → Result Query ℕ
 after_token fault t None count others = Err fault
 after_token fault t (Some s) count others =
     if nat_le count (most_comparisons + most_comparisons) then others s else Err t.place
@@ -67,8 +68,8 @@ finished end (Some q) =
     else Err end
 
 -- the reading of the tokens from a state on, after this many words, where the text ends at `end`
-unfoldable pub read_tokens : ℕ → State → ℕ → List Placed → Result Query ℕ
-read_tokens end s count [] = finished end (whole s)
+unfoldable pub read_tokens : ℕ → MachineState → ℕ → List Placed → Result Query ℕ
+read_tokens end s count [] = finished end (finished_query s)
 read_tokens end s count (t ∷ ts) = after_token (fault_place end s.expected t) t (step s t.token)
     (count + word_count t.token) (λ s'. read_tokens end s' (count + word_count t.token) ts)
 

@@ -4,7 +4,7 @@ use Rattle.std.specs.Int.{int_max, int_min}
 use Rattle.std.specs.List.{fold}
 use Rattle.std.specs.Option.{option_to_list}
 use Rattle.std.specs.Str.{bytes_eq}
-use Rattle.lq_value.specs.Held.{Held, Number}
+use Rattle.lq_value.specs.PlainValue.{PlainValue, Number}
 use Rattle.lq_value.specs.Compare.{literal_number}
 use Rattle.lq_predicate_formula.specs.Query.{Query, Compare, Not, And, Or, Queries, no_more, and_then}
 use Rattle.lq_predicate_formula.specs.declared.span.Span.{Span}
@@ -45,7 +45,7 @@ is_beside span a b =
     || (int_lt span.greatest a && int_lt span.greatest b)
 
 -- both held values are numbers on the same side of a span
-pub record StaysBeside (span : Span) (held now : Option Held) : Type 0 where
+pub record StaysBeside (span : Span) (held now : Option PlainValue) : Type 0 where
   pub from : ℤ
   pub to : ℤ
   pub was : held ≡ Some (Number from)

@@ -42,13 +42,13 @@ sign_bytes (plain b ∷ ss) = b ∷ sign_bytes ss
 sign_bytes (escaped b ∷ ss) = 92 ∷ b ∷ sign_bytes ss
 
 -- a byte by itself is no `\`, and not one that ends the text
-abbrev pub GoesOn : (ℕ → Bool) → Sign → Type 0
-GoesOn ends (plain b) = ((b == 92) ≡ false) × (ends b ≡ false)
-GoesOn ends (escaped b) = Unit {0}
+abbrev pub StaysInText : (ℕ → Bool) → Sign → Type 0
+StaysInText ends (plain b) = ((b == 92) ≡ false) × (ends b ≡ false)
+StaysInText ends (escaped b) = Unit {0}
 
 abbrev pub AllGoOn : (ℕ → Bool) → List Sign → Type 0
 AllGoOn ends [] = Unit {0}
-AllGoOn ends (s ∷ ss) = GoesOn ends s × AllGoOn ends ss
+AllGoOn ends (s ∷ ss) = StaysInText ends s × AllGoOn ends ss
 
 -- the bytes are signs, none of which ends the text
 abbrev pub AreSigns : (ℕ → Bool) → List ℕ → Type 0
@@ -66,8 +66,8 @@ abbrev pub IsWord : List ℕ → List ℕ → Type 0
 IsWord raw rest = AreSigns ends_word raw × (raw ≡ [] → ⊥) × EndsWord rest
 
 -- `"` or `'`
-abbrev pub IsMark : ℕ → Type 0
-IsMark mark = (mark ≡ 34) ⊎ (mark ≡ 39)
+abbrev pub IsQuote : ℕ → Type 0
+IsQuote mark = (mark ≡ 34) ⊎ (mark ≡ 39)
 
 -- signs none of which is the mark by itself
 abbrev pub AreWithout : ℕ → List ℕ → Type 0
@@ -76,7 +76,7 @@ AreWithout mark bytes = AreSigns (λ b. b == mark) bytes
 -- a mark, the raw text without it, the same mark
 abbrev pub IsQuoted : List ℕ → List ℕ → Type 0
 IsQuoted raw part =
-    (mark : ℕ) × IsMark mark × AreWithout mark raw × (part ≡ mark ∷ (raw ++ mark ∷ []))
+    (mark : ℕ) × IsQuote mark × AreWithout mark raw × (part ≡ mark ∷ (raw ++ mark ∷ []))
 
 -- all of it are signs none of which is the mark by itself, and perhaps a `\` with nothing after it
 abbrev pub HasNoEnd : ℕ → List ℕ → Type 0
@@ -86,7 +86,7 @@ HasNoEnd mark bytes =
 -- a mark, and a text that it doesn't end
 abbrev pub IsUnclosed : List ℕ → Type 0
 IsUnclosed part =
-    (mark : ℕ) × (bytes : List ℕ) × IsMark mark × HasNoEnd mark bytes × (part ≡ mark ∷ bytes)
+    (mark : ℕ) × (bytes : List ℕ) × IsQuote mark × HasNoEnd mark bytes × (part ≡ mark ∷ bytes)
 
 -- ---- tokens
 

@@ -2,16 +2,16 @@
 use Rattle.std.specs.Prelude.{ℕ, List, Bool, true, false, not, ◌&&◌, ◌||◌, Option, Some, None}
 use Rattle.lq_value.specs.declared.op.Op.{Op}
 use Rattle.lq_value.specs.declared.literal.Literal.{Literal}
-use Rattle.lq_value.specs.Held.{Held}
+use Rattle.lq_value.specs.PlainValue.{PlainValue}
 use Rattle.lq_value.specs.Compare.{compares}
 use Rattle.lq_predicate_formula.specs.Query.{Query, Compare, Not, And, Or, Queries, no_more, and_then}
 
 -- what a row shows under each name
 abbrev pub Look : Type 0
-Look = List ℕ → Option Held
+Look = List ℕ → Option PlainValue
 
 -- an absent attribute makes a comparison false, also for `!=`
-abbrev pub compares_if_present : Option Held → Op → Literal → Bool
+abbrev pub compares_if_present : Option PlainValue → Op → Literal → Bool
 compares_if_present None op literal = false
 compares_if_present (Some held) op literal = compares held op literal
 

@@ -5,7 +5,7 @@ use denote.Param.Send.{IsSend, IsSync, sendable, shr_send}
 use denote.Param.SendFields.{declared_send}
 use Rattle.std.proofs.Crossing.{crosses, Vec-send}
 use Rattle.lq_script_desk.specs.contracts.response.Response as response
-use Rattle.lq_server.specs.declared.named.Named.{Ghosts}
+use Rattle.lq_server.specs.declared.server_base.Named.{Ghosts}
 use Rattle.lq_server.specs.contracts.server.Server as server
 use Rattle.lq_script.specs.contracts.batch.Turn as turn
 use Rattle.lq_script.proofs.tokens.OwnReader.TheSendSync as found_reader

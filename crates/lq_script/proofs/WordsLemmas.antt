@@ -2,7 +2,7 @@
 use Rattle.std.proofs.Common.{◌≡◌, ◌∙◌, ◌⊎◌, inl, inr, ℕ, Bool, true, refl, sym, ap, arith, List, [], length, get_or, take, drop, Option, Result, Ok, Err, OnOk, OnErr}
 use Rattle.std.proofs.lemmas.List.{take-append-drop}
 use Rattle.std.specs.Io.KnownBytes.{Appends}
-use Rattle.lq_script.specs.Words.{IsCheckOf, Tells, WritesFront}
+use Rattle.lq_script.specs.Words.{IsCheckOf, WritesOrFails, WritesFront}
 
 -- the first bytes of a line are a front of it
 pub writes_part : (line : List ℕ) (written written' : Option (List ℕ))
@@ -18,7 +18,8 @@ pub tells : {T E : Type 0} (r : Result T E) (line : List ℕ) (written written' 
     (failed stalled : Bool)
     → OnOk r (Appends written written' line)
     → OnErr r ((n : ℕ) × Appends written written' (take n line))
-    → OnErr r ((failed ≡ true) ⊎ (stalled ≡ true)) → Tells line written written' failed stalled
+    → OnErr r ((failed ≡ true) ⊎ (stalled ≡ true))
+    → WritesOrFails line written written' failed stalled
 tells (Ok x) line written written' failed stalled whole part breaks = inl whole
 tells (Err e) line written written' failed stalled whole part breaks =
     inr (writes_part line written written' part, breaks)

@@ -5,8 +5,8 @@ use Rattle.clap.specs.Simple.{App, new_rule, new_shape, with_rule, with_subcomma
 use Rattle.clap.specs.declared.builder.action.ArgAction.TheVariants.{Set}
 
 -- a command without clap's help and version
-abbrev pub bare : List ℕ → App
-bare name = record {
+abbrev pub bare_command : List ℕ → App
+bare_command name = record {
   top = record (new_shape name) {
     disable_help_flag = true;
     disable_version_flag = true;
@@ -21,14 +21,15 @@ formula_rule = record (new_rule (codes "formula")) { action = Some Set; required
 
 -- the subcommand `check`
 abbrev pub check_app : App
-check_app = with_rule (bare (codes "check")) formula_rule
+check_app = with_rule (bare_command (codes "check")) formula_rule
 
 -- the command itself: its arguments begin after its name and have to name a subcommand
 abbrev pub lq_top : App
-lq_top = record (bare (codes "lq")) {
-  top = record (bare (codes "lq")).top { no_binary_name = true; subcommand_required = true };
+lq_top = record (bare_command (codes "lq")) {
+  top = record (bare_command (codes "lq")).top
+      { no_binary_name = true; subcommand_required = true };
 }
 
 -- `run`, and `check` with a formula
 abbrev pub lq_app : App
-lq_app = with_subcommand (with_subcommand lq_top (bare (codes "run")).top) check_app.top
+lq_app = with_subcommand (with_subcommand lq_top (bare_command (codes "run")).top) check_app.top

@@ -5,8 +5,8 @@ use Rattle.lq_script_lines.specs.Output.{Answered, Stopped}
 use Rattle.lq_script_lines.specs.Outcome.{ReaderLog, WriterLog}
 use Rattle.lq_script_lines.specs.declared.run_fault.RunFault.{RunFault}
 use Rattle.lq_script_desk.specs.Script.{script_session, world_rules}
-use Rattle.lq_script.specs.Words.{IsCheckOf, IsFaultOf, IsOther, IsRun, IsThreads, IsUsage}
-use Rattle.lq_script.specs.Words.{Prints, PrintsFront, Tells}
+use Rattle.lq_script.specs.Words.{IsCheckOf, IsRunFault, IsOther, IsRun, IsThreads, IsUsage}
+use Rattle.lq_script.specs.Words.{Prints, PrintsFront, WritesOrFails}
 use Rattle.lq_script.specs.Words.{fault_line, refusal_line, usage_line}
 
 -- the three streams before and after, and what they say of their bytes
@@ -37,13 +37,13 @@ transcript reader reader' writer writer' faults faults' read wrote told = record
 
 -- a line went to standard error
 abbrev pub TellsLine : {R W F : Type 0} → Transcript R W F → List ℕ → Type 0
-TellsLine t line = Tells line t.told.written t.told.written' t.told.failed t.told.stalled
+TellsLine t line = WritesOrFails line t.told.written t.told.written' t.told.failed t.told.stalled
 
 -- a fault went there, and the streams are as this fault says
 pub record TellsFault {R W F : Type 0} (t : Transcript R W F) : Type 0 where
   pub fault : RunFault
   pub line : TellsLine t (fault_line fault)
-  pub is : IsFaultOf fault t.read.left t.read.left' t.read.failed
+  pub is : IsRunFault fault t.read.left t.read.left' t.read.failed
       t.wrote.written t.wrote.written' t.wrote.failed t.wrote.stalled
 
 -- the formula's leftmost fault went there

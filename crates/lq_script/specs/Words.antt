@@ -8,7 +8,7 @@ use Rattle.std.specs.Io.KnownBytes.{Appends}
 use Rattle.lq_predicate.specs.Query.{Query}
 use Rattle.lq_predicate.specs.Faults.{Reads}
 use Rattle.lq_predicate.specs.Canonical.{canonical}
-use Rattle.lq_script_lines.specs.Lines.{Begins}
+use Rattle.lq_script_lines.specs.Lines.{HasPrefix}
 use Rattle.lq_script_lines.specs.Output.{Ended, Halted, Passed}
 use Rattle.lq_script_lines.specs.declared.run_fault.RunFault.{RunFault}
 use Rattle.lq_script_lines.specs.declared.run_fault.RunFault.TheVariants.{Read, Write, Limit, Memory, Thread}
@@ -71,11 +71,11 @@ usage_line = line_with (codes "lq: usage")
 pub record WritesFront (line : List ℕ) (written written' : Option (List ℕ)) : Type 0 where
   pub text : List ℕ
   pub appended : Appends written written' text
-  pub front : Begins line text
+  pub front : HasPrefix line text
 
 -- a line was written, or a prefix of it where the device failed or accepted none of some bytes
-abbrev pub Tells : List ℕ → Option (List ℕ) → Option (List ℕ) → Bool → Bool → Type 0
-Tells line written written' failed stalled = Appends written written' line
+abbrev pub WritesOrFails : List ℕ → Option (List ℕ) → Option (List ℕ) → Bool → Bool → Type 0
+WritesOrFails line written written' failed stalled = Appends written written' line
     ⊎ (WritesFront line written written' × ((failed ≡ true) ⊎ (stalled ≡ true)))
 
 -- the formula reads, and its canonical text and LF were written
@@ -94,18 +94,18 @@ pub record PrintsFront (formula : List ℕ) (written written' : Option (List ℕ
 -- Write: the writer failed, or accepted none of some bytes. Limit: a limit was reached, and exactly
 -- the lines before it that LF ended are answered. Memory: the reader hasn't failed, each write took
 -- some bytes, and exactly some first lines are answered. No thread is started.
-abbrev pub IsFaultOf : RunFault → Option (List ℕ) → Option (List ℕ) → Bool
+abbrev pub IsRunFault : RunFault → Option (List ℕ) → Option (List ℕ) → Bool
     → Option (List ℕ) → Option (List ℕ) → Bool → Bool → Type 0
-IsFaultOf Read left left' fails written written' failed stalled =
+IsRunFault Read left left' fails written written' failed stalled =
     (fails ≡ true) × Ended world_rules script_session left left' written written'
-IsFaultOf Write left left' fails written written' failed stalled =
+IsRunFault Write left left' fails written written' failed stalled =
     (failed ≡ true) ⊎ (stalled ≡ true)
-IsFaultOf Limit left left' fails written written' failed stalled =
+IsRunFault Limit left left' fails written written' failed stalled =
     Passed world_rules script_session left left' written written'
-IsFaultOf Memory left left' fails written written' failed stalled =
+IsRunFault Memory left left' fails written written' failed stalled =
     ((fails ≡ false) × (stalled ≡ false))
     × Halted world_rules script_session left left' written written'
-IsFaultOf Thread left left' fails written written' failed stalled = ⊥
+IsRunFault Thread left left' fails written written' failed stalled = ⊥
 
 -- `threads`
 abbrev pub IsThreads : List (List ℕ) → Type 0

@@ -2,7 +2,7 @@
 ghost use Rattle.std.specs.Prelude.{◌≡◌, false, codes, IfOk, IsErrOf};
 ghost use Rattle.clap.specs.Simple.{app_of, with_subcommand};
 ghost use Rattle.clap.specs.declared.builder.command.Command.TheViews.{out-Command as fields_of};
-ghost use Rattle.lq_script.specs.CommandLine.{bare, check_app, lq_app, lq_top};
+ghost use Rattle.lq_script.specs.CommandLine.{bare_command, check_app, lq_app, lq_top};
 ghost use Rattle.lq_script.specs.Words.{IsAskedBy, IsUsage, has_stray, texts_of};
 
 use clap::error::ErrorKind;
@@ -79,7 +79,7 @@ fn command_of<'a>(alloc: Global) -> Result<Command<'a>, AllocError>
 // The command with `run` alone. Its arguments begin after its name and have to name a subcommand.
 fn run_command<'a>(alloc: Global) -> Result<Command<'a>, AllocError>
     ensures { IfOk result (λ command.
-        app_of command ≡ with_subcommand lq_top (bare (codes "run")).top) }
+        app_of command ≡ with_subcommand lq_top (bare_command (codes "run")).top) }
 {
     without_help(alloc, "lq")
         .no_binary_name(true)
@@ -100,7 +100,7 @@ fn check_command<'a>(alloc: Global) -> Result<Command<'a>, AllocError>
 
 // A command without clap's help and version: both count as other arguments.
 fn without_help<'a>(alloc: Global, name: &'a str) -> Command<'a>
-    ensures app { app_of result ≡ bare name.entry.now }
+    ensures app { app_of result ≡ bare_command name.entry.now }
     ensures locals { (fields_of result).has_globals ≡ false }
 {
     Command::new(alloc, name)

@@ -6,27 +6,27 @@
 //! a server's public calls, a line at a time, and does a run of `read` lines as a batch, with a
 //! thread for each slot. Contracts say that each of these calls is safe, and tests that its output
 //! is that of `run`; it may wait. `thiserror` derives the display texts of `RunFault`. Begin with
-//! `words`, then `threads`, `runner`, `server_session`, `batch` and `workers`.
+//! `arguments`, then `threads`, `runner`, `server_session`, `batch` and `workers`.
 #![tactic(auto)]
 
+mod arguments;
 mod batch;
-mod checking;
+mod canonical_text;
 mod command_line;
+mod commands;
 mod gate;
 mod lines;
-mod plain_words;
 mod readers;
 mod runner;
 mod server_session;
 mod tasks;
 mod threads;
 mod tokens;
-mod words;
 mod workers;
 
-pub use checking::check;
+pub use arguments::program;
+pub use canonical_text::check;
 pub use gate::{Gate, OpenGate};
 pub use lq_script_desk::run;
 pub use lq_script_lines::{Client, Failed, Host, RunFault, Sink, Source};
 pub use threads::run_threads;
-pub use words::program;

@@ -59,7 +59,7 @@ impl<
     /// Carries out these lines, each with its LF, and writes all their replies.
     ///
     /// Refused: `Write` where the writer failed or took none of the bytes given, `Memory`.
-    pub fn carry_out(&mut self, lines: &[u8]) -> Result<(), RunFault> {
+    pub fn answer_lines(&mut self, lines: &[u8]) -> Result<(), RunFault> {
         let mut rest = lines;
         while let Some(count) = memchr(LF, rest) {
             self.take_line(&rest[..count])?;

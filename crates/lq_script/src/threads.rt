@@ -114,7 +114,7 @@ fn carry_all<
     let mut lines = Lines::new(alloc);
     for _ in rt.forever() {
         let read = lines.read(reader);
-        if let Err(fault) = runner.carry_out(lines.given()) {
+        if let Err(fault) = runner.answer_lines(lines.given()) {
             return Err(runner.close(fault));
         }
         match read {

@@ -22,19 +22,19 @@ use Rattle.lq_update.specs.declared.parcel.Parcel.TheVariants.{Update, Fin}
 use Rattle.lq_update.specs.Fold.{Folding, fold_refusals, folding_after, folding_after_all, opened_at}
 use Rattle.lq_update.specs.Updates.{updates_of}
 use Rattle.lq_update.specs.Laws.{FoldingsFollow, RebuildsTakeAll}
-use Rattle.lq_desk_world.specs.World.{World, Subscribed, can_put, first_in_port, is_live, is_over, slot_at, taken_before_free}
+use Rattle.lq_desk_world.specs.World.{World, Subscribed, can_put, first_in_port, is_live, is_over, subscribed_at, taken_before_free}
 use Rattle.lq_desk_world.specs.declared.event.Event.{Event}
 use Rattle.lq_desk_world.specs.declared.event.Event.TheVariants.{Change, Open, Put, Take, HangUp, Notice, Close, Finish}
 use Rattle.lq_desk_world.specs.Events.{Answer, Opened, Took, Empty, Ended, Finished, Refused, answer, at_slot, changing, closing, closing_if, finishing, finishing_if, hanging_up, next, noticing, noticing_if, open_refusal, opened_now, opening, outcome, putting, putting_if, reading, reading_if}
-use Rattle.lq_desk_world.specs.Turns.{after_all, at_each, events_in, one_notice, places_at, ports_of, puts, turn_of, turn_outcome}
-use Rattle.lq_desk_world.specs.Headline.{ReadersAreTold, OpeningsAreTold, accepted, accepted_by, book_of, frees, parcel_in, parcels_in, read_by, reads_of, updates_among, updates_in}
+use Rattle.lq_desk_world.specs.Turns.{after_events, at_each, events_in, one_notice, places_at, ports_of, puts, turn_of, turn_outcome}
+use Rattle.lq_desk_world.specs.Headline.{ReadersAreTold, OpeningsAreTold, accepted, accepted_by, run_book, frees, parcel_in, parcels_in, read_by, reads_of, updates_among, updates_in}
 use Rattle.lq_desk_world.specs.Laws.{RunsTellReaders}
-use Rattle.lq_script_desk.specs.Answered.{slot_of}
+use Rattle.lq_script_desk.specs.Answered.{slot_named}
 use Rattle.lq_script_desk.specs.Folds.{Folds, after_message, after_message_if, fold_at, folds_after, no_folds, with_fold}
 use Rattle.lq_script_desk.specs.Script.{script_session, script_world}
 use Rattle.lq_script_desk.specs.Session.{Session}
 use Rattle.lq_script_desk.specs.History.{IsFoldOf, StaysTaken, answers_to, events_asked, events_of, answers_of, session_after, turns_of}
-use Rattle.lq_script_desk.proofs.HistoryLemmas.{after_all-append, answers_to-append, answers_to-count, lines-turns, run-answers, session_turn, session_turns, turn-end, turn-event}
+use Rattle.lq_script_desk.proofs.HistoryLemmas.{after_events-append, answers_to-append, answers_to-count, lines-turns, run-answers, session_turn, session_turns, turn-end, turn-event}
 
 -- ---- lists of folds
 
@@ -322,24 +322,25 @@ event-step : (w : World) (e : Event) (slot : ℕ) (folds : Folds) (f : Folding)
     → frees slot e (Took (Update m)) ≡ false
     → read_by slot e (Took (Update m)) ≡ Took (Update m) ∷ []
     → first_refusal (fold_refusals old m) ≡ None)
-    → fold_at (folds_after (slot_of e) (answer w e) folds) slot ≡ Some f
+    → fold_at (folds_after (slot_named e) (answer w e) folds) slot ≡ Some f
     → GoesOn slot e (answer w e) folds f ⊎ IsBegun slot e (answer w e) f
 event-step w (Change c) slot folds f takes had =
     inl (changing-step w c (refused (state_of w.book) c) slot folds f had)
 event-step w (Open q port backlog moved) slot folds f takes had =
     opening-step w q port backlog moved (open_refusal w port backlog) slot folds f had
 event-step w (Put k) slot folds f takes had = inl (still slot (Put k) _ folds f refl refl
-    (sym (ap (λ fs. fold_at fs slot) (put-quiet w k (slot_at w k) folds)) ∙ had))
-event-step w (Take k) slot folds f takes had = inl (reading-step w k (slot_at w k) slot folds f
+    (sym (ap (λ fs. fold_at fs slot) (put-quiet w k (subscribed_at w k) folds)) ∙ had))
+event-step w (Take k) slot folds f takes had = inl
+    (reading-step w k (subscribed_at w k) slot folds f
     (λ m old is had. takes m old is had refl) had)
 event-step w (HangUp k) slot folds f takes had = inl (still slot (HangUp k) _ folds f refl refl
-    (sym (ap (λ fs. fold_at fs slot) (hang_up-quiet w k (slot_at w k) folds)) ∙ had))
+    (sym (ap (λ fs. fold_at fs slot) (hang_up-quiet w k (subscribed_at w k) folds)) ∙ had))
 event-step w (Notice k) slot folds f takes had = inl (still slot (Notice k) _ folds f refl refl
-    (sym (ap (λ fs. fold_at fs slot) (notice-quiet w k (slot_at w k) folds)) ∙ had))
+    (sym (ap (λ fs. fold_at fs slot) (notice-quiet w k (subscribed_at w k) folds)) ∙ had))
 event-step w (Close k) slot folds f takes had = inl (still slot (Close k) _ folds f refl refl
-    (sym (ap (λ fs. fold_at fs slot) (close-quiet w k (slot_at w k) folds)) ∙ had))
+    (sym (ap (λ fs. fold_at fs slot) (close-quiet w k (subscribed_at w k) folds)) ∙ had))
 event-step w (Finish k) slot folds f takes had =
-    inl (finishing-step w k (slot_at w k) slot folds f had)
+    inl (finishing-step w k (subscribed_at w k) slot folds f had)
 
 -- ---- lists that grow by one
 
@@ -513,7 +514,7 @@ takes rebuilds s volume slot events answers f e m told r stays read =
     let a = Took (Update m) in
     let more = fold-more slot events answers f
     (folding_after_all f (updates_in (read_by slot e a))) e a r stays refl in
-    let b = book_of s (events ++ e ∷ []) (answers ++ a ∷ []) in
+    let b = run_book s (events ++ e ∷ []) (answers ++ a ∷ []) in
     let says = told-all s (events ++ e ∷ []) (answers ++ a ∷ []) told
     r.before (r.after ++ e ∷ []) r.befores (r.afters ++ a ∷ []) r.query r.port r.backlog r.moved
     slot r.at r.first more.opening more.opened r.place in
@@ -546,7 +547,7 @@ takes rebuilds s volume slot events answers f e m told r stays read =
 abbrev pub folds_over : World → Folds → List Event → Folds
 folds_over w folds [] = folds
 folds_over w folds (e ∷ events) =
-    folds_over (next w e) (folds_after (slot_of e) (answer w e) folds) events
+    folds_over (next w e) (folds_after (slot_named e) (answer w e) folds) events
 
 -- after these events of a script, each fold that there is took what was read
 abbrev AreFolded : List Event → Folds → Type 0
@@ -557,10 +558,10 @@ module _ (law : RunsTellReaders) (rebuilds : RebuildsTakeAll)
     (volume : IsVolume (empty_state 1000000000000)) where
   -- one more event
   more-folded : (events : List Event) (e : Event) (folds : Folds) → AreFolded events folds
-      → AreFolded (events ++ e ∷ []) (folds_after (slot_of e)
-      (answer (after_all outcome script_world events) e) folds)
+      → AreFolded (events ++ e ∷ []) (folds_after (slot_named e)
+      (answer (after_events outcome script_world events) e) folds)
   more-folded events e folds were slot f had =
-      let w = after_all outcome script_world events in
+      let w = after_events outcome script_world events in
       let answers = answers_to script_world events in
       let all = answers_to-append script_world events (e ∷ []) in
       let told : ReadersAreTold (empty_state 1000000000000) (events ++ e ∷ [])
@@ -580,16 +581,17 @@ module _ (law : RunsTellReaders) (rebuilds : RebuildsTakeAll)
 
   -- many more events
   all-folded : (events more : List Event) (folds : Folds) → AreFolded events folds
-      → AreFolded (events ++ more) (folds_over (after_all outcome script_world events) folds more)
+      → AreFolded (events ++ more) (folds_over (after_events outcome script_world events)
+      folds more)
   all-folded events [] folds were =
       subst (λ es. AreFolded es folds) (sym (append-nil events)) were
   all-folded events (e ∷ more) folds were =
-      let w = after_all outcome script_world events in
-      let folds' = folds_after (slot_of e) (answer w e) folds in
+      let w = after_events outcome script_world events in
+      let folds' = folds_after (slot_named e) (answer w e) folds in
       subst (λ es. AreFolded es (folds_over (next w e) folds' more))
       (append_assoc events (e ∷ []) more)
       (subst (λ v. AreFolded ((events ++ e ∷ []) ++ more) (folds_over v folds' more))
-      (after_all-append outcome script_world events (e ∷ []))
+      (after_events-append outcome script_world events (e ∷ []))
       (all-folded (events ++ e ∷ []) more folds' (more-folded events e folds were)))
 
 -- ---- a turn folds what its own event read
@@ -597,10 +599,10 @@ module _ (law : RunsTellReaders) (rebuilds : RebuildsTakeAll)
 -- folds over events and then others
 folds_over-append : (w : World) (folds : Folds) (xs ys : List Event)
     → folds_over w folds (xs ++ ys)
-    ≡ folds_over (after_all outcome w xs) (folds_over w folds xs) ys
+    ≡ folds_over (after_events outcome w xs) (folds_over w folds xs) ys
 folds_over-append w folds [] ys = refl
 folds_over-append w folds (x ∷ xs) ys =
-    folds_over-append (next w x) (folds_after (slot_of x) (answer w x) folds) xs ys
+    folds_over-append (next w x) (folds_after (slot_named x) (answer w x) folds) xs ys
 
 -- a put or a notice
 abbrev IsQuiet : Event → Type 0
@@ -614,13 +616,13 @@ IsQuiet (Close k) = ⊥
 IsQuiet (Finish k) = ⊥
 
 quiet-one : (w : World) (e : Event) (folds : Folds) → IsQuiet e
-    → folds_after (slot_of e) (answer w e) folds ≡ folds
+    → folds_after (slot_named e) (answer w e) folds ≡ folds
 quiet-one w (Change c) folds quiet = absurd quiet
 quiet-one w (Open q port backlog moved) folds quiet = absurd quiet
-quiet-one w (Put k) folds quiet = put-quiet w k (slot_at w k) folds
+quiet-one w (Put k) folds quiet = put-quiet w k (subscribed_at w k) folds
 quiet-one w (Take k) folds quiet = absurd quiet
 quiet-one w (HangUp k) folds quiet = absurd quiet
-quiet-one w (Notice k) folds quiet = notice-quiet w k (slot_at w k) folds
+quiet-one w (Notice k) folds quiet = notice-quiet w k (subscribed_at w k) folds
 quiet-one w (Close k) folds quiet = absurd quiet
 quiet-one w (Finish k) folds quiet = absurd quiet
 
@@ -629,7 +631,7 @@ quiet-folds : (w : World) (folds : Folds) (events : List Event) → AllByRecursi
     → folds_over w folds events ≡ folds
 quiet-folds w folds [] quiet = refl
 quiet-folds w folds (e ∷ events) quiet =
-    quiet-folds (next w e) (folds_after (slot_of e) (answer w e) folds) events quiet.1
+    quiet-folds (next w e) (folds_after (slot_named e) (answer w e) folds) events quiet.1
     ∙ quiet-one w e folds quiet.0
 
 all-append : (xs ys : List Event) → AllByRecursion IsQuiet xs → AllByRecursion IsQuiet ys
@@ -666,14 +668,15 @@ turn-quiet ports (Finish k) = (tt, tt)
 
 -- the folds after a turn
 turn-folds : (w : World) (e : Event) (folds : Folds)
-    → folds_after (slot_of e) (turn_outcome w e).0 folds
+    → folds_after (slot_named e) (turn_outcome w e).0 folds
     ≡ folds_over w folds (events_in (turn_of (ports_of w) e))
 turn-folds w e folds =
     let t = turn_of (ports_of w) e in
     let quiet = turn-quiet (ports_of w) e in
-    let v = after_all outcome w t.before in
-    let folds' = folds_after (slot_of t.event) (answer v t.event) folds in
-    ap (λ x. folds_after (slot_of x) (turn_outcome w e).0 folds) (sym (turn-event (ports_of w) e))
+    let v = after_events outcome w t.before in
+    let folds' = folds_after (slot_named t.event) (answer v t.event) folds in
+    ap (λ x. folds_after (slot_named x) (turn_outcome w e).0 folds)
+    (sym (turn-event (ports_of w) e))
     ∙ (sym (quiet-folds (next v t.event) folds' t.after quiet.1)
     ∙ (ap (λ fs. folds_over v fs (t.event ∷ t.after))
     (sym (quiet-folds w folds t.before quiet.0))

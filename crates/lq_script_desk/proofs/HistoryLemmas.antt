@@ -6,13 +6,13 @@ use Rattle.lq_desk_world.specs.declared.event.Event.{Event}
 use Rattle.lq_desk_world.specs.declared.event.Event.TheVariants.{Change, Open, Put, Take, HangUp, Notice, Close, Finish}
 use Rattle.lq_desk_world.specs.Events.{Answer, answer, next, outcome}
 use Rattle.lq_desk_world.specs.Runs.{Run}
-use Rattle.lq_desk_world.specs.Turns.{Turn, after_all, carried_out, events_in, ports_of, turn_of, turn_outcome}
+use Rattle.lq_desk_world.specs.Turns.{Turn, after_events, carried_out, events_in, ports_of, turn_of, turn_outcome}
 use Rattle.lq_script_lines.specs.Lines.{Line, Rules, long, empty, whole, line_of, reply_to, replies_to, state_after}
 use Rattle.lq_script_lines.specs.Progress.{state_after_all}
 use Rattle.lq_script_request.specs.declared.question.Question.{Question}
 use Rattle.lq_script_request.specs.declared.question.Question.TheVariants as question
 use Rattle.lq_script_request.specs.Request.{question_in}
-use Rattle.lq_script_desk.specs.Answered.{answered, answered_event, rebuilt, responds, slot_of}
+use Rattle.lq_script_desk.specs.Answered.{answered, answered_event, rebuilt, responds, slot_named}
 use Rattle.lq_script_desk.specs.Folds.{fold_at}
 use Rattle.lq_script_desk.specs.Reply.{reply_text}
 use Rattle.lq_script_desk.specs.Response.{Answers}
@@ -23,15 +23,15 @@ use Rattle.lq_script_desk.specs.History.{IsReplied, answer_after, answers_to, ev
 -- ---- events one after another
 
 -- events and then others lead where both in a row lead
-pub after_all-append : {Core : Type 0} (step : Core → Event → Answer × Core) (s : Core)
+pub after_events-append : {Core : Type 0} (step : Core → Event → Answer × Core) (s : Core)
     (xs ys : List Event)
-    → after_all step s (xs ++ ys) ≡ after_all step (after_all step s xs) ys
-after_all-append step s [] ys = refl
-after_all-append step s (x ∷ xs) ys = after_all-append step (step s x).1 xs ys
+    → after_events step s (xs ++ ys) ≡ after_events step (after_events step s xs) ys
+after_events-append step s [] ys = refl
+after_events-append step s (x ∷ xs) ys = after_events-append step (step s x).1 xs ys
 
 -- the answers to events and then others are those to the first and then those to the others
 pub answers_to-append : (w : World) (xs ys : List Event)
-    → answers_to w (xs ++ ys) ≡ answers_to w xs ++ answers_to (after_all outcome w xs) ys
+    → answers_to w (xs ++ ys) ≡ answers_to w xs ++ answers_to (after_events outcome w xs) ys
 answers_to-append w [] ys = refl
 answers_to-append w (x ∷ xs) ys =
     ap (λ rest. answer w x ∷ rest) (answers_to-append (next w x) xs ys)
@@ -44,7 +44,7 @@ answers_to-count w (e ∷ events) = omega (arith, answers_to-count (next w e) ev
 
 -- events and the answers to them are a run
 pub run-answers : (w : World) (events : List Event)
-    → Run w events (answers_to w events) (after_all outcome w events)
+    → Run w events (answers_to w events) (after_events outcome w events)
 run-answers w [] = refl
 run-answers w (e ∷ events) = (next w e, inl (refl, refl), run-answers (next w e) events)
 
@@ -52,8 +52,8 @@ run-answers w (e ∷ events) = (next w e, inl (refl, refl), run-answers (next w 
 
 -- a turn leads where its events lead
 pub turn-end : (w : World) (t : Turn)
-    → after_all outcome w (events_in t) ≡ (carried_out outcome w t).1
-turn-end w t = after_all-append outcome w t.before (t.event ∷ t.after)
+    → after_events outcome w (events_in t) ≡ (carried_out outcome w t).1
+turn-end w t = after_events-append outcome w t.before (t.event ∷ t.after)
 
 -- the event of a turn is the one that it was made for
 pub turn-event : (ports : List (Option ℕ)) (e : Event) → (turn_of ports e).event ≡ e
@@ -68,25 +68,25 @@ turn-event ports (Finish slot) = refl
 
 -- the turns of events and then of others
 pub turns_of-append : (w : World) (xs ys : List Event)
-    → turns_of w (xs ++ ys) ≡ turns_of w xs ++ turns_of (after_all outcome w (turns_of w xs)) ys
+    → turns_of w (xs ++ ys) ≡ turns_of w xs ++ turns_of (after_events outcome w (turns_of w xs)) ys
 turns_of-append w [] ys = refl
 turns_of-append w (x ∷ xs) ys =
     let t = turn_of (ports_of w) x in
     let v = (turn_outcome w x).1 in
-    let here : after_all outcome w (events_in t ++ turns_of v xs)
-    ≡ after_all outcome v (turns_of v xs) =
-    after_all-append outcome w (events_in t) (turns_of v xs)
-    ∙ ap (λ u. after_all outcome u (turns_of v xs)) (turn-end w t) in
+    let here : after_events outcome w (events_in t ++ turns_of v xs)
+    ≡ after_events outcome v (turns_of v xs) =
+    after_events-append outcome w (events_in t) (turns_of v xs)
+    ∙ ap (λ u. after_events outcome u (turns_of v xs)) (turn-end w t) in
     ap (λ rest. events_in t ++ rest) (turns_of-append v xs ys)
     ∙ (sym (append_assoc (events_in t) (turns_of v xs)
-    (turns_of (after_all outcome v (turns_of v xs)) ys))
+    (turns_of (after_events outcome v (turns_of v xs)) ys))
     ∙ ap (λ u. (events_in t ++ turns_of v xs) ++ turns_of u ys) (sym here))
 
 -- ---- sessions
 
 -- the session after the turn of an event that a line asked for
 abbrev pub session_turn : Session → Event → Session
-session_turn s e = (answered_event (slot_of e) s.folds (turn_outcome s.core e)).1
+session_turn s e = (answered_event (slot_named e) s.folds (turn_outcome s.core e)).1
 
 abbrev pub session_turns : Session → List Event → Session
 session_turns s [] = s
@@ -127,14 +127,14 @@ lines-turns s (bytes ∷ lines) =
 
 -- the core of a session is where the events of the turns lead
 pub turns-core : (s : Session) (asked : List Event)
-    → (session_turns s asked).core ≡ after_all outcome s.core (turns_of s.core asked)
+    → (session_turns s asked).core ≡ after_events outcome s.core (turns_of s.core asked)
 turns-core s [] = refl
 turns-core s (e ∷ asked) =
     let t = turn_of (ports_of s.core) e in
     let v = (turn_outcome s.core e).1 in
     turns-core (session_turn s e) asked
-    ∙ (ap (λ u. after_all outcome u (turns_of v asked)) (sym (turn-end s.core t))
-    ∙ sym (after_all-append outcome s.core (events_in t) (turns_of v asked)))
+    ∙ (ap (λ u. after_events outcome u (turns_of v asked)) (sym (turn-end s.core t))
+    ∙ sym (after_events-append outcome s.core (events_in t) (turns_of v asked)))
 
 -- the core after a script's lines is the world after their events
 pub session-world : (lines : List (List ℕ)) → (session_after lines).core ≡ world_after lines
@@ -181,7 +181,7 @@ reply-place lines before after bytes is =
 -- the response to an event that was read
 read-event : (s : Session) (r : Result Question Refusal) (e : Event)
     → question_read r ≡ Some (question.Event e)
-    → (answered s r).0 ≡ Answers (slot_of e) (turn_outcome s.core e).0
+    → (answered s r).0 ≡ Answers (slot_named e) (turn_outcome s.core e).0
 read-event s (Err x) e is = absurd (let no : ⊥ = cc in no)
 read-event s (Ok q) e is =
     let same : q ≡ question.Event e = cc in
@@ -199,7 +199,7 @@ read-rebuilt s (Ok q) slot is =
 -- the reply to a line that asks for an event
 line-event : (s : Session) (l : Line) (e : Event)
     → question_of l ≡ Some (question.Event e)
-    → reply_to world_rules s l ≡ reply_text (Answers (slot_of e) (turn_outcome s.core e).0)
+    → reply_to world_rules s l ≡ reply_text (Answers (slot_named e) (turn_outcome s.core e).0)
 line-event s long e is = absurd (let no : ⊥ = cc in no)
 line-event s empty e is = absurd (let no : ⊥ = cc in no)
 line-event s (whole bytes) e is = ap reply_text (read-event s (question_in bytes) e is)
@@ -219,8 +219,9 @@ answer-turn before e =
     let w = world_after before in
     let t = turn_of (ports_of w) e in
     ap (λ u. (turn_outcome u e).0) (session-world before)
-    ∙ (ap (λ x. (outcome (after_all outcome w t.before) x).0) (turn-event (ports_of w) e)
-    ∙ ap (λ u. answer u e) (sym (after_all-append outcome script_world (events_of before) t.before)))
+    ∙ (ap (λ x. (outcome (after_events outcome w t.before) x).0) (turn-event (ports_of w) e)
+    ∙ ap (λ u. answer u e) (sym (after_events-append outcome script_world
+    (events_of before) t.before)))
 
 -- the events of a script with a line that asks for an event
 pub events-place : (lines before after : List (List ℕ)) (bytes : List ℕ) (e : Event)
@@ -251,12 +252,12 @@ replied lines before after bytes e is asks =
     let place = events-place lines before after bytes e is asks in
     let text = reply-place lines before after bytes is in
     let own : reply_to world_rules (session_after before) (line_of bytes)
-    ≡ reply_text (Answers (slot_of e) (answer_after before e)) =
+    ≡ reply_text (Answers (slot_named e) (answer_after before e)) =
     line-event (session_after before) (line_of bytes) e asks
-    ∙ ap (λ a. reply_text (Answers (slot_of e) a)) (answer-turn before e) in record {
+    ∙ ap (λ a. reply_text (Answers (slot_named e) a)) (answer-turn before e) in record {
       later = place.0;
       events = place.1;
-      laters = answers_to (next (after_all outcome script_world first) e) place.0;
+      laters = answers_to (next (after_events outcome script_world first) e) place.0;
       answers = ap (answers_to script_world) place.1
           ∙ answers_to-append script_world first (e ∷ place.0);
       place = answers_to-count script_world first;

@@ -19,35 +19,36 @@ use Rattle.lq_script_desk.specs.Folds.{Folds, fold_at, folds_after}
 use Rattle.lq_script_desk.specs.Session.{Session, session_with, volume_of}
 
 -- the answer to a look-up of a place: its refusal, or the node there
-abbrev pub found : Option Refusal → Option ℕ → Response
-found (Some e) _ = Refuses e
-found None None = Refuses NoEntry
-found None (Some node) = Found node
+abbrev pub found_answer : Option Refusal → Option ℕ → Response
+found_answer (Some e) _ = Refuses e
+found_answer None None = Refuses NoEntry
+found_answer None (Some node) = Found node
 
 -- the answer to a look-up of a node: its refusal, or the entry
-abbrev pub shown : Option Refusal → ℕ → Option Record → Response
-shown (Some e) node entry = Refuses e
-shown None node None = Refuses NoNode
-shown None node (Some entry) = Listed node entry
+abbrev pub shown_answer : Option Refusal → ℕ → Option Record → Response
+shown_answer (Some e) node entry = Refuses e
+shown_answer None node None = Refuses NoNode
+shown_answer None node (Some entry) = Listed node entry
 
 -- the answer to a look-up of a place in a volume
 abbrev pub found_in : State → ℕ → List ℕ → Response
-found_in s dir name = found (first_refusal (find_refusals s dir name)) (node_in s.records dir name)
+found_in s dir name = found_answer (first_refusal (find_refusals s dir name))
+    (node_in s.records dir name)
 
 -- the answer to a look-up of a node in a volume
-abbrev pub shown_in : State → ℕ → Response
-shown_in s node = shown (first_refusal (entry_refusals s node)) node (record_at s node)
+abbrev pub entry_answer : State → ℕ → Response
+entry_answer s node = shown_answer (first_refusal (entry_refusals s node)) node (record_at s node)
 
 -- the slot that an event names; 0 for a change and an opening, which name none
-abbrev pub slot_of : Event → ℕ
-slot_of (Change c) = 0
-slot_of (Open q port backlog moved) = 0
-slot_of (Put slot) = slot
-slot_of (Take slot) = slot
-slot_of (HangUp slot) = slot
-slot_of (Notice slot) = slot
-slot_of (Close slot) = slot
-slot_of (Finish slot) = slot
+abbrev pub slot_named : Event → ℕ
+slot_named (Change c) = 0
+slot_named (Open q port backlog moved) = 0
+slot_named (Put slot) = slot
+slot_named (Take slot) = slot
+slot_named (HangUp slot) = slot
+slot_named (Notice slot) = slot
+slot_named (Close slot) = slot
+slot_named (Finish slot) = slot
 
 -- the answer from a slot's fold
 abbrev pub rebuilt : Option Folding → Response
@@ -60,9 +61,9 @@ answered_event slot folds p = (Answers slot p.0, session_with p.1 (folds_after s
 
 -- the answer to a question, and the session after it: only an event changes it
 abbrev pub responds : Session → Question → Response × Session
-responds s (question.Event e) = answered_event (slot_of e) s.folds (turn_outcome s.core e)
+responds s (question.Event e) = answered_event (slot_named e) s.folds (turn_outcome s.core e)
 responds s (question.Find dir name) = (found_in (volume_of s) dir name, s)
-responds s (question.Entry node) = (shown_in (volume_of s) node, s)
+responds s (question.Entry node) = (entry_answer (volume_of s) node, s)
 responds s (question.Fetch q) = (Fetched (volume_of s).number (result_of q (volume_of s)), s)
 responds s (question.Rebuilt slot) = (rebuilt (fold_at s.folds slot), s)
 

@@ -44,6 +44,6 @@ folds_after slot Finished folds = with_fold folds slot None
 folds_after slot a folds = folds
 
 -- an opening's result rises by node, so a fold can start from it
-abbrev pub Rises : Answer → Type 0
-Rises (Opened slot at result) = EntriesRise result
-Rises a = Unit {0}
+abbrev pub ResultRises : Answer → Type 0
+ResultRises (Opened slot at result) = EntriesRise result
+ResultRises a = Unit {0}

@@ -11,16 +11,16 @@ use Rattle.lq_desk_world.specs.declared.event.Event.{Event}
 use Rattle.lq_desk_world.specs.declared.event.Event.TheVariants.{Open}
 use Rattle.lq_desk_world.specs.Events.{Answer, Opened, answer, next, outcome}
 use Rattle.lq_desk_world.specs.Runs.{Run}
-use Rattle.lq_desk_world.specs.Turns.{after_all, events_in, ports_of, turn_of, turn_outcome}
+use Rattle.lq_desk_world.specs.Turns.{after_events, events_in, ports_of, turn_of, turn_outcome}
 use Rattle.lq_desk_world.specs.Headline.{ReadersAreTold, frees, reads_of, updates_in}
-use Rattle.lq_script_lines.specs.Lines.{Begins, Line, long, empty, whole, line_of, lines_of, replies_to}
+use Rattle.lq_script_lines.specs.Lines.{HasPrefix, Line, long, empty, whole, line_of, lines_of, replies_to}
 use Rattle.lq_script_lines.specs.Progress.{state_after_all}
 use Rattle.lq_script_lines.specs.Outcome.{ReaderLog, WriterLog}
 use Rattle.lq_script_lines.specs.declared.run_fault.RunFault.{RunFault}
 use Rattle.lq_script_request.specs.declared.question.Question.{Question}
 use Rattle.lq_script_request.specs.declared.question.Question.TheVariants as question
 use Rattle.lq_script_request.specs.Request.{question_in}
-use Rattle.lq_script_desk.specs.Answered.{rebuilt, slot_of}
+use Rattle.lq_script_desk.specs.Answered.{rebuilt, slot_named}
 use Rattle.lq_script_desk.specs.Folds.{fold_at}
 use Rattle.lq_script_desk.specs.Reply.{reply_text}
 use Rattle.lq_script_desk.specs.Response.{Answers}
@@ -71,7 +71,7 @@ abbrev pub answers_of : List (List ℕ) → List Answer
 answers_of lines = answers_to script_world (events_of lines)
 
 abbrev pub world_after : List (List ℕ) → World
-world_after lines = after_all outcome script_world (events_of lines)
+world_after lines = after_events outcome script_world (events_of lines)
 
 -- what is written for a script's lines, and the session then
 abbrev pub replies_of : List (List ℕ) → List ℕ
@@ -89,7 +89,7 @@ events_before lines e = events_of lines ++ (turn_of (ports_of (world_after lines
 
 -- the answer to that event
 abbrev pub answer_after : List (List ℕ) → Event → Answer
-answer_after lines e = answer (after_all outcome script_world (events_before lines e)) e
+answer_after lines e = answer (after_events outcome script_world (events_before lines e)) e
 
 -- The reply to a line that asks for an event, and comes after some lines, is the text of the answer
 -- that has the event's place among the script's answers.
@@ -101,8 +101,8 @@ pub record IsReplied (lines before : List (List ℕ)) (e : Event) : Type 0 where
       ≡ answers_to script_world (events_before before e) ++ answer_after before e ∷ laters
   pub place :
       length (events_before before e) ≡ length (answers_to script_world (events_before before e))
-  pub reply : Begins (replies_of lines)
-      (replies_of before ++ reply_text (Answers (slot_of e) (answer_after before e)))
+  pub reply : HasPrefix (replies_of lines)
+      (replies_of before ++ reply_text (Answers (slot_named e) (answer_after before e)))
 
 -- ---- the result of a slot
 
@@ -138,7 +138,7 @@ pub record IsFoldOf (slot : ℕ) (events : List Event) (answers : List Answer) (
 -- The reply to a line that asks for a slot's result, and comes after some lines, is the text of the
 -- slot's fold then.
 pub record IsRebuilt (lines before : List (List ℕ)) (slot : ℕ) : Type 0 where
-  pub reply : Begins (replies_of lines)
+  pub reply : HasPrefix (replies_of lines)
       (replies_of before ++ reply_text (rebuilt (fold_at (session_after before).folds slot)))
   pub fold : (f : Folding) → fold_at (session_after before).folds slot ≡ Some f
       → IsFoldOf slot (events_of before) (answers_of before) f
@@ -175,5 +175,5 @@ pub record TellsReaders (result : Result (Unit {0}) RunFault) (r : ReaderLog) (w
   pub consumed : Consumes r.left r.left' given
   pub appended : Appends w.written w.written' text
   pub ok : OnOk result (text ≡ out_of given)
-  pub err : OnErr result (Begins (out_of given) text)
+  pub err : OnErr result (HasPrefix (out_of given) text)
   pub lines : (lines rest : List (List ℕ)) → lines_of given ≡ lines ++ rest → IsScript lines

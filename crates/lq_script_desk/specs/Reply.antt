@@ -11,7 +11,7 @@ use Rattle.lq_value.specs.declared.kind.Kind.{Kind}
 use Rattle.lq_value.specs.declared.kind.Kind.TheVariants.{File, Folder}
 use Rattle.lq_value.specs.declared.value.Value.{Value}
 use Rattle.lq_value.specs.declared.value.Value.TheVariants.{Text, Int32, Int64, UInt32, UInt64}
-use Rattle.lq_value.specs.Refusal.{code_of, name_of}
+use Rattle.lq_value.specs.Refusal.{code_of, refusal_name}
 use Rattle.lq_volume.specs.declared.change.Applied.{Applied}
 use Rattle.lq_volume.specs.State.{Record}
 use Rattle.lq_update.specs.declared.message.Message.{Message}
@@ -132,7 +132,7 @@ fault_data code name (Some place) =
     (member (codes "place") (count place) no_members)))
 
 abbrev pub refusal_data : Refusal → Data
-refusal_data e = fault_data (code_of e) (name_of e) (place_of e)
+refusal_data e = fault_data (code_of e) (refusal_name e) (place_of e)
 
 -- the reply to the event of a slot; no line asks for a put or a notice
 abbrev pub answer_data : ℕ → Answer → Data

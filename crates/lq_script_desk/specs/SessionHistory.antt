@@ -18,7 +18,7 @@ IsHistory w events answers = Run script_world events answers w
 
 -- The history after a turn: the old one, then the turn's events and the answers to them, in which
 -- the event's own answer has the event's place.
-pub record GoesOn (old new : World) (e : Event) (a : Answer) (events : List Event)
+pub record HistoryGoesOn (old new : World) (e : Event) (a : Answer) (events : List Event)
     (answers : List Answer) : Type 0 where
   pub befores : List Answer
   pub afters : List Answer
@@ -29,7 +29,7 @@ pub record GoesOn (old new : World) (e : Event) (a : Answer) (events : List Even
 -- whatever history led to the world, the turn goes on from it
 abbrev pub KeepsHistory : World → World → Event → Answer → Type 0
 KeepsHistory old new e a = (events : List Event) (answers : List Answer)
-    → IsHistory old events answers → GoesOn old new e a events answers
+    → IsHistory old events answers → HistoryGoesOn old new e a events answers
 
 -- What a line that asks this does to the history. Its event, if it asks for one, has its turn, and
 -- the reply tells the answer of that turn. A line that was refused for want of memory may leave the

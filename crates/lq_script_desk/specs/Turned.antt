@@ -8,7 +8,7 @@ use Rattle.lq_desk.specs.Turn.{TurnRuns}
 use Rattle.lq_script_desk.specs.SessionHistory.{KeepsHistory}
 use Rattle.lq_script_desk.specs.Folds.{Folds, folds_after, with_fold}
 use Rattle.lq_script_desk.specs.Session.{Session}
-use Rattle.lq_script_desk.specs.Answered.{slot_of}
+use Rattle.lq_script_desk.specs.Answered.{slot_named}
 
 -- the slot whose fold an answer updates: the one that it opened, else the event's own
 abbrev pub folded_slot : ℕ → Answer → ℕ
@@ -26,5 +26,5 @@ Follow slot a old new =
 pub record Turned (old new : Session) (e : Event) (a : Answer) : Type 0 where
   pub run : TurnRuns old.core e a new.core
   pub outcome : (a ≡ Refused NoMemory) ⊎ ((a, new.core) ≡ turn_outcome old.core e)
-  pub folds : Follow (slot_of e) a old.folds new.folds
+  pub folds : Follow (slot_named e) a old.folds new.folds
   pub history : KeepsHistory old.core new.core e a

@@ -4,7 +4,7 @@
 ghost use Rattle.std.specs.Prelude.{◌≡◌, ◌++◌, codes, OnOk, map, true, false};
 ghost use Rattle.serde_json.specs.View.{items_of};
 ghost use Rattle.serde_json.specs.Written.{compact_text, items_text, members_text, comma_if};
-ghost use Rattle.lq_script_desk.specs.Front.{Extends};
+ghost use Rattle.lq_script_desk.specs.Front.{AppendsTo};
 ghost use Rattle.lq_volume.specs.Lookup.{listed};
 ghost use Rattle.lq_script_desk.specs.Parts.{sized_members};
 ghost use Rattle.lq_script_desk.specs.Reply.{attr_data, kind_name, listing_data, type_name, value_data, word};
@@ -22,7 +22,7 @@ use std::alloc::AllocError;
 pub fn put_listing(out: &mut Vec<u8>, node: u64, listing: &Listing) -> Result<(), AllocError>
     ensures ok { OnOk result (out.new.items
         ≡ out.old.items ++ compact_text (listing_data node (listed listing.now))) }
-    ensures front { Extends out.new.items out.old.items }
+    ensures front { AppendsTo out.new.items out.old.items }
 {
     put_attrs(out, b"{\"attrs\":[", &listing.attrs)?;
     put_unsigned(out, b",\"dir\":", listing.dir)?;
@@ -34,7 +34,7 @@ pub fn put_listing(out: &mut Vec<u8>, node: u64, listing: &Listing) -> Result<()
 fn put_sized(out: &mut Vec<u8>, node: u64, listing: &Listing) -> Result<(), AllocError>
     ensures ok { OnOk result (out.new.items
         ≡ out.old.items ++ members_text true (sized_members node (listed listing.now))) }
-    ensures front { Extends out.new.items out.old.items }
+    ensures front { AppendsTo out.new.items out.old.items }
 {
     put_unsigned(out, b",\"node\":", node)?;
     put_unsigned(out, b",\"size\":", listing.size)?;
@@ -59,7 +59,7 @@ fn put_attrs(
 ) -> Result<(), AllocError>
     ensures ok { OnOk result (out.new.items
         ≡ out.old.items ++ (before.now ++ items_text false (items_of (map attr_data attrs.now)))) }
-    ensures front { Extends out.new.items out.old.items }
+    ensures front { AppendsTo out.new.items out.old.items }
 {
     put_bytes(out, before)?;
     let mut later = false;
@@ -79,7 +79,7 @@ fn put_attr(
 ) -> Result<(), AllocError>
     ensures ok { OnOk result (out.new.items
         ≡ out.old.items ++ (comma_if later ++ compact_text (attr_data (name.now, value.now)))) }
-    ensures front { Extends out.new.items out.old.items }
+    ensures front { AppendsTo out.new.items out.old.items }
 {
     put_text(
         out,
@@ -95,7 +95,7 @@ fn put_typed(out: &mut Vec<u8>, value: &Value) -> Result<(), AllocError>
     ensures ok { OnOk result (out.new.items
         ≡ out.old.items ++ (codes ",\"type\":" ++ (compact_text (word (type_name value.now))
         ++ (codes ",\"value\":" ++ compact_text (value_data value.now))))) }
-    ensures front { Extends out.new.items out.old.items }
+    ensures front { AppendsTo out.new.items out.old.items }
 {
     match value {
         Value::Text(text) => put_text(out, b",\"type\":\"CSTR\",\"value\":", text.as_str()),

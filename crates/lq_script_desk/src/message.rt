@@ -3,7 +3,7 @@
 
 ghost use Rattle.std.specs.Prelude.{◌≡◌, ℕ, ◌++◌, codes, OnOk, true};
 ghost use Rattle.serde_json.specs.Written.{compact_text, members_text};
-ghost use Rattle.lq_script_desk.specs.Front.{Extends};
+ghost use Rattle.lq_script_desk.specs.Front.{AppendsTo};
 ghost use Rattle.lq_desk.specs.Reply.{answer_of_read};
 ghost use Rattle.lq_script_desk.specs.Parts.{numbered_members, told_members};
 ghost use Rattle.lq_script_desk.specs.Reply.{answer_data, cause_name, mark_data, message_data, moved_data, opcode_name, placed_data, word};
@@ -22,7 +22,7 @@ use std::alloc::AllocError;
 pub fn put_read(out: &mut Vec<u8>, read: &Read) -> Result<(), AllocError>
     ensures ok { OnOk result ((slot : ℕ) → out.new.items
         ≡ out.old.items ++ compact_text (answer_data slot (answer_of_read read.now))) }
-    ensures front { Extends out.new.items out.old.items }
+    ensures front { AppendsTo out.new.items out.old.items }
 {
     match read {
         Read::Update(message) => put_message(out, message),
@@ -34,7 +34,7 @@ pub fn put_read(out: &mut Vec<u8>, read: &Read) -> Result<(), AllocError>
 
 fn put_mark(out: &mut Vec<u8>, mark: &Mark) -> Result<(), AllocError>
     ensures ok { OnOk result (out.new.items ≡ out.old.items ++ compact_text (mark_data mark.now)) }
-    ensures front { Extends out.new.items out.old.items }
+    ensures front { AppendsTo out.new.items out.old.items }
 {
     put_text(out, b"{\"cause\":", cause_name(mark.cause))?;
     put_unsigned(out, b",\"change\":", mark.change)?;
@@ -55,7 +55,7 @@ fn cause_name(cause: Cause) -> &'static str
 fn put_message(out: &mut Vec<u8>, message: &Message) -> Result<(), AllocError>
     ensures ok { OnOk result (out.new.items
         ≡ out.old.items ++ compact_text (message_data message.now)) }
-    ensures front { Extends out.new.items out.old.items }
+    ensures front { AppendsTo out.new.items out.old.items }
 {
     match &message.op {
         Opcode::Moved {
@@ -70,7 +70,7 @@ fn put_message(out: &mut Vec<u8>, message: &Message) -> Result<(), AllocError>
 fn put_placed(out: &mut Vec<u8>, message: &Message) -> Result<(), AllocError>
     ensures ok { OnOk result
         (out.new.items ≡ out.old.items ++ compact_text (placed_data message.now)) }
-    ensures front { Extends out.new.items out.old.items }
+    ensures front { AppendsTo out.new.items out.old.items }
 {
     put_unsigned(out, b"{\"change\":", message.change)?;
     put_unsigned(out, b",\"dir\":", message.dir)?;
@@ -86,7 +86,7 @@ fn put_moved(
 ) -> Result<(), AllocError>
     ensures ok { OnOk result (out.new.items
         ≡ out.old.items ++ compact_text (moved_data message.now from_dir from_name.now)) }
-    ensures front { Extends out.new.items out.old.items }
+    ensures front { AppendsTo out.new.items out.old.items }
 {
     put_unsigned(out, b"{\"change\":", message.change)?;
     put_unsigned(out, b",\"dir\":", message.dir)?;
@@ -98,7 +98,7 @@ fn put_moved(
 fn put_told(out: &mut Vec<u8>, message: &Message) -> Result<(), AllocError>
     ensures ok { OnOk result (out.new.items
         ≡ out.old.items ++ members_text true (told_members message.now)) }
-    ensures front { Extends out.new.items out.old.items }
+    ensures front { AppendsTo out.new.items out.old.items }
 {
     put_truth(out, b",\"last\":", message.last)?;
     put_text(out, b",\"name\":", message.name.as_str())?;
@@ -109,7 +109,7 @@ fn put_told(out: &mut Vec<u8>, message: &Message) -> Result<(), AllocError>
 fn put_numbered(out: &mut Vec<u8>, op: &Opcode, seq: u64) -> Result<(), AllocError>
     ensures ok { OnOk result (out.new.items
         ≡ out.old.items ++ members_text true (numbered_members op.now seq)) }
-    ensures front { Extends out.new.items out.old.items }
+    ensures front { AppendsTo out.new.items out.old.items }
 {
     put_unsigned(out, before_seq(op), seq)?;
     put_bytes(out, b",\"what\":\"B_QUERY_UPDATE\"}")

@@ -3,7 +3,7 @@ ghost use Rattle.std.specs.Prelude.{◌≡◌, ◌++◌, OnErr, OnOk};
 ghost use Rattle.serde_json.specs.Data.{number, unsigned, boolean};
 ghost use Rattle.serde_json.specs.Find.{of_integer};
 ghost use Rattle.serde_json.specs.Written.{compact_text};
-ghost use Rattle.lq_script_desk.specs.Front.{Extends};
+ghost use Rattle.lq_script_desk.specs.Front.{AppendsTo};
 
 use std::alloc::AllocError;
 
@@ -14,7 +14,7 @@ use std::alloc::AllocError;
 pub fn put_bytes(out: &mut Vec<u8>, bytes: &[u8]) -> Result<(), AllocError>
     ensures ok { OnOk result (out.new.items ≡ out.old.items ++ bytes.now) }
     ensures err { OnErr result (out.new.items ≡ out.old.items) }
-    ensures front { Extends out.new.items out.old.items }
+    ensures front { AppendsTo out.new.items out.old.items }
 {
     out.extend_from_slice(bytes)?;
     Ok(())
@@ -27,7 +27,7 @@ pub fn put_bytes(out: &mut Vec<u8>, bytes: &[u8]) -> Result<(), AllocError>
 pub fn put_unsigned(out: &mut Vec<u8>, before: &[u8], count: u64) -> Result<(), AllocError>
     ensures ok { OnOk result (out.new.items
         ≡ out.old.items ++ (before.now ++ compact_text (number (unsigned count)))) }
-    ensures front { Extends out.new.items out.old.items }
+    ensures front { AppendsTo out.new.items out.old.items }
 {
     let mut digits = itoa::Buffer::new();
     put_bytes(out, before)?;
@@ -42,7 +42,7 @@ pub fn put_unsigned(out: &mut Vec<u8>, before: &[u8], count: u64) -> Result<(), 
 pub fn put_signed(out: &mut Vec<u8>, before: &[u8], integer: i64) -> Result<(), AllocError>
     ensures ok { OnOk result (out.new.items
         ≡ out.old.items ++ (before.now ++ compact_text (number (of_integer integer)))) }
-    ensures front { Extends out.new.items out.old.items }
+    ensures front { AppendsTo out.new.items out.old.items }
 {
     let mut digits = itoa::Buffer::new();
     put_bytes(out, before)?;
@@ -56,7 +56,7 @@ pub fn put_signed(out: &mut Vec<u8>, before: &[u8], integer: i64) -> Result<(), 
 pub fn put_truth(out: &mut Vec<u8>, before: &[u8], truth: bool) -> Result<(), AllocError>
     ensures ok { OnOk result (out.new.items
         ≡ out.old.items ++ (before.now ++ compact_text (boolean truth))) }
-    ensures front { Extends out.new.items out.old.items }
+    ensures front { AppendsTo out.new.items out.old.items }
 {
     put_bytes(out, before)?;
     put_bytes(out, if truth { b"true" } else { b"false" })

@@ -4,7 +4,7 @@ ghost use Rattle.std.specs.Option.{option_map};
 ghost use Rattle.lq_value.specs.declared.refusal.Refusal.TheVariants.{NoMemory};
 ghost use Rattle.lq_value.specs.Refusal.{FailsOnlyForMemory};
 ghost use Rattle.lq_desk.specs.Reply.{answer_of};
-ghost use Rattle.lq_script_desk.specs.Folds.{Rises, after_message, fold_at, folds_after, no_folds, with_fold};
+ghost use Rattle.lq_script_desk.specs.Folds.{ResultRises, after_message, fold_at, folds_after, no_folds, with_fold};
 ghost use Rattle.lq_script_desk.specs.Turned.{Follow};
 
 use lq_desk::{Read, Reply, SLOTS};
@@ -34,7 +34,7 @@ pub fn fold_reply(
     slot: u64,
     reply: &Reply,
 ) -> Result<(), Refusal>
-    requires rises { Rises (answer_of reply.now) }
+    requires rises { ResultRises (answer_of reply.now) }
     ensures ok { OnOk result (rebuilds.new.items
         ≡ folds_after slot (answer_of reply.now) rebuilds.old.items) }
     ensures memory { IfErr result (λ e. e ≡ NoMemory) }
@@ -67,7 +67,7 @@ pub fn fold_reply(
 /// Updates the results by the reply to an event of a slot, as `fold_reply` does. Where memory runs
 /// out, the slot whose result is to be updated has none afterwards.
 pub fn follow(alloc: Global, rebuilds: &mut Vec<Option<IndexedRebuild>>, slot: u64, reply: &Reply)
-    requires rises { Rises (answer_of reply.now) }
+    requires rises { ResultRises (answer_of reply.now) }
     ensures { Follow slot (answer_of reply.now) rebuilds.old.items rebuilds.new.items }
 {
     match reply {

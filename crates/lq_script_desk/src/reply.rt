@@ -5,11 +5,11 @@ ghost use Rattle.std.specs.Prelude.{◌≡◌, ◌++◌, codes, OnOk, OnErr, map
 ghost use Rattle.serde_json.specs.View.{items_of};
 ghost use Rattle.serde_json.specs.Written.{compact_text, items_text, comma_if};
 ghost use Rattle.lq_value.specs.Refusal.{FailsOnlyForMemory};
-ghost use Rattle.lq_script_desk.specs.Front.{Extends};
+ghost use Rattle.lq_script_desk.specs.Front.{AppendsTo};
 ghost use Rattle.lq_desk.specs.Reply.{answer_of};
 ghost use Rattle.lq_script_desk.specs.Answer.{response_of};
 ghost use Rattle.lq_script_desk.specs.Response.{Answers};
-ghost use Rattle.lq_script_lines.specs.Lines.{Begins};
+ghost use Rattle.lq_script_lines.specs.Lines.{HasPrefix};
 ghost use Rattle.lq_script_desk.specs.Reply.{applied_data, entry_data, fetched_data, found_data, opened_data, place_of, rebuilt_data, refusal_data, reply_text, shut_data, slot_data};
 
 use crate::listing::put_listing;
@@ -27,7 +27,7 @@ pub fn put_reply(out: &mut Vec<u8>, response: &Response) -> Result<(), Refusal>
     ensures refused { FailsOnlyForMemory result }
     ensures ok { OnOk result (out.new.items
         ≡ out.old.items ++ reply_text (response_of response.now)) }
-    ensures err { OnErr result (Begins out.new.items out.old.items) }
+    ensures err { OnErr result (HasPrefix out.new.items out.old.items) }
 {
     match response {
         Response::Reply { slot, reply } => return put_event_reply(out, *slot, reply),
@@ -57,7 +57,7 @@ pub fn put_event_reply(out: &mut Vec<u8>, slot: u64, reply: &Reply) -> Result<()
     ensures refused { FailsOnlyForMemory result }
     ensures ok { OnOk result (out.new.items
         ≡ out.old.items ++ reply_text (Answers slot (answer_of reply.now))) }
-    ensures err { OnErr result (Begins out.new.items out.old.items) }
+    ensures err { OnErr result (HasPrefix out.new.items out.old.items) }
 {
     match reply {
         Reply::Changed(applied) => put_applied(out, applied)?,
@@ -79,7 +79,7 @@ pub fn put_event_reply(out: &mut Vec<u8>, slot: u64, reply: &Reply) -> Result<()
 
 fn put_found(out: &mut Vec<u8>, node: u64) -> Result<(), AllocError>
     ensures ok { OnOk result (out.new.items ≡ out.old.items ++ compact_text (found_data node)) }
-    ensures front { Extends out.new.items out.old.items }
+    ensures front { AppendsTo out.new.items out.old.items }
 {
     put_unsigned(out, b"{\"node\":", node)?;
     put_bytes(out, b"}")
@@ -88,7 +88,7 @@ fn put_found(out: &mut Vec<u8>, node: u64) -> Result<(), AllocError>
 fn put_fetched(out: &mut Vec<u8>, at: u64, entries: &[Entry]) -> Result<(), AllocError>
     ensures ok { OnOk result (out.new.items
         ≡ out.old.items ++ compact_text (fetched_data at entries.now)) }
-    ensures front { Extends out.new.items out.old.items }
+    ensures front { AppendsTo out.new.items out.old.items }
 {
     put_unsigned(out, b"{\"at\":", at)?;
     put_entries(out, b",\"result\":[", entries)?;
@@ -103,7 +103,7 @@ fn put_rebuilt(
 ) -> Result<(), AllocError>
     ensures ok { OnOk result (out.new.items
         ≡ out.old.items ++ compact_text (rebuilt_data change entries.now settled)) }
-    ensures front { Extends out.new.items out.old.items }
+    ensures front { AppendsTo out.new.items out.old.items }
 {
     put_unsigned(out, b"{\"change\":", change)?;
     put_entries(out, b",\"result\":[", entries)?;
@@ -114,7 +114,7 @@ fn put_rebuilt(
 fn put_applied(out: &mut Vec<u8>, applied: &Applied) -> Result<(), AllocError>
     ensures ok { OnOk result (out.new.items
         ≡ out.old.items ++ compact_text (applied_data applied.now)) }
-    ensures front { Extends out.new.items out.old.items }
+    ensures front { AppendsTo out.new.items out.old.items }
 {
     put_unsigned(out, b"{\"change\":", applied.change)?;
     put_unsigned(out, b",\"node\":", applied.node)?;
@@ -124,7 +124,7 @@ fn put_applied(out: &mut Vec<u8>, applied: &Applied) -> Result<(), AllocError>
 fn put_opened(out: &mut Vec<u8>, slot: u64, at: u64, entries: &[Entry]) -> Result<(), AllocError>
     ensures ok { OnOk result (out.new.items
         ≡ out.old.items ++ compact_text (opened_data slot at entries.now)) }
-    ensures front { Extends out.new.items out.old.items }
+    ensures front { AppendsTo out.new.items out.old.items }
 {
     put_unsigned(out, b"{\"at\":", at)?;
     put_entries(out, b",\"result\":[", entries)?;
@@ -135,7 +135,7 @@ fn put_opened(out: &mut Vec<u8>, slot: u64, at: u64, entries: &[Entry]) -> Resul
 fn put_shut(out: &mut Vec<u8>, change: u64, slot: u64) -> Result<(), AllocError>
     ensures ok { OnOk result
         (out.new.items ≡ out.old.items ++ compact_text (shut_data change slot)) }
-    ensures front { Extends out.new.items out.old.items }
+    ensures front { AppendsTo out.new.items out.old.items }
 {
     put_unsigned(out, b"{\"change\":", change)?;
     put_unsigned(out, b",\"slot\":", slot)?;
@@ -144,7 +144,7 @@ fn put_shut(out: &mut Vec<u8>, change: u64, slot: u64) -> Result<(), AllocError>
 
 fn put_slot(out: &mut Vec<u8>, slot: u64) -> Result<(), AllocError>
     ensures ok { OnOk result (out.new.items ≡ out.old.items ++ compact_text (slot_data slot)) }
-    ensures front { Extends out.new.items out.old.items }
+    ensures front { AppendsTo out.new.items out.old.items }
 {
     put_unsigned(out, b"{\"slot\":", slot)?;
     put_bytes(out, b"}")
@@ -153,7 +153,7 @@ fn put_slot(out: &mut Vec<u8>, slot: u64) -> Result<(), AllocError>
 fn put_refusal(out: &mut Vec<u8>, refusal: Refusal) -> Result<(), AllocError>
     ensures ok { OnOk result
         (out.new.items ≡ out.old.items ++ compact_text (refusal_data refusal)) }
-    ensures front { Extends out.new.items out.old.items }
+    ensures front { AppendsTo out.new.items out.old.items }
 {
     put_unsigned(out, b"{\"code\":", refusal.code())?;
     put_text(out, b",\"error\":", refusal.name())?;
@@ -179,7 +179,7 @@ fn place_of(refusal: Refusal) -> Option<u64>
 fn put_entries(out: &mut Vec<u8>, before: &[u8], entries: &[Entry]) -> Result<(), AllocError>
     ensures ok { OnOk result (out.new.items ≡ out.old.items
         ++ (before.now ++ items_text false (items_of (map entry_data entries.now)))) }
-    ensures front { Extends out.new.items out.old.items }
+    ensures front { AppendsTo out.new.items out.old.items }
 {
     put_bytes(out, before)?;
     let mut later = false;
@@ -194,7 +194,7 @@ fn put_entries(out: &mut Vec<u8>, before: &[u8], entries: &[Entry]) -> Result<()
 fn put_entry(out: &mut Vec<u8>, later: bool, entry: &Entry) -> Result<(), AllocError>
     ensures ok { OnOk result (out.new.items
         ≡ out.old.items ++ (comma_if later ++ compact_text (entry_data entry.now))) }
-    ensures front { Extends out.new.items out.old.items }
+    ensures front { AppendsTo out.new.items out.old.items }
 {
     put_unsigned(out, before_dir(later), entry.dir)?;
     put_text(out, b",\"name\":", entry.name.as_str())?;

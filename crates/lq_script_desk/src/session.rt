@@ -4,10 +4,10 @@ ghost use Rattle.lq_value.specs.Refusal.{FailsOnlyForMemory};
 ghost use Rattle.lq_value.specs.declared.refusal.Refusal.TheVariants.{NoMemory};
 ghost use Rattle.lq_desk_world.specs.Turns.{turn_outcome};
 ghost use Rattle.lq_volume.specs.Result.{result_of};
-ghost use Rattle.lq_script_lines.specs.Lines.{Begins};
+ghost use Rattle.lq_script_lines.specs.Lines.{HasPrefix};
 ghost use Rattle.lq_script_desk.specs.Response.{Fetched, Refuses};
 ghost use Rattle.lq_script_desk.specs.Reply.{reply_text};
-ghost use Rattle.lq_script_desk.specs.Answered.{found_in, answered_event, rebuilt, shown_in, slot_of};
+ghost use Rattle.lq_script_desk.specs.Answered.{found_in, answered_event, rebuilt, entry_answer, slot_named};
 ghost use Rattle.lq_script_desk.specs.Folds.{fold_at};
 ghost use Rattle.lq_script_desk.specs.Session.{session_with};
 ghost use Rattle.lq_script_desk.specs.SessionHistory.{KeepsHistory};
@@ -63,14 +63,14 @@ impl Session {
     }
 
     // Carries out an event, updates its slot's result by the reply, and appends the reply to `out`.
-    fn carry_out(&mut self, event: &Event, out: &mut Vec<u8>) -> Result<(), Refusal>
+    fn write_answer(&mut self, event: &Event, out: &mut Vec<u8>) -> Result<(), Refusal>
         ensures ok { OnOk result (out.new.items ≡ out.old.items
-            ++ reply_text (answered_event (slot_of event.now) self.old.rebuilds.items
+            ++ reply_text (answered_event (slot_named event.now) self.old.rebuilds.items
             (turn_outcome self.old.desk event.now)).0) }
         ensures after { OnOk result (session_with self.new.desk self.new.rebuilds.items ≡
-            (answered_event (slot_of event.now) self.old.rebuilds.items
+            (answered_event (slot_named event.now) self.old.rebuilds.items
             (turn_outcome self.old.desk event.now)).1) }
-        ensures err { OnErr result (Begins out.new.items out.old.items) }
+        ensures err { OnErr result (HasPrefix out.new.items out.old.items) }
         ensures memory { IfErr result (λ e. e ≡ NoMemory) }
         ensures history { (a : Answer) × KeepsHistory self.old.desk self.new.desk event.now a
             × OnOk result (a ≡ (turn_outcome self.old.desk event.now).0) }
@@ -90,7 +90,7 @@ impl Session {
 
 // The slot that an event names, or 0.
 fn slot_of(event: &Event) -> u64
-    ensures { result ≡ slot_of event.now }
+    ensures { result ≡ slot_named event.now }
 {
     match event {
         Event::Change(_) | Event::Open { .. } => 0,
@@ -110,7 +110,7 @@ fn put_refusal(out: &mut Vec<u8>, refusal: Refusal) -> Result<(), Refusal>
     ensures refused { FailsOnlyForMemory result }
     ensures ok { OnOk result
         (out.new.items ≡ out.old.items ++ reply_text (Refuses refusal)) }
-    ensures err { OnErr result (Begins out.new.items out.old.items) }
+    ensures err { OnErr result (HasPrefix out.new.items out.old.items) }
 {
     put_reply(out, &Response::Refused(refusal))
 }
@@ -121,7 +121,7 @@ fn put_found(out: &mut Vec<u8>, volume: &Volume, dir: u64, name: &Name) -> Resul
     ensures refused { FailsOnlyForMemory result }
     ensures ok { OnOk result (out.new.items
         ≡ out.old.items ++ reply_text (found_in volume.now dir name.now)) }
-    ensures err { OnErr result (Begins out.new.items out.old.items) }
+    ensures err { OnErr result (HasPrefix out.new.items out.old.items) }
 {
     match volume.find(dir, name) {
         Ok(node) => put_reply(out, &Response::Found { node }),
@@ -134,8 +134,8 @@ fn put_found(out: &mut Vec<u8>, volume: &Volume, dir: u64, name: &Name) -> Resul
 fn put_shown(out: &mut Vec<u8>, volume: &Volume, node: u64) -> Result<(), Refusal>
     ensures refused { FailsOnlyForMemory result }
     ensures ok { OnOk result (out.new.items
-        ≡ out.old.items ++ reply_text (shown_in volume.now node)) }
-    ensures err { OnErr result (Begins out.new.items out.old.items) }
+        ≡ out.old.items ++ reply_text (entry_answer volume.now node)) }
+    ensures err { OnErr result (HasPrefix out.new.items out.old.items) }
 {
     match volume.listing(node) {
         Ok(listing) => put_reply(out, &Response::Listed { node, listing }),
@@ -150,7 +150,7 @@ fn put_fetched(out: &mut Vec<u8>, volume: &Volume, predicate: &Predicate) -> Res
     ensures refused { FailsOnlyForMemory result }
     ensures ok { OnOk result (out.new.items ≡ out.old.items
         ++ reply_text (Fetched volume.now.number (result_of predicate.now volume.now))) }
-    ensures err { OnErr result (Begins out.new.items out.old.items) }
+    ensures err { OnErr result (HasPrefix out.new.items out.old.items) }
 {
     let at = volume.changes();
     let result = volume.fetch(predicate)?;
@@ -167,7 +167,7 @@ fn put_rebuilt(
     ensures refused { FailsOnlyForMemory result }
     ensures ok { OnOk result (out.new.items
         ≡ out.old.items ++ reply_text (rebuilt (fold_at rebuilds.now slot))) }
-    ensures err { OnErr result (Begins out.new.items out.old.items) }
+    ensures err { OnErr result (HasPrefix out.new.items out.old.items) }
 {
     let Some(rebuild) = rebuild_at(rebuilds, slot) else {
         return put_refusal(out, Refusal::NotOpen);
@@ -199,14 +199,14 @@ impl Responder for Session {
             (session_with self.old.desk self.old.rebuilds.items) line.now) }
         ensures after { OnOk result (session_with self.new.desk self.new.rebuilds.items
             ≡ world_rules.after (session_with self.old.desk self.old.rebuilds.items) line.now) }
-        ensures err { OnErr result (Begins out.new.items out.old.items) }
+        ensures err { OnErr result (HasPrefix out.new.items out.old.items) }
         ensures memory { IfErr result (λ e. e ≡ NoMemory) }
         ensures history { LineKeepsHistory self.old.desk self.new.desk result
             (question_read (question_in line.now)) }
     {
         match question_in(self.alloc, &mut self.scratch, line) {
             Ok(question) => match &question {
-                Question::Event(event) => self.carry_out(event, out),
+                Question::Event(event) => self.write_answer(event, out),
                 Question::Find { dir, name } => put_found(out, self.desk.volume(), *dir, name),
                 Question::Entry { node } => put_shown(out, self.desk.volume(), *node),
                 Question::Fetch { predicate } => put_fetched(out, self.desk.volume(), predicate),

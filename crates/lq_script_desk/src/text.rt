@@ -5,7 +5,7 @@ ghost use Rattle.std.specs.Char.{digit_char};
 ghost use Rattle.json.specs.Print.{escape_byte, escape_letter};
 ghost use Rattle.serde_json.specs.Data.{string};
 ghost use Rattle.serde_json.specs.Written.{compact_text};
-ghost use Rattle.lq_script_desk.specs.Front.{Extends};
+ghost use Rattle.lq_script_desk.specs.Front.{AppendsTo};
 ghost use Rattle.lq_script_desk.specs.Plain.{is_plain};
 
 use std::alloc::AllocError;
@@ -18,7 +18,7 @@ use std::alloc::AllocError;
 pub fn put_text(out: &mut Vec<u8>, before: &[u8], text: &str) -> Result<(), AllocError>
     ensures ok { OnOk result (out.new.items
         ≡ out.old.items ++ (before.now ++ compact_text (string text.now))) }
-    ensures front { Extends out.new.items out.old.items }
+    ensures front { AppendsTo out.new.items out.old.items }
 {
     out.extend_from_slice(before)?;
     out.push(b'"')?;
@@ -60,7 +60,7 @@ fn is_plain(byte: u8) -> bool
 fn put_escape(out: &mut Vec<u8>, byte: u8) -> Result<(), AllocError>
     requires { is_plain byte ≡ false }
     ensures ok { OnOk result (out.new.items ≡ out.old.items ++ escape_byte byte) }
-    ensures front { Extends out.new.items out.old.items }
+    ensures front { AppendsTo out.new.items out.old.items }
 {
     let letter = escape_letter(byte);
     if letter == 0 {

@@ -5,15 +5,15 @@ use Rattle.std.proofs.KnownBytes.{Appends-trans}
 use Rattle.std.specs.Io.KnownBytes.{Appends, Keeps}
 use Rattle.lq_script_lines.specs.declared.intake.Intake.{Intake}
 use Rattle.lq_script_lines.specs.Lines.{IsUnbroken, Rules, ended_lines, line_of, lines_of, replies_to, reply_to, state_after}
-use Rattle.lq_script_lines.specs.Output.{IsWithin, output_of}
-use Rattle.lq_script_lines.specs.Progress.{Began, Fronts, Halts, IsCut, IsKept, Meets, Stands, state_after_all}
+use Rattle.lq_script_lines.specs.Output.{IsWithinInput, output_of}
+use Rattle.lq_script_lines.specs.Progress.{Began, Fronts, Halts, IsCut, IsKeptLine, Meets, RunStands, state_after_all}
 use Rattle.lq_script_lines.proofs.LineLemmas.{cut_ended, cut_line, cut_lines, cut_run, lines_one, output_cut, replies_append, replies_one, state_one}
 
 -- replies that wait are written
 pub stands_handed : {State : Type 0} (rules : Rules State) (began : Began State) (given : List ℕ)
     (w w' : Option (List ℕ)) (state : State) (intake : Intake) (out : List ℕ)
-    → Stands rules began given w state intake out → Appends w w' out
-    → Stands rules began given w' state intake []
+    → RunStands rules began given w state intake out → Appends w w' out
+    → RunStands rules began given w' state intake []
 stands_handed rules began given w w' state intake out s a = record {
   lines = s.lines;
   bytes = s.bytes;
@@ -33,12 +33,12 @@ stands_handed rules began given w w' state intake out s a = record {
 -- bytes among which is no LF are kept
 pub stands_run : {State : Type 0} (rules : Rules State) (began : Began State) (given : List ℕ)
     (w : Option (List ℕ)) (state : State) (intake intake' : Intake) (out more : List ℕ)
-    → Stands rules began given w state intake out → IsUnbroken more
-    → ((bytes : List ℕ) → IsKept bytes intake.long intake.line.items
-    → IsKept (bytes ++ more) intake'.long intake'.line.items)
+    → RunStands rules began given w state intake out → IsUnbroken more
+    → ((bytes : List ℕ) → IsKeptLine bytes intake.long intake.line.items
+    → IsKeptLine (bytes ++ more) intake'.long intake'.line.items)
     → intake'.lines ≡ intake.lines → intake'.bytes ≡ intake.bytes + length more
     → intake.lines < 10000000 → intake.bytes + length more ≤ 1073741824
-    → Stands rules began (given ++ more) w state intake' out
+    → RunStands rules began (given ++ more) w state intake' out
 stands_run rules began given w state intake intake' out more s u keeps lines bytes below_lines
     below_bytes = record {
       lines = s.lines;
@@ -60,15 +60,15 @@ stands_run rules began given w state intake intake' out more s u keeps lines byt
 pub stands_line : {State : Type 0} (rules : Rules State) (began : Began State) (given : List ℕ)
     (w : Option (List ℕ)) (state state' : State) (intake intake' : Intake)
     (out out' run : List ℕ) (b : ℕ)
-    → Stands rules began given w state intake out → IsUnbroken run → (b == 10) ≡ true
-    → ((bytes : List ℕ) → IsKept bytes intake.long intake.line.items
+    → RunStands rules began given w state intake out → IsUnbroken run → (b == 10) ≡ true
+    → ((bytes : List ℕ) → IsKeptLine bytes intake.long intake.line.items
     → out' ≡ out ++ reply_to rules state (line_of (bytes ++ run)))
-    → ((bytes : List ℕ) → IsKept bytes intake.long intake.line.items
+    → ((bytes : List ℕ) → IsKeptLine bytes intake.long intake.line.items
     → state' ≡ state_after rules state (line_of (bytes ++ run)))
     → intake'.long ≡ false → intake'.line.items ≡ [] → intake'.lines ≡ intake.lines + 1
     → intake'.bytes ≡ intake.bytes + length run + 1 → intake.lines < 10000000
     → intake.bytes + length run < 1073741824
-    → Stands rules began (given ++ (run ++ b ∷ [])) w state' intake' out'
+    → RunStands rules began (given ++ (run ++ b ∷ [])) w state' intake' out'
 stands_line rules began given w state state' intake intake' out out' run b s u e replies after long
     line lines bytes below_lines below_bytes =
     let ended = s.bytes ++ run in
@@ -104,7 +104,7 @@ stands_line rules began given w state state' intake intake' out out' run b s u e
 -- what is written is a front of the output, whatever comes next
 pub stands_fronts : {State : Type 0} (rules : Rules State) (began : Began State) (given : List ℕ)
     (w : Option (List ℕ)) (state : State) (intake : Intake) (out : List ℕ) (rest : List ℕ)
-    → Stands rules began given w state intake out → Fronts rules began (given ++ rest) w out
+    → RunStands rules began given w state intake out → Fronts rules began (given ++ rest) w out
 stands_fronts rules began given w state intake out rest s = record {
   text = s.text;
   appended = s.appended;
@@ -146,8 +146,8 @@ fronts_all rules began given w w' out f a = record {
 -- the last line is answered, and all is written
 pub stands_output : {State : Type 0} (rules : Rules State) (began : Began State) (given : List ℕ)
     (w w' : Option (List ℕ)) (state : State) (intake : Intake) (out out' : List ℕ)
-    → Stands rules began given w state intake out
-    → ((bytes : List ℕ) → IsKept bytes intake.long intake.line.items
+    → RunStands rules began given w state intake out
+    → ((bytes : List ℕ) → IsKeptLine bytes intake.long intake.line.items
     → out' ≡ out ++ reply_to rules state (line_of bytes))
     → Appends w w' out' → Appends began.written w' (output_of rules began.state given)
 stands_output rules began given w w' state intake out out' s replies a =
@@ -161,8 +161,8 @@ stands_output rules began given w w' state intake out out' s replies a =
 -- the last line is answered, and waits
 pub stands_last : {State : Type 0} (rules : Rules State) (began : Began State) (given : List ℕ)
     (w : Option (List ℕ)) (state : State) (intake : Intake) (out out' : List ℕ)
-    → Stands rules began given w state intake out
-    → ((bytes : List ℕ) → IsKept bytes intake.long intake.line.items
+    → RunStands rules began given w state intake out
+    → ((bytes : List ℕ) → IsKeptLine bytes intake.long intake.line.items
     → out' ≡ out ++ reply_to rules state (line_of bytes))
     → Fronts rules began given w out'
 stands_last rules began given w state intake out out' s replies = record {
@@ -180,7 +180,7 @@ stands_last rules began given w state intake out out' s replies = record {
 -- where nothing waits, just the lines that LF ended are answered
 pub stands_ended : {State : Type 0} (rules : Rules State) (began : Began State) (given : List ℕ)
     (w : Option (List ℕ)) (state : State) (intake : Intake)
-    → Stands rules began given w state intake []
+    → RunStands rules began given w state intake []
     → Appends began.written w (replies_to rules began.state (ended_lines given))
 stands_ended rules began given w state intake s =
     subst (Appends began.written w)
@@ -199,7 +199,7 @@ lines_below lines (a ∷ bytes) n e u h full =
 -- what has come is within the limits
 pub stands_within : {State : Type 0} (rules : Rules State) (began : Began State) (given : List ℕ)
     (w : Option (List ℕ)) (state : State) (intake : Intake) (out : List ℕ)
-    → Stands rules began given w state intake out → IsWithin given
+    → RunStands rules began given w state intake out → IsWithinInput given
 stands_within rules began given w state intake out s = (
   rw (cut_lines given s.lines s.bytes s.cut) (lines_below s.lines s.bytes intake.lines
       s.lines_counted s.cut.unbroken s.lines_within s.full),
@@ -259,10 +259,10 @@ given_line given xs run i b is h e =
 -- a run over a piece, some bytes further
 pub stands_ahead : {State : Type 0} (rules : Rules State) (began : Began State) (given xs : List ℕ)
     (i n : ℕ) (w : Option (List ℕ)) (state : State) (intake : Intake) (out : List ℕ)
-    → Stands rules began (given ++ take i xs ++ take n (drop i xs)) w state intake out
-    → Stands rules began (given ++ take (i + n) xs) w state intake out
+    → RunStands rules began (given ++ take i xs ++ take n (drop i xs)) w state intake out
+    → RunStands rules began (given ++ take (i + n) xs) w state intake out
 stands_ahead rules began given xs i n w state intake out s =
-    subst (λ l. Stands rules began l w state intake out) (append_assoc given (take i xs)
+    subst (λ l. RunStands rules began l w state intake out) (append_assoc given (take i xs)
     (take n (drop i xs)) ∙ ap (λ l. given ++ l) (take_further xs i n)) s
 
 -- the next byte of a piece is one more that has come
@@ -276,11 +276,11 @@ pub stands_after : {State : Type 0} (rules : Rules State) (began : Began State)
     (given xs run : List ℕ) (i b : ℕ) (w : Option (List ℕ)) (state : State) (intake : Intake)
     (out : List ℕ) → run ≡ take (length run) (drop i xs)
     → i + length run < length xs → get_or xs (i + length run) 0 ≡ b
-    → Stands rules began (given ++ take i xs ++ (run ++ b ∷ [])) w state intake out
-    → Stands rules began (given ++ take (i + length run + 1) xs) w state intake out
+    → RunStands rules began (given ++ take i xs ++ (run ++ b ∷ [])) w state intake out
+    → RunStands rules began (given ++ take (i + length run + 1) xs) w state intake out
 stands_after rules began given xs run i b w state intake out is h e s =
     let n = length run in
-    subst (λ l. Stands rules began l w state intake out)
+    subst (λ l. RunStands rules began l w state intake out)
     (sym (append_assoc (given ++ take i xs) run (b ∷ []))
     ∙ ap (λ l. l ++ b ∷ []) (ahead given xs run i is)
     ∙ append_assoc given (take (i + n) xs) (b ∷ [])
@@ -289,7 +289,7 @@ stands_after rules began given xs run i b w state intake out is h e s =
 -- what stands at a place of a piece is a front of the output up to its end
 pub stopped_at : {State : Type 0} (rules : Rules State) (began : Began State) (given xs : List ℕ)
     (i : ℕ) (w : Option (List ℕ)) (state : State) (intake : Intake) (out : List ℕ)
-    → Stands rules began (given ++ take i xs) w state intake out
+    → RunStands rules began (given ++ take i xs) w state intake out
     → Fronts rules began (given ++ xs) w out
 stopped_at rules began given xs i w state intake out s =
     subst (λ l. Fronts rules began l w out) (given_rest given xs i)
@@ -308,7 +308,7 @@ stopped_in rules began given xs run i b w out is h e f =
 -- and what stands at the end of an input
 pub stands_stops : {State : Type 0} (rules : Rules State) (began : Began State) (given : List ℕ)
     (w : Option (List ℕ)) (state : State) (intake : Intake) (out : List ℕ)
-    → Stands rules began given w state intake out → Fronts rules began given w out
+    → RunStands rules began given w state intake out → Fronts rules began given w out
 stands_stops rules began given w state intake out s =
     subst (λ l. Fronts rules began l w out) (append-nil given)
     (stands_fronts rules began given w state intake out [] s)
@@ -316,7 +316,7 @@ stands_stops rules began given w state intake out s =
 -- where a run stands, whole lines are answered, whatever comes next
 stands_halts : {State : Type 0} (rules : Rules State) (began : Began State) (given : List ℕ)
     (w : Option (List ℕ)) (state : State) (intake : Intake) (out : List ℕ) (rest : List ℕ)
-    → Stands rules began given w state intake out → Halts rules began (given ++ rest) w out
+    → RunStands rules began given w state intake out → Halts rules began (given ++ rest) w out
 stands_halts rules began given w state intake out rest s = record {
   lines = s.lines;
   rest = lines_of (s.bytes ++ rest);
@@ -329,7 +329,7 @@ stands_halts rules began given w state intake out rest s = record {
 -- at a place of a piece
 pub halted_at : {State : Type 0} (rules : Rules State) (began : Began State) (given xs : List ℕ)
     (i : ℕ) (w : Option (List ℕ)) (state : State) (intake : Intake) (out : List ℕ)
-    → Stands rules began (given ++ take i xs) w state intake out
+    → RunStands rules began (given ++ take i xs) w state intake out
     → Halts rules began (given ++ xs) w out
 halted_at rules began given xs i w state intake out s =
     subst (λ l. Halts rules began l w out) (given_rest given xs i)
@@ -338,7 +338,7 @@ halted_at rules began given xs i w state intake out s =
 -- and at the end of an input
 pub halted_now : {State : Type 0} (rules : Rules State) (began : Began State) (given : List ℕ)
     (w : Option (List ℕ)) (state : State) (intake : Intake) (out : List ℕ)
-    → Stands rules began given w state intake out → Halts rules began given w out
+    → RunStands rules began given w state intake out → Halts rules began given w out
 halted_now rules began given w state intake out s =
     subst (λ l. Halts rules began l w out) (append-nil given)
     (stands_halts rules began given w state intake out [] s)
@@ -387,8 +387,8 @@ meets_handed rules began given piece w w' state intake out m a = record {
 -- replies that wait are written, and none waits
 pub stands_empty : {State : Type 0} (rules : Rules State) (began : Began State) (given : List ℕ)
     (w w' : Option (List ℕ)) (state : State) (intake : Intake) (out out' : List ℕ)
-    → Stands rules began given w state intake out → Appends w w' out → out' ≡ []
-    → Stands rules began given w' state intake out'
+    → RunStands rules began given w state intake out → Appends w w' out → out' ≡ []
+    → RunStands rules began given w' state intake out'
 stands_empty rules began given w w' state intake out out' s a e =
-    subst (Stands rules began given w' state intake) (sym e)
+    subst (RunStands rules began given w' state intake) (sym e)
     (stands_handed rules began given w w' state intake out s a)

@@ -4,8 +4,8 @@ use Rattle.std.proofs.KnownBytes.{Appends-nil, Consumes-trans}
 use Rattle.std.specs.Io.KnownBytes.{Appends, Consumes, IsAtEnd}
 use Rattle.lq_script_lines.specs.declared.intake.Intake.{Intake}
 use Rattle.lq_script_lines.specs.Lines.{Rules, lines_of}
-use Rattle.lq_script_lines.specs.Output.{Answered, Ended, Halted, IsWithin, Passed, Stopped, output_of}
-use Rattle.lq_script_lines.specs.Progress.{Began, Fronts, Halts, Meets, Stands}
+use Rattle.lq_script_lines.specs.Output.{Answered, Ended, Halted, IsWithinInput, Passed, Stopped, output_of}
+use Rattle.lq_script_lines.specs.Progress.{Began, Fronts, Halts, Meets, RunStands}
 use Rattle.lq_script_lines.proofs.LineLemmas.{cut_none}
 use Rattle.lq_script_lines.proofs.ProgressLemmas.{given_next, stands_ended, stands_within}
 
@@ -13,7 +13,7 @@ use Rattle.lq_script_lines.proofs.ProgressLemmas.{given_next, stands_ended, stan
 pub stands_none : {State : Type 0} (rules : Rules State) (state : State) (w : Option (List ℕ))
     (intake : Intake) (out : List ℕ)
     → intake.line.items ≡ [] → intake.long ≡ false → intake.lines ≡ 0 → intake.bytes ≡ 0 → out ≡ []
-    → Stands rules (record { state = state; written = w }) [] w state intake out
+    → RunStands rules (record { state = state; written = w }) [] w state intake out
 stands_none rules state w intake out line long lines bytes none = record {
   lines = [];
   bytes = [];
@@ -58,7 +58,7 @@ run_halted rules began l l' w given h t = record {
 -- a run that stops between two reads
 pub run_ended : {State : Type 0} (rules : Rules State) (began : Began State)
     (l l' w : Option (List ℕ)) (given : List ℕ) (state : State) (intake : Intake)
-    → Consumes l l' given → Stands rules began given w state intake []
+    → Consumes l l' given → RunStands rules began given w state intake []
     → Ended rules began.state l l' began.written w
 run_ended rules began l l' w given state intake h s = record {
   given = given;
@@ -70,7 +70,7 @@ run_ended rules began l l' w given state intake h s = record {
 -- a run to the end of its input
 pub run_answered : {State : Type 0} (rules : Rules State) (began : Began State)
     (l l' w w' : Option (List ℕ)) (given : List ℕ) (state : State) (intake : Intake) (out : List ℕ)
-    → Consumes l l' given → IsAtEnd l' → Stands rules began given w state intake out
+    → Consumes l l' given → IsAtEnd l' → RunStands rules began given w state intake out
     → Appends began.written w' (output_of rules began.state given)
     → Answered rules began.state l l' began.written w'
 run_answered rules began l l' w w' given state intake out h e s a = record {
@@ -102,8 +102,8 @@ byte_line b false e = rw e refl
 -- at a limit one byte more is too much
 stands_passes : {State : Type 0} (rules : Rules State) (began : Began State) (given : List ℕ)
     (w : Option (List ℕ)) (state : State) (intake : Intake) (out : List ℕ) (b : ℕ)
-    → Stands rules began given w state intake out
-    → (intake.lines ≡ 10000000) ⊎ (intake.bytes ≡ 1073741824) → ¬ IsWithin (given ++ b ∷ [])
+    → RunStands rules began given w state intake out
+    → (intake.lines ≡ 10000000) ⊎ (intake.bytes ≡ 1073741824) → ¬ IsWithinInput (given ++ b ∷ [])
 stands_passes rules began given w state intake out b s (inl full) within =
     let lines : length (lines_of (given ++ b ∷ [])) ≡ length (s.lines ++ lines_of (b ∷ [])) =
     ap length (s.cut.ahead (b ∷ []) ∙ ap (λ l. s.lines ++ lines_of (l ++ b ∷ [])) (s.full full)) in

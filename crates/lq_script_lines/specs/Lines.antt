@@ -3,8 +3,8 @@ use Rattle.std.specs.Prelude.{◌≡◌, ℕ, List, [], ◌∷◌, ◌++◌, fal
 use Rattle.std.specs.Io.BufRead.{strip_last}
 
 -- `front` is a prefix of `whole`
-abbrev pub Begins : List ℕ → List ℕ → Type 0
-Begins whole front = (rest : List ℕ) × (whole ≡ front ++ rest)
+abbrev pub HasPrefix : List ℕ → List ℕ → Type 0
+HasPrefix whole front = (rest : List ℕ) × (whole ≡ front ++ rest)
 
 -- the lines with a byte added before the first one; without lines, the byte is the only line
 abbrev pub with_front : ℕ → List (List ℕ) → List (List ℕ)

@@ -1,15 +1,15 @@
 -- What a run over a script has read and written when it answers.
 use Rattle.std.specs.Prelude.{◌≡◌, ℕ, ◌≤◌, List, [], ◌∷◌, ◌++◌, length, Option}
 use Rattle.std.specs.Io.KnownBytes.{Appends, Consumes, IsAtEnd}
-use Rattle.lq_script_lines.specs.Lines.{Begins, Rules, ended_lines, lines_of, replies_to}
+use Rattle.lq_script_lines.specs.Lines.{HasPrefix, Rules, ended_lines, lines_of, replies_to}
 
 -- what is written for an input
 abbrev pub output_of : {State : Type 0} → Rules State → State → List ℕ → List ℕ
 output_of rules state bytes = replies_to rules state (lines_of bytes)
 
 -- an input has at most 10,000,000 lines and 1,073,741,824 bytes
-abbrev pub IsWithin : List ℕ → Type 0
-IsWithin bytes = (length (lines_of bytes) ≤ 10000000) × (length bytes ≤ 1073741824)
+abbrev pub IsWithinInput : List ℕ → Type 0
+IsWithinInput bytes = (length (lines_of bytes) ≤ 10000000) × (length bytes ≤ 1073741824)
 
 -- a run that succeeded: all was read, it was within the limits, and its output was written
 pub record Answered {State : Type 0} (rules : Rules State) (state : State)
@@ -17,7 +17,7 @@ pub record Answered {State : Type 0} (rules : Rules State) (state : State)
   pub given : List ℕ
   pub consumed : Consumes left left' given
   pub at_end : IsAtEnd left'
-  pub within : IsWithin given
+  pub within : IsWithinInput given
   pub appended : Appends written written' (output_of rules state given)
 
 -- a run that stopped: what was written is a prefix of the output for what was read
@@ -27,7 +27,7 @@ pub record Stopped {State : Type 0} (rules : Rules State) (state : State)
   pub consumed : Consumes left left' given
   pub text : List ℕ
   pub appended : Appends written written' text
-  pub front : Begins (output_of rules state given) text
+  pub front : HasPrefix (output_of rules state given) text
 
 -- a run that stopped between two lines: exactly the first lines of what was read were answered
 pub record Halted {State : Type 0} (rules : Rules State) (state : State)
@@ -44,7 +44,7 @@ pub record Ended {State : Type 0} (rules : Rules State) (state : State)
     (left left' written written' : Option (List ℕ)) : Type 0 where
   pub given : List ℕ
   pub consumed : Consumes left left' given
-  pub within : IsWithin given
+  pub within : IsWithinInput given
   pub appended : Appends written written' (replies_to rules state (ended_lines given))
 
 -- A run that stopped at a limit: it read at least one byte beyond the limits. Of the input within
@@ -55,6 +55,6 @@ pub record Passed {State : Type 0} (rules : Rules State) (state : State)
   pub next : ℕ
   pub rest : List ℕ
   pub consumed : Consumes left left' (given ++ next ∷ rest)
-  pub within : IsWithin given
-  pub passes : ¬ IsWithin (given ++ next ∷ [])
+  pub within : IsWithinInput given
+  pub passes : ¬ IsWithinInput (given ++ next ∷ [])
   pub appended : Appends written written' (replies_to rules state (ended_lines given))

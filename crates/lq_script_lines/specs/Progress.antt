@@ -2,15 +2,15 @@
 use Rattle.std.specs.Prelude.{◌≡◌, ◌<◌, ◌≤◌, ◌⊎◌, ℕ, List, [], ◌∷◌, ◌++◌, Bool, true, false, length, take, Option, ◌+◌, Result, OnOk, OnErr, IsErrOf}
 use Rattle.std.specs.Io.KnownBytes.{Appends}
 use Rattle.lq_script_lines.specs.declared.intake.Intake.{Intake}
-use Rattle.lq_script_lines.specs.Lines.{Begins, IsUnbroken, Rules, ended_lines, line_of, lines_of, replies_to, state_after}
+use Rattle.lq_script_lines.specs.Lines.{HasPrefix, IsUnbroken, Rules, ended_lines, line_of, lines_of, replies_to, state_after}
 use Rattle.lq_script_lines.specs.Output.{output_of}
 use Rattle.lq_script_lines.specs.declared.run_fault.RunFault.{RunFault}
 use Rattle.lq_script_lines.specs.declared.run_fault.RunFault.TheVariants.{Limit, Memory, Read, Thread, Write}
 
 -- what is kept of a line in progress: its bytes, or only that it is too long
-abbrev pub IsKept : List ℕ → Bool → List ℕ → Type 0
-IsKept bytes true line = 65536 < length bytes
-IsKept bytes false line = (bytes ≡ line) × (length line ≤ 65536)
+abbrev pub IsKeptLine : List ℕ → Bool → List ℕ → Type 0
+IsKeptLine bytes true line = 65536 < length bytes
+IsKeptLine bytes false line = (bytes ≡ line) × (length line ≤ 65536)
 
 -- An input consists of lines and the bytes of a line in progress, whatever comes next.
 pub record IsCut (given : List ℕ) (lines : List (List ℕ)) (bytes : List ℕ) : Type 0 where
@@ -31,14 +31,14 @@ pub record Began (State : Type 0) : Type 0 where
 
 -- the invariant of a run after an input: its lines are answered, and their replies are written
 -- except for those in `out`
-pub record Stands {State : Type 0} (rules : Rules State) (began : Began State)
+pub record RunStands {State : Type 0} (rules : Rules State) (began : Began State)
     (given : List ℕ) (written : Option (List ℕ)) (state : State) (intake : Intake) (out : List ℕ)
     : Type 0 where
   pub lines : List (List ℕ)
   pub bytes : List ℕ
   pub text : List ℕ
   pub cut : IsCut given lines bytes
-  pub kept : IsKept bytes intake.long intake.line.items
+  pub kept : IsKeptLine bytes intake.long intake.line.items
   pub answered : state ≡ state_after_all rules began.state lines
   pub appended : Appends began.written written text
   pub due : text ++ out ≡ replies_to rules began.state lines
@@ -53,7 +53,7 @@ pub record Fronts {State : Type 0} (rules : Rules State) (began : Began State)
     (given : List ℕ) (written : Option (List ℕ)) (out : List ℕ) : Type 0 where
   pub text : List ℕ
   pub appended : Appends began.written written text
-  pub front : Begins (replies_to rules began.state (lines_of given)) (text ++ out)
+  pub front : HasPrefix (replies_to rules began.state (lines_of given)) (text ++ out)
 
 -- whole lines of an input are answered: their replies are what was written and then `out`
 pub record Halts {State : Type 0} (rules : Rules State) (began : Began State)
@@ -71,7 +71,7 @@ pub record Meets {State : Type 0} (rules : Rules State) (began : Began State)
     (out : List ℕ) : Type 0 where
   pub count : ℕ
   pub follows : count < length piece
-  pub stands : Stands rules began (given ++ take count piece) written state intake out
+  pub stands : RunStands rules began (given ++ take count piece) written state intake out
   pub at_limit : (intake.lines ≡ 10000000) ⊎ (intake.bytes ≡ 1073741824)
 
 -- these bytes keep the invariant, wherever the run began
@@ -79,15 +79,15 @@ abbrev pub Goes : {State : Type 0} → Rules State → List ℕ
     → Option (List ℕ) → State → Intake → List ℕ
     → Option (List ℕ) → State → Intake → List ℕ → Type 0
 Goes {State} rules bytes written state intake out written' state' intake' out' =
-    (began : Began State) → (given : List ℕ) → Stands rules began given written state intake out
-    → Stands rules began (given ++ bytes) written' state' intake' out'
+    (began : Began State) → (given : List ℕ) → RunStands rules began given written state intake out
+    → RunStands rules began (given ++ bytes) written' state' intake' out'
 
 -- a fault in these bytes leaves a prefix of the output
 abbrev pub Leaves : {State : Type 0} → Rules State → List ℕ
     → Option (List ℕ) → State → Intake → List ℕ
     → Option (List ℕ) → List ℕ → Type 0
 Leaves {State} rules bytes written state intake out written' out' =
-    (began : Began State) → (given : List ℕ) → Stands rules began given written state intake out
+    (began : Began State) → (given : List ℕ) → RunStands rules began given written state intake out
     → Fronts rules began (given ++ bytes) written' out'
 
 -- where memory runs out in these bytes, whole lines are answered
@@ -95,7 +95,7 @@ abbrev pub HaltsIn : {State : Type 0} → Rules State → List ℕ
     → Option (List ℕ) → State → Intake → List ℕ
     → Option (List ℕ) → List ℕ → Type 0
 HaltsIn {State} rules bytes written state intake out written' out' =
-    (began : Began State) → (given : List ℕ) → Stands rules began given written state intake out
+    (began : Began State) → (given : List ℕ) → RunStands rules began given written state intake out
     → Halts rules began (given ++ bytes) written' out'
 
 -- this piece reaches a limit
@@ -103,28 +103,28 @@ abbrev pub MeetsLimit : {State : Type 0} → Rules State → List ℕ
     → Option (List ℕ) → State → Intake → List ℕ
     → Option (List ℕ) → State → Intake → List ℕ → Type 0
 MeetsLimit {State} rules piece written state intake out written' state' intake' out' =
-    (began : Began State) → (given : List ℕ) → Stands rules began given written state intake out
+    (began : Began State) → (given : List ℕ) → RunStands rules began given written state intake out
     → Meets rules began given piece written' state' intake' out'
 
 -- the end of an input writes the whole output, wherever the run began
 abbrev pub Completes : {State : Type 0} → Rules State
     → Option (List ℕ) → State → Intake → List ℕ → Option (List ℕ) → Type 0
 Completes {State} rules written state intake out written' =
-    (began : Began State) → (given : List ℕ) → Stands rules began given written state intake out
+    (began : Began State) → (given : List ℕ) → RunStands rules began given written state intake out
     → Appends began.written written' (output_of rules began.state given)
 
 -- a fault at the end of an input leaves a prefix of the output
 abbrev pub LeavesAtEnd : {State : Type 0} → Rules State
     → Option (List ℕ) → State → Intake → List ℕ → Option (List ℕ) → Type 0
 LeavesAtEnd {State} rules written state intake out written' =
-    (began : Began State) → (given : List ℕ) → Stands rules began given written state intake out
+    (began : Began State) → (given : List ℕ) → RunStands rules began given written state intake out
     → Fronts rules began given written' []
 
 -- where memory runs out at the end of an input, whole lines are answered
 abbrev pub HaltsAtEnd : {State : Type 0} → Rules State
     → Option (List ℕ) → State → Intake → List ℕ → Option (List ℕ) → Type 0
 HaltsAtEnd {State} rules written state intake out written' =
-    (began : Began State) → (given : List ℕ) → Stands rules began given written state intake out
+    (began : Began State) → (given : List ℕ) → RunStands rules began given written state intake out
     → Halts rules began given written' []
 
 -- what a run is at between two pieces: the writer, the responder's state, the input so far and the

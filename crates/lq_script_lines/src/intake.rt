@@ -1,7 +1,7 @@
 //! The part of an input that has come so far: the line in progress and the counts.
 ghost use Rattle.std.specs.Prelude.{◌≡◌, ◌+◌, ◌++◌, ◌≤◌, ℕ, List, [], length, false, true, IfErr, IsOk, OnOk, OnErr};
 ghost use Rattle.lq_script_lines.specs.Lines.{given_line, line_of, reply_to, state_after, without_cr};
-ghost use Rattle.lq_script_lines.specs.Progress.{IsKept};
+ghost use Rattle.lq_script_lines.specs.Progress.{IsKeptLine};
 
 use crate::responder::Responder;
 use crate::run_fault::RunFault;
@@ -52,11 +52,11 @@ impl Intake {
     /// Refused: `Memory`; `out` is then unchanged.
     pub fn answer<S: Responder>(&self, responder: &mut S, out: &mut Vec<u8>) -> Result<(), RunFault>
         ensures ok { OnOk result ((bytes : List ℕ)
-            → IsKept bytes self.now.long self.now.line.items
+            → IsKeptLine bytes self.now.long self.now.line.items
             → out.new.items ≡ out.old.items
             ++ reply_to S.rules (S.state responder.old) (line_of bytes)) }
         ensures after { OnOk result ((bytes : List ℕ)
-            → IsKept bytes self.now.long self.now.line.items
+            → IsKeptLine bytes self.now.long self.now.line.items
             → S.state responder.new ≡ state_after S.rules (S.state responder.old) (line_of bytes)) }
         ensures err { OnErr result (out.new.items ≡ out.old.items) }
         ensures memory { IfErr result (λ e. e ≡ RunFault.Memory) }
@@ -87,11 +87,11 @@ impl Intake {
     ) -> Result<(), RunFault>
         requires { self.old.bytes + length bytes.now ≤ MAX_BYTES }
         ensures ok { OnOk result ((before : List ℕ)
-            → IsKept before self.old.long self.old.line.items
+            → IsKeptLine before self.old.long self.old.line.items
             → out.new.items ≡ out.old.items
             ++ reply_to S.rules (S.state responder.old) (line_of (before ++ bytes.now))) }
         ensures after { OnOk result ((before : List ℕ)
-            → IsKept before self.old.long self.old.line.items
+            → IsKeptLine before self.old.long self.old.line.items
             → S.state responder.new
             ≡ state_after S.rules (S.state responder.old) (line_of (before ++ bytes.now))) }
         ensures err { OnErr result (out.new.items ≡ out.old.items) }
@@ -112,8 +112,8 @@ impl Intake {
     pub fn keep(&mut self, bytes: &[u8]) -> Result<(), RunFault>
         requires { self.old.bytes + length bytes.now ≤ MAX_BYTES }
         ensures ok { OnOk result ((before : List ℕ)
-            → IsKept before self.old.long self.old.line.items
-            → IsKept (before ++ bytes.now) self.new.long self.new.line.items) }
+            → IsKeptLine before self.old.long self.old.line.items
+            → IsKeptLine (before ++ bytes.now) self.new.long self.new.line.items) }
         ensures memory { IfErr result (λ e. e ≡ RunFault.Memory) }
 
         // A line that is too long isn't kept and takes no memory.

@@ -3,21 +3,21 @@
 //! Contracts see a device as the bytes that it has left or has taken, an input as its list of lines
 //! (`specs/Lines`), and the responder to lines as rules on a state. `specs/Output` says what a run
 //! has read and written when it answers. Nothing here waits. Begin with `devices`, then
-//! `responder`, then `over_lines`.
+//! `responder`, then `script_run`.
 #![tactic(auto)]
 
 mod devices;
+mod input_pieces;
 mod intake;
-mod over_lines;
-mod pieces;
 mod responder;
 mod run_fault;
+mod script_run;
 mod writing;
 
 pub use devices::{Client, Failed, Host, Sink, Source};
+pub use input_pieces::take_piece;
 pub use intake::Intake;
-pub use over_lines::run_lines;
-pub use pieces::take_piece;
 pub use responder::Responder;
 pub use run_fault::RunFault;
+pub use script_run::run_lines;
 pub use writing::{out_of_memory, write_all};

@@ -8,12 +8,12 @@ use Rattle.lq_script_request.specs.declared.key.Key.{Key}
 use Rattle.lq_script_request.specs.declared.key.Key.TheVariants as key
 use Rattle.lq_script_request.specs.declared.field.Field.{Field}
 use Rattle.lq_script_request.specs.declared.fields.Fields.{Fields}
-use Rattle.lq_script_request.specs.Shown.{data_in, shown}
-use Rattle.lq_script_request.specs.Fields.{Show, field_at, name_of, updated}
+use Rattle.lq_script_request.specs.Shown.{data_in, json_outline}
+use Rattle.lq_script_request.specs.Fields.{Show, field_at, key_text, updated}
 
 -- a member counts for its key alone
 placed : (k : List ℕ) (f : Field) (fs : Fields) (at : Key)
-    → field_at (updated k f fs) at ≡ (if bytes_eq k (name_of at) then f else field_at fs at)
+    → field_at (updated k f fs) at ≡ (if bytes_eq k (key_text at) then f else field_at fs at)
 placed k f fs key.Do = refl
 placed k f fs key.Dir = refl
 placed k f fs key.Name = refl
@@ -33,21 +33,22 @@ placed k f fs key.Clobber = refl
 
 -- what was chosen shows what is found
 chosen : (k name : List ℕ) (b : Bool) (f g : Field) (d : Data) (ms : Members)
-    → bytes_eq k name ≡ b → data_in f ≡ Some (shown d)
-    → data_in g ≡ option_map shown (get_member name ms)
-    → data_in (if b then f else g) ≡ option_map shown (get_member name (put k d ms))
+    → bytes_eq k name ≡ b → data_in f ≡ Some (json_outline d)
+    → data_in g ≡ option_map json_outline (get_member name ms)
+    → data_in (if b then f else g) ≡ option_map json_outline (get_member name (put k d ms))
 chosen k name true f g d ms same is was =
     let equal : k ≡ name = (bytes_eq-Decides k name).0 same in
-    is ∙ sym (ap (option_map shown) (ap (λ n. get_member n (put k d ms)) (sym equal)
+    is ∙ sym (ap (option_map json_outline) (ap (λ n. get_member n (put k d ms)) (sym equal)
     ∙ get_member-put k d ms))
 chosen k name false f g d ms other is was =
-    was ∙ sym (ap (option_map shown) (get_member-put_other name k d ms
+    was ∙ sym (ap (option_map json_outline) (get_member-put_other name k d ms
     (λ same. true≢false (sym ((bytes_eq-Decides k name).1 (sym same)) ∙ other))))
 
 -- the fields show the last members, one member more
 pub Show-put : (k : List ℕ) (f : Field) (fields : Fields) (d : Data) (ms : Members)
-    → data_in f ≡ Some (shown d) → Show fields (object ms)
+    → data_in f ≡ Some (json_outline d) → Show fields (object ms)
     → Show (updated k f fields) (object (put k d ms))
 Show-put k f fields d ms is were = λ at.
     ap data_in (placed k f fields at)
-    ∙ chosen k (name_of at) (bytes_eq k (name_of at)) f (field_at fields at) d ms refl is (were at)
+    ∙ chosen k (key_text at) (bytes_eq k (key_text at)) f (field_at fields at) d ms refl
+    is (were at)

@@ -5,7 +5,7 @@ use Rattle.json.specs.Token.{Token}
 use Rattle.serde_json.specs.Data.{Data, Members, null, object}
 use Rattle.serde_json.specs.Find.{get}
 use Rattle.serde_json.specs.Read.{read}
-use Rattle.lq_script_request.specs.Shown.{data_in, shown}
+use Rattle.lq_script_request.specs.Shown.{data_in, json_outline}
 use Rattle.lq_script_request.specs.declared.field.Field.{Field}
 use Rattle.lq_script_request.specs.declared.field.Field.TheVariants.{Absent}
 use Rattle.lq_script_request.specs.declared.key.Key.{Key}
@@ -13,23 +13,23 @@ use Rattle.lq_script_request.specs.declared.key.Key.TheVariants as key
 use Rattle.lq_script_request.specs.declared.fields.Fields.{Fields}
 
 -- the text of a key
-abbrev pub name_of : Key → List ℕ
-name_of key.Do = codes "do"
-name_of key.Dir = codes "dir"
-name_of key.Name = codes "name"
-name_of key.Kind = codes "kind"
-name_of key.Size = codes "size"
-name_of key.Time = codes "time"
-name_of key.Node = codes "node"
-name_of key.Attr = codes "attr"
-name_of key.Type = codes "type"
-name_of key.Value = codes "value"
-name_of key.Query = codes "query"
-name_of key.Port = codes "port"
-name_of key.Backlog = codes "backlog"
-name_of key.Moved = codes "moved"
-name_of key.Slot = codes "slot"
-name_of key.Clobber = codes "clobber"
+abbrev pub key_text : Key → List ℕ
+key_text key.Do = codes "do"
+key_text key.Dir = codes "dir"
+key_text key.Name = codes "name"
+key_text key.Kind = codes "kind"
+key_text key.Size = codes "size"
+key_text key.Time = codes "time"
+key_text key.Node = codes "node"
+key_text key.Attr = codes "attr"
+key_text key.Type = codes "type"
+key_text key.Value = codes "value"
+key_text key.Query = codes "query"
+key_text key.Port = codes "port"
+key_text key.Backlog = codes "backlog"
+key_text key.Moved = codes "moved"
+key_text key.Slot = codes "slot"
+key_text key.Clobber = codes "clobber"
 
 -- what stands in the place of a key
 abbrev pub field_at : Fields → Key → Field
@@ -57,7 +57,7 @@ AreAbsent fields = (key : Key) → field_at fields key ≡ Absent
 -- each field shows the last member with its key, or there is no such member
 abbrev pub Show : Fields → Data → Type 0
 Show fields d =
-    (key : Key) → data_in (field_at fields key) ≡ option_map shown (get (name_of key) d)
+    (key : Key) → data_in (field_at fields key) ≡ option_map json_outline (get (key_text key) d)
 
 -- the fields show the value that was read, up to the rest
 abbrev pub Holds : Fields → List Token → Option (Data × List Token) → Type 0
@@ -68,12 +68,12 @@ abbrev pub HoldsMembers : Fields → List Token → Option (Members × List Toke
 HoldsMembers fields rest read = (ms : Members) × (read ≡ Some (ms, rest)) × Show fields (object ms)
 
 -- the data of the text whose fields they are
-abbrev pub whole : Fields → Data
-whole fields = unwrap_or (read fields.text.now) null
+abbrev pub whole_data : Fields → Data
+whole_data fields = unwrap_or (read fields.text.now) null
 
 -- each field is the last member with its key
-abbrev pub AreFound : Fields → Type 0
-AreFound fields = Show fields (whole fields)
+abbrev pub AreLastMembers : Fields → Type 0
+AreLastMembers fields = Show fields (whole_data fields)
 
 -- the fields once one more member is found; another key than those of lines changes nothing
 abbrev pub updated : List ℕ → Field → Fields → Fields

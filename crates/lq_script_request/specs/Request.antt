@@ -176,8 +176,8 @@ open_of d =
     (needed_text (codes "query") d)
 
 -- what an act at a slot asks for
-abbrev pub act_of : Act → Data → Option Asked
-act_of a d = option_map (λ slot. asks_at slot a) (needed_u64 (codes "slot") d)
+abbrev pub act_asked : Act → Data → Option Asked
+act_asked a d = option_map (λ slot. asks_at slot a) (needed_u64 (codes "slot") d)
 
 -- what a `find` asks for
 abbrev pub find_of : Data → Option Asked
@@ -188,8 +188,8 @@ find_of d =
     (needed_text (codes "name") d)
 
 -- what an `entry` asks for
-abbrev pub entry_of : Data → Option Asked
-entry_of d = option_map (λ node. asks_entry node) (needed_u64 (codes "node") d)
+abbrev pub entry_asked : Data → Option Asked
+entry_asked d = option_map (λ node. asks_entry node) (needed_u64 (codes "node") d)
 
 -- what a `fetch` asks for
 abbrev pub fetch_of : Data → Option Asked
@@ -209,12 +209,12 @@ asked_by word d =
     else if bytes_eq word (codes "set") then set_of d
     else if bytes_eq word (codes "unset") then unset_of d
     else if bytes_eq word (codes "open") then open_of d
-    else if bytes_eq word (codes "read") then act_of act.Take d
-    else if bytes_eq word (codes "hang_up") then act_of act.HangUp d
-    else if bytes_eq word (codes "close") then act_of act.Close d
-    else if bytes_eq word (codes "finish") then act_of act.Finish d
+    else if bytes_eq word (codes "read") then act_asked act.Take d
+    else if bytes_eq word (codes "hang_up") then act_asked act.HangUp d
+    else if bytes_eq word (codes "close") then act_asked act.Close d
+    else if bytes_eq word (codes "finish") then act_asked act.Finish d
     else if bytes_eq word (codes "find") then find_of d
-    else if bytes_eq word (codes "entry") then entry_of d
+    else if bytes_eq word (codes "entry") then entry_asked d
     else if bytes_eq word (codes "fetch") then fetch_of d
     else if bytes_eq word (codes "result") then rebuilt_of d
     else None

@@ -10,13 +10,13 @@ use Rattle.lq_script_request.specs.declared.field.Field.{Field}
 use Rattle.lq_script_request.specs.declared.field.Field.TheVariants as field
 
 -- of an array or an object only that it is one
-abbrev pub shown : Data → Data
-shown null = null
-shown (boolean b) = boolean b
-shown (number n) = number n
-shown (string s) = string s
-shown (array ds) = array no_items
-shown (object ms) = object no_members
+abbrev pub json_outline : Data → Data
+json_outline null = null
+json_outline (boolean b) = boolean b
+json_outline (number n) = number n
+json_outline (string s) = string s
+json_outline (array ds) = array no_items
+json_outline (object ms) = object no_members
 
 -- the data that a field shows, if it is there
 abbrev pub data_in : Field → Option Data
@@ -35,9 +35,9 @@ abbrev pub IsReadUpTo : {A : Type 0} → List Token → Option (A × List Token)
 IsReadUpTo {A} rest read = (x : A) × (read ≡ Some (x, rest))
 
 -- a field shows the value that was read, up to the rest
-abbrev pub Shows : Field → Option (Json × List Token) → List Token → Type 0
-Shows field read rest =
-    (d : Data) × (converted of_json read ≡ Some (d, rest)) × (data_in field ≡ Some (shown d))
+abbrev pub ShowsField : Field → Option (Json × List Token) → List Token → Type 0
+ShowsField field read rest =
+    (d : Data) × (converted of_json read ≡ Some (d, rest)) × (data_in field ≡ Some (json_outline d))
 
 -- what a field answers is what the data that was found answers; it is absent where none was found
 pub record IsFieldOf (field : Field) (found : Option Data) : Type 0 where

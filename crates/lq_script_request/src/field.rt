@@ -5,7 +5,7 @@ ghost use Rattle.json.specs.Reads.{token_of};
 ghost use Rattle.serde_json.specs.Data.{no_members};
 ghost use Rattle.serde_json.specs.Find.{as_bool, as_i64, as_number, as_str, as_u64};
 ghost use Rattle.serde_json.specs.Read.{converted, of_items, of_json, of_members};
-ghost use Rattle.lq_script_request.specs.Shown.{IsReadUpTo, Shows, data_in};
+ghost use Rattle.lq_script_request.specs.Shown.{IsReadUpTo, ShowsField, data_in};
 
 use crate::number::{digits_in, number_in};
 use json::{Invalid, Reader, Token};
@@ -108,7 +108,7 @@ pub(crate) fn field_from<'a>(
     depth: usize,
 ) -> Result<Field<'a>, Invalid>
     ensures ok { IfOk result (λ field.
-        Shows field (value depth (token_of token.entry ∷ reader.old)) reader.new) }
+        ShowsField field (value depth (token_of token.entry ∷ reader.old)) reader.new) }
     ensures err { IfErr result (λ _.
         converted of_json (value depth (token_of token.entry ∷ reader.old)) ≡ None) }
     ensures no_longer { OnOk result (length reader.new ≤ length reader.old) }

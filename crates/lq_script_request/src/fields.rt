@@ -5,7 +5,7 @@ ghost use Rattle.json.specs.Json.{members, value};
 ghost use Rattle.serde_json.specs.Data.{no_members};
 ghost use Rattle.serde_json.specs.Find.{get};
 ghost use Rattle.serde_json.specs.Read.{converted, of_members, read as read_text};
-ghost use Rattle.lq_script_request.specs.Fields.{AreAbsent, AreFound, HoldsMembers, name_of, updated, whole};
+ghost use Rattle.lq_script_request.specs.Fields.{AreAbsent, AreLastMembers, HoldsMembers, key_text, updated, whole_data};
 ghost use Rattle.lq_script_request.specs.Shown.{IsFieldOf};
 
 use crate::field::{Field, field_from};
@@ -69,8 +69,8 @@ impl<'a> Fields<'a> {
     /// The field of a key, once fields are found; `Absent` where no member has the key.
     #[inline(always)]
     pub fn at(&self, key: Key) -> Field<'a>
-        requires { AreFound self.now }
-        ensures { IsFieldOf result (get (name_of key) (whole self.now)) }
+        requires { AreLastMembers self.now }
+        ensures { IsFieldOf result (get (key_text key) (whole_data self.now)) }
     {
         match key {
             Key::Do => self.act,
@@ -102,8 +102,8 @@ impl<'a> Fields<'a> {
     #[inline(never)]
     pub fn read(&mut self, scratch: &'a mut Scratch, text: &'a str) -> Result<(), Refusal>
         requires { AreAbsent self.old }
-        ensures value { IfOk result (λ _. read_text text.now ≡ Some (whole self.new)) }
-        ensures found { IfOk result (λ _. AreFound self.new) }
+        ensures value { IfOk result (λ _. read_text text.now ≡ Some (whole_data self.new)) }
+        ensures found { IfOk result (λ _. AreLastMembers self.new) }
         ensures refused { IfErr result (λ e. (e ≡ NoMemory)
             ⊎ ((e ≡ NotJson) × (read_text text.now ≡ None))) }
     {

@@ -5,24 +5,24 @@
 //! with a number beyond the doubles is no value. The fields are found while the text is read, token
 //! by token, with no tree of its values (`specs/Fields`), and with a scratch that lines reuse and
 //! contracts don't see. Of an array or an object within them only the kind is kept
-//! (`specs/Shown`). Nothing waits. Begin with `question`, then `asking`, `fields` and `field`.
+//! (`specs/Shown`). Nothing waits. Begin with `question`, then `parse_line`, `fields` and `field`.
 #![tactic(auto)]
 
-mod asking;
 mod field;
 mod fields;
 mod key;
 mod number;
-mod plain;
+mod parse_line;
 mod question;
+mod quick_read;
 mod request;
 mod scratch;
 mod values;
 
-pub use asking::{question_in, read_request};
 pub use fields::Fields;
 pub use key::Key;
 pub use lq_desk_world::Event;
+pub use parse_line::{question_in, read_request};
 pub use question::Question;
 pub use request::Request;
 pub use scratch::Scratch;

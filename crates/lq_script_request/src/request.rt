@@ -1,8 +1,8 @@
 //! The request of a line: which one its word names, and its parts.
 ghost use Rattle.std.specs.Prelude.{◌≡◌};
 ghost use Rattle.std.specs.Option.{option_map};
-ghost use Rattle.lq_script_request.specs.Fields.{AreFound, whole};
-ghost use Rattle.lq_script_request.specs.Request.{asked_of, create_of, remove_of, move_of, write_of, set_of, unset_of, open_of, act_of, rebuilt_of, find_of, entry_of, fetch_of};
+ghost use Rattle.lq_script_request.specs.Fields.{AreLastMembers, whole_data};
+ghost use Rattle.lq_script_request.specs.Request.{asked_of, create_of, remove_of, move_of, write_of, set_of, unset_of, open_of, act_asked, rebuilt_of, find_of, entry_asked, fetch_of};
 ghost use Rattle.lq_script_request.specs.Asked.{asked};
 
 use crate::fields::Fields;
@@ -71,8 +71,8 @@ pub enum Request<'a> {
 
 /// The request of a line whose fields are found; `None` where a field is missing or wrong.
 pub fn request_in<'a>(fields: &Fields<'a>) -> Option<Request<'a>>
-    requires { AreFound fields.now }
-    ensures { option_map asked result ≡ asked_of (whole fields.now) }
+    requires { AreLastMembers fields.now }
+    ensures { option_map asked result ≡ asked_of (whole_data fields.now) }
 {
     let Some(act) = fields.at(Key::Do).text() else {
         return None;
@@ -113,8 +113,8 @@ pub fn request_in<'a>(fields: &Fields<'a>) -> Option<Request<'a>>
 }
 
 fn create_in<'a>(fields: &Fields<'a>) -> Option<Request<'a>>
-    requires { AreFound fields.now }
-    ensures { option_map asked result ≡ create_of (whole fields.now) }
+    requires { AreLastMembers fields.now }
+    ensures { option_map asked result ≡ create_of (whole_data fields.now) }
 {
     let name = fields.at(Key::Name).text()?;
     let dir = u64_or(fields, Key::Dir, 1)?;
@@ -131,16 +131,16 @@ fn create_in<'a>(fields: &Fields<'a>) -> Option<Request<'a>>
 }
 
 fn remove_in<'a>(fields: &Fields<'a>) -> Option<Request<'a>>
-    requires { AreFound fields.now }
-    ensures { option_map asked result ≡ remove_of (whole fields.now) }
+    requires { AreLastMembers fields.now }
+    ensures { option_map asked result ≡ remove_of (whole_data fields.now) }
 {
     let node = fields.at(Key::Node).number()?;
     Some(Request::Remove { node })
 }
 
 fn move_in<'a>(fields: &Fields<'a>) -> Option<Request<'a>>
-    requires { AreFound fields.now }
-    ensures { option_map asked result ≡ move_of (whole fields.now) }
+    requires { AreLastMembers fields.now }
+    ensures { option_map asked result ≡ move_of (whole_data fields.now) }
 {
     let node = fields.at(Key::Node).number()?;
     let name = fields.at(Key::Name).text()?;
@@ -155,8 +155,8 @@ fn move_in<'a>(fields: &Fields<'a>) -> Option<Request<'a>>
 }
 
 fn write_in<'a>(fields: &Fields<'a>) -> Option<Request<'a>>
-    requires { AreFound fields.now }
-    ensures { option_map asked result ≡ write_of (whole fields.now) }
+    requires { AreLastMembers fields.now }
+    ensures { option_map asked result ≡ write_of (whole_data fields.now) }
 {
     let node = fields.at(Key::Node).number()?;
     let size = fields.at(Key::Size).number()?;
@@ -165,8 +165,8 @@ fn write_in<'a>(fields: &Fields<'a>) -> Option<Request<'a>>
 }
 
 fn set_in<'a>(fields: &Fields<'a>) -> Option<Request<'a>>
-    requires { AreFound fields.now }
-    ensures { option_map asked result ≡ set_of (whole fields.now) }
+    requires { AreLastMembers fields.now }
+    ensures { option_map asked result ≡ set_of (whole_data fields.now) }
 {
     let node = fields.at(Key::Node).number()?;
     let attr = fields.at(Key::Attr).text()?;
@@ -176,8 +176,8 @@ fn set_in<'a>(fields: &Fields<'a>) -> Option<Request<'a>>
 }
 
 fn unset_in<'a>(fields: &Fields<'a>) -> Option<Request<'a>>
-    requires { AreFound fields.now }
-    ensures { option_map asked result ≡ unset_of (whole fields.now) }
+    requires { AreLastMembers fields.now }
+    ensures { option_map asked result ≡ unset_of (whole_data fields.now) }
 {
     let node = fields.at(Key::Node).number()?;
     let attr = fields.at(Key::Attr).text()?;
@@ -185,8 +185,8 @@ fn unset_in<'a>(fields: &Fields<'a>) -> Option<Request<'a>>
 }
 
 fn open_in<'a>(fields: &Fields<'a>) -> Option<Request<'a>>
-    requires { AreFound fields.now }
-    ensures { option_map asked result ≡ open_of (whole fields.now) }
+    requires { AreLastMembers fields.now }
+    ensures { option_map asked result ≡ open_of (whole_data fields.now) }
 {
     let query = fields.at(Key::Query).text()?;
     let port = fields.at(Key::Port).number()?;
@@ -201,16 +201,16 @@ fn open_in<'a>(fields: &Fields<'a>) -> Option<Request<'a>>
 }
 
 fn act_in<'a>(fields: &Fields<'a>, act: Act) -> Option<Request<'a>>
-    requires { AreFound fields.now }
-    ensures { option_map asked result ≡ act_of act (whole fields.now) }
+    requires { AreLastMembers fields.now }
+    ensures { option_map asked result ≡ act_asked act (whole_data fields.now) }
 {
     let slot = fields.at(Key::Slot).number()?;
     Some(Request::At { slot, act })
 }
 
 fn find_in<'a>(fields: &Fields<'a>) -> Option<Request<'a>>
-    requires { AreFound fields.now }
-    ensures { option_map asked result ≡ find_of (whole fields.now) }
+    requires { AreLastMembers fields.now }
+    ensures { option_map asked result ≡ find_of (whole_data fields.now) }
 {
     let name = fields.at(Key::Name).text()?;
     let dir = u64_or(fields, Key::Dir, 1)?;
@@ -218,24 +218,24 @@ fn find_in<'a>(fields: &Fields<'a>) -> Option<Request<'a>>
 }
 
 fn entry_in<'a>(fields: &Fields<'a>) -> Option<Request<'a>>
-    requires { AreFound fields.now }
-    ensures { option_map asked result ≡ entry_of (whole fields.now) }
+    requires { AreLastMembers fields.now }
+    ensures { option_map asked result ≡ entry_asked (whole_data fields.now) }
 {
     let node = fields.at(Key::Node).number()?;
     Some(Request::Entry { node })
 }
 
 fn fetch_in<'a>(fields: &Fields<'a>) -> Option<Request<'a>>
-    requires { AreFound fields.now }
-    ensures { option_map asked result ≡ fetch_of (whole fields.now) }
+    requires { AreLastMembers fields.now }
+    ensures { option_map asked result ≡ fetch_of (whole_data fields.now) }
 {
     let query = fields.at(Key::Query).text()?;
     Some(Request::Fetch { query })
 }
 
 fn rebuilt_in<'a>(fields: &Fields<'a>) -> Option<Request<'a>>
-    requires { AreFound fields.now }
-    ensures { option_map asked result ≡ rebuilt_of (whole fields.now) }
+    requires { AreLastMembers fields.now }
+    ensures { option_map asked result ≡ rebuilt_of (whole_data fields.now) }
 {
     let slot = fields.at(Key::Slot).number()?;
     Some(Request::Rebuilt { slot })

@@ -4,7 +4,7 @@ ghost use Rattle.std.specs.Option.{option_map};
 ghost use Rattle.lq_value.specs.declared.value.Value.TheVariants.{Int32, UInt32};
 ghost use Rattle.lq_value.specs.declared.kind.Kind.TheVariants.{File};
 ghost use Rattle.serde_json.specs.Find.{as_i64, as_number, as_u64, get};
-ghost use Rattle.lq_script_request.specs.Fields.{AreFound, name_of, whole};
+ghost use Rattle.lq_script_request.specs.Fields.{AreLastMembers, key_text, whole_data};
 ghost use Rattle.lq_script_request.specs.Request.{given_by, given_number, within_i32, within_u32, flag_or, u64_or, i64_or, kind_or};
 ghost use Rattle.lq_script_request.specs.Asked.{given};
 
@@ -14,8 +14,8 @@ use lq_value::{Kind, View};
 
 /// A whole number from 0 up, or the default if the field is absent.
 pub fn u64_or(fields: &Fields<'_>, key: Key, default: u64) -> Option<u64>
-    requires { AreFound fields.now }
-    ensures { result ≡ u64_or default (get (name_of key) (whole fields.now)) }
+    requires { AreLastMembers fields.now }
+    ensures { result ≡ u64_or default (get (key_text key) (whole_data fields.now)) }
 {
     let field = fields.at(key);
     if field.is_absent() {
@@ -26,8 +26,8 @@ pub fn u64_or(fields: &Fields<'_>, key: Key, default: u64) -> Option<u64>
 
 /// A whole number of 64 bits with a sign, or 0 if the field is absent.
 pub fn i64_or_zero(fields: &Fields<'_>, key: Key) -> Option<i64>
-    requires { AreFound fields.now }
-    ensures { result ≡ i64_or (pos 0) (get (name_of key) (whole fields.now)) }
+    requires { AreLastMembers fields.now }
+    ensures { result ≡ i64_or (pos 0) (get (key_text key) (whole_data fields.now)) }
 {
     let field = fields.at(key);
     if field.is_absent() {
@@ -38,8 +38,8 @@ pub fn i64_or_zero(fields: &Fields<'_>, key: Key) -> Option<i64>
 
 /// A truth value, or false if the field is absent.
 pub fn bool_or_false(fields: &Fields<'_>, key: Key) -> Option<bool>
-    requires { AreFound fields.now }
-    ensures { result ≡ flag_or false (get (name_of key) (whole fields.now)) }
+    requires { AreLastMembers fields.now }
+    ensures { result ≡ flag_or false (get (key_text key) (whole_data fields.now)) }
 {
     let field = fields.at(key);
     if field.is_absent() {
@@ -50,8 +50,8 @@ pub fn bool_or_false(fields: &Fields<'_>, key: Key) -> Option<bool>
 
 /// The kind, or a file if the field is absent.
 pub fn kind_or_file(fields: &Fields<'_>) -> Option<Kind>
-    requires { AreFound fields.now }
-    ensures { result ≡ kind_or File (get (codes "kind") (whole fields.now)) }
+    requires { AreLastMembers fields.now }
+    ensures { result ≡ kind_or File (get (codes "kind") (whole_data fields.now)) }
 {
     let field = fields.at(Key::Kind);
     if field.is_absent() {
@@ -67,9 +67,9 @@ pub fn kind_or_file(fields: &Fields<'_>) -> Option<Kind>
 
 /// The value of one of the five attribute types, given the type's text.
 pub fn typed_in<'a>(fields: &Fields<'a>, kind: &str) -> Option<View<'a>>
-    requires { AreFound fields.now }
+    requires { AreLastMembers fields.now }
     ensures { option_map given result
-        ≡ option_and_then (given_by kind.now) (get (codes "value") (whole fields.now)) }
+        ≡ option_and_then (given_by kind.now) (get (codes "value") (whole_data fields.now)) }
 {
     match kind {
         "CSTR" => {
@@ -98,10 +98,10 @@ pub fn typed_in<'a>(fields: &Fields<'a>, kind: &str) -> Option<View<'a>>
 
 // The whole number of a key's field, if it fits into 32 bits with a sign.
 fn narrow_signed(fields: &Fields<'_>, key: Key) -> Option<i32>
-    requires { AreFound fields.now }
+    requires { AreLastMembers fields.now }
     ensures { option_map (λ n. given_number (Int32 n)) result
         ≡ option_and_then within_i32 (option_and_then as_i64
-        (option_and_then as_number (get (name_of key) (whole fields.now)))) }
+        (option_and_then as_number (get (key_text key) (whole_data fields.now)))) }
 {
     let number = fields.at(key).signed()?;
     if number < -2147483648 || number > 2147483647 {
@@ -112,10 +112,10 @@ fn narrow_signed(fields: &Fields<'_>, key: Key) -> Option<i32>
 
 // The whole number of a key's field, if it fits into 32 bits without a sign.
 fn narrow_number(fields: &Fields<'_>, key: Key) -> Option<u32>
-    requires { AreFound fields.now }
+    requires { AreLastMembers fields.now }
     ensures { option_map (λ n. given_number (UInt32 n)) result
         ≡ option_and_then within_u32 (option_and_then as_u64
-        (option_and_then as_number (get (name_of key) (whole fields.now)))) }
+        (option_and_then as_number (get (key_text key) (whole_data fields.now)))) }
 {
     let number = fields.at(key).number()?;
     if number > 4294967295 {

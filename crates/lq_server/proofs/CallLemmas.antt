@@ -7,7 +7,7 @@ use Rattle.lq_volume.specs.Book.{Book}
 use Rattle.lq_board.specs.Roll.{numbers_after, times}
 use Rattle.lq_server_slots.specs.Slots.{before_of}
 use Rattle.lq_server.specs.Applied.{IsAdded}
-use Rattle.lq_server.specs.Counted.{Call, IsCallIn, CallsMakeTheBook, answers_of}
+use Rattle.lq_server.specs.Counted.{Call, IsCallIn, CallsMakeTheBook, numbers_answered}
 
 -- what is in a list is there when more is added at its end
 get_before : (xs ys : List Change) (i : ℕ) (c : Change) → slice_get xs i ≡ Some c
@@ -83,8 +83,8 @@ pub record IsAnswered (x : ℕ) (calls : List Call) : Type 0 where
 
 -- a number that was answered was answered to a call, by cases on the first
 answered_by : (x : ℕ) (c : Call) (calls : List Call) (b : Bool) → b ≡ eqb c.answer.change x
-    → 0 < cond b 1 0 + times x (answers_of calls)
-    → (0 < times x (answers_of calls) → IsAnswered x calls) → IsAnswered x (c ∷ calls)
+    → 0 < cond b 1 0 + times x (numbers_answered calls)
+    → (0 < times x (numbers_answered calls) → IsAnswered x calls) → IsAnswered x (c ∷ calls)
 answered_by x c calls true is some rest =
     record {
       call = c;
@@ -101,7 +101,7 @@ answered_by x c calls false is some rest =
     }
 
 -- a number that was answered was answered to a call
-answered : (x : ℕ) (calls : List Call) → 0 < times x (answers_of calls) → IsAnswered x calls
+answered : (x : ℕ) (calls : List Call) → 0 < times x (numbers_answered calls) → IsAnswered x calls
 answered x [] some = absurd (omega (arith, some))
 answered x (c ∷ calls) some =
     answered_by x c calls (eqb c.answer.change x) refl some (answered x calls)
@@ -109,7 +109,7 @@ answered x (c ∷ calls) some =
 -- the law
 pub make_the_book : CallsMakeTheBook
 make_the_book book calls each all n lt =
-    let once : times (n + 1) (answers_of calls) ≡ 1 =
+    let once : times (n + 1) (numbers_answered calls) ≡ 1 =
     all (n + 1) ∙ once_of 0 (length book.changes) (n + 1) (omega arith) (omega (arith, lt)) in
     let a = answered (n + 1) calls (omega (arith, once)) in
     record {

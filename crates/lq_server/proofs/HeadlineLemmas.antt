@@ -22,7 +22,7 @@ use Rattle.lq_server_slots.specs.Updates.{updates}
 use Rattle.lq_server_slots.specs.Rule.{floor_of, query_of, messages_in, IsMark}
 use Rattle.lq_server_slots.specs.Reading.{ReadingHold, Gives, IsTold, known, received, mark_read}
 use Rattle.lq_server.specs.Hold.{ReaderHold}
-use Rattle.lq_server.specs.Headline.{updates_upto, result_after, AreNumbered, IsMarkAfter, EndsWhole, ReaderIsTold, IsAnswered, AreAnswers, update_in, updates_in, HasMark, AnswersAreTold}
+use Rattle.lq_server.specs.Headline.{updates_upto, result_after, AreNumbered, IsMarkAfter, EndsWhole, ReaderIsTold, IsAnswered, AreAnswers, update_in, updates_read, ReadsHaveMark, AnswersAreTold}
 use Rattle.lq_server.proofs.ParcelLemmas.{extends_trans}
 use Rattle.lq_server.proofs.OwnLemmas.{received_front}
 
@@ -164,7 +164,7 @@ gives_one old new Ended g = ap received g.0 ∙ sym (append-nil (received old))
 
 -- what all answers leave: their messages were received, over a longer book, from the same port
 answers-grow : (old new : ReadingHold) (answers : List Read) → AreAnswers old answers new
-    → (received new ≡ received old ++ updates_in answers) × Extends (known new) (known old)
+    → (received new ≡ received old ++ updates_read answers) × Extends (known new) (known old)
     × (new.port.floor ≡ old.port.floor)
 answers-grow old new [] h = (h.received ∙ sym (append-nil (received old)), h.known, h.port.2)
 answers-grow old new (a ∷ answers) h =
@@ -174,8 +174,8 @@ answers-grow old new (a ∷ answers) h =
     let one : received next ≡ received old ++ update_in a =
     gives_one mid next a h.3.gives
     ∙ ap (λ (l : List Message). l ++ update_in a) h.2.received in (
-      rest.0 ∙ ap (λ (l : List Message). l ++ updates_in answers) one
-          ∙ append_assoc (received old) (update_in a) (updates_in answers),
+      rest.0 ∙ ap (λ (l : List Message). l ++ updates_read answers) one
+          ∙ append_assoc (received old) (update_in a) (updates_read answers),
       extends_trans (known old) (known next) (known new)
           (extends_trans (known old) (known mid) (known next) h.2.known h.3.known) rest.1,
       rest.2 ∙ h.3.port.2 ∙ h.2.port.2,
@@ -201,7 +201,7 @@ marks-stay old new (a ∷ answers) h k is =
 
 -- answers after the mark that have no message are all `Ended`
 all_ended : (old new : ReadingHold) (answers : List Read) → AreAnswers old answers new
-    → (k : Mark) → mark_read old ≡ Some k → updates_in answers ≡ []
+    → (k : Mark) → mark_read old ≡ Some k → updates_read answers ≡ []
     → AllByRecursion (λ a. a ≡ Ended) answers
 all_ended old new [] h k is none = tt
 all_ended old new (Update m ∷ answers) h k is none = absurd (cc)
@@ -228,7 +228,7 @@ split old new (b ∷ front) a rest h =
 
 -- a mark that is read is among the answers
 has_mark : (old new : ReadingHold) (answers : List Read) → AreAnswers old answers new
-    → mark_read old ≡ None → IsSome (mark_read new) → HasMark answers
+    → mark_read old ≡ None → IsSome (mark_read new) → ReadsHaveMark answers
 has_mark old new [] h none some =
     absurd (true≢false (sym (subst IsSome (h.mark ∙ none) some)))
 has_mark old new (Update m ∷ answers) h none some =
@@ -242,12 +242,12 @@ has_mark old new (Ended ∷ answers) h none some =
     absurd (true≢false (sym (subst IsSome (h.2.mark ∙ none) h.3.gives.2)))
 
 -- the messages of answers and of more
-updates_in-append : (front rest : List Read)
-    → updates_in (front ++ rest) ≡ updates_in front ++ updates_in rest
-updates_in-append [] rest = refl
-updates_in-append (a ∷ front) rest =
-    ap (λ (l : List Message). update_in a ++ l) (updates_in-append front rest)
-    ∙ sym (append_assoc (update_in a) (updates_in front) (updates_in rest))
+updates_read-append : (front rest : List Read)
+    → updates_read (front ++ rest) ≡ updates_read front ++ updates_read rest
+updates_read-append [] rest = refl
+updates_read-append (a ∷ front) rest =
+    ap (λ (l : List Message). update_in a ++ l) (updates_read-append front rest)
+    ∙ sym (append_assoc (update_in a) (updates_read front) (updates_read rest))
 
 -- a list of no length is empty
 no_length : (xs : List Message) → length xs ≡ 0 → xs ≡ []
@@ -257,15 +257,15 @@ no_length (x ∷ xs) e = absurd (omega arith)
 module _ (first last : ReadingHold) (answers : List Read) (empty : received first ≡ [])
     (h : AreAnswers first answers last) where
   -- the messages of the answers are what was received
-  got_all : received last ≡ updates_in answers
+  got_all : received last ≡ updates_read answers
   got_all =
       (answers-grow first last answers h).0
-      ∙ ap (λ (l : List Message). l ++ updates_in answers) empty
+      ∙ ap (λ (l : List Message). l ++ updates_read answers) empty
 
   -- the mark among the answers, and what is before and after it
   mark_at : EndsWhole last → (front rest : List Read) (k : Mark)
       → answers ≡ front ++ Fin k ∷ rest
-      → IsMarkAfter last.port.floor (known last) (updates_in front) k
+      → IsMarkAfter last.port.floor (known last) (updates_read front) k
       × AllByRecursion (λ a. a ≡ Ended) rest
   mark_at ends front rest k is =
       let s = split first last front (Fin k) rest
@@ -275,17 +275,17 @@ module _ (first last : ReadingHold) (answers : List Read) (empty : received firs
       let g = s.3.gives in
       let before = answers-grow first mid front s.2 in
       let after = answers-grow next last rest s.4 in
-      let front_is : received next ≡ updates_in front =
-      g.0 ∙ before.0 ∙ ap (λ (l : List Message). l ++ updates_in front) empty in
+      let front_is : received next ≡ updates_read front =
+      g.0 ∙ before.0 ∙ ap (λ (l : List Message). l ++ updates_read front) empty in
       let whole : IsMarkAfter last.port.floor (known last) (received last) k =
       ends k (marks-stay next last rest s.4 k g.3) in
       let one : k.seq ≡ length (received next) + 1 = g.4.seq in
       let two : k.seq ≡ length (received last) + 1 = whole.seq in
-      let long : length (received last) ≡ length (received next) + length (updates_in rest) =
+      let long : length (received last) ≡ length (received next) + length (updates_read rest) =
       ap (length {A = Message}) after.0
-      ∙ length-append (received next) (updates_in rest) in
-      let none : updates_in rest ≡ [] = no_length (updates_in rest) (omega arith) in
-      let all : received last ≡ updates_in front =
+      ∙ length-append (received next) (updates_read rest) in
+      let none : updates_read rest ≡ [] = no_length (updates_read rest) (omega arith) in
+      let all : received last ≡ updates_read front =
       after.0 ∙ ap (λ (l : List Message). received next ++ l) none
       ∙ append-nil (received next) ∙ front_is in (
         subst (λ (l : List Message). IsMarkAfter last.port.floor (known last) l k) all whole,
@@ -312,13 +312,13 @@ answers_told folds wholes first last answers empty none h told =
             (subst (λ (l : List Read). AreAnswers first.reading l last.reading) is h) in
             has_mark first.reading s.0 front s.2 none s.3.gives.2;
         folding = λ front rest is settled.
-            let more = updates_in rest ++ told.prefix.0 in
-            let split_is : updates_in front ++ more ≡ updates_upto f b (length b.changes) =
-            sym (append_assoc (updates_in front) (updates_in rest) told.prefix.0)
+            let more = updates_read rest ++ told.prefix.0 in
+            let split_is : updates_read front ++ more ≡ updates_upto f b (length b.changes) =
+            sym (append_assoc (updates_read front) (updates_read rest) told.prefix.0)
             ∙ ap (λ (l : List Message). l ++ told.prefix.0)
-            (sym (updates_in-append front rest) ∙ ap updates_in (sym is) ∙ sym got)
+            (sym (updates_read-append front rest) ∙ ap updates_read (sym is) ∙ sym got)
             ∙ told.prefix.1 in
-            folds (query_of f) f.moved b f.opened (length b.changes) (updates_in front)
+            folds (query_of f) f.moved b f.opened (length b.changes) (updates_read front)
             told.book.start told.book.lawful (omega arith) (omega arith) (more, split_is) settled;
         closing = λ front rest k is.
             let m = (marks front rest k is).0 in

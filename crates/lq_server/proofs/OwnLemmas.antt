@@ -9,7 +9,7 @@ use Rattle.lq_predicate.specs.Query.{Query}
 use Rattle.lq_volume.specs.State.{State}
 use Rattle.lq_volume.specs.Book.{Book, Extends}
 use Rattle.lq_server_slots.specs.Events.{opening_refusals}
-use Rattle.lq_board.specs.declared.views.Author.{Author}
+use Rattle.lq_board.specs.declared.token_views.Author.{Author}
 use Rattle.lq_board.specs.Token.{BoardName, SeatToken}
 use Rattle.lq_update.specs.declared.message.Message.{Message}
 use Rattle.lq_update.specs.declared.parcel.Parcel.TheVariants.{Update as update}
@@ -21,13 +21,13 @@ use Rattle.lq_server_slots.specs.declared.delivery.Opening.{Opening}
 use Rattle.lq_server_slots.specs.declared.identity.Identity.{Identity}
 use Rattle.lq_server_slots.specs.declared.identity.FirstClose.{FirstClose}
 use Rattle.lq_server_slots.specs.Identity.{port_id}
-use Rattle.lq_server_slots.specs.Rule.{query_of, whole, messages_in}
+use Rattle.lq_server_slots.specs.Rule.{query_of, all_updates, messages_in}
 use Rattle.lq_server_slots.specs.Reading.{ReadingHold, Gives, Fails, IsTold, known, received, is_marked, mark_read, what_of}
 use Rattle.lq_server_slots.specs.declared.subscription.Subscription.{Subscription}
 use Rattle.lq_server_slots.specs.declared.open.Opened.{Opened}
 use Rattle.lq_server_slots.specs.declared.slots.ServerSlots.{ServerSlots}
-use Rattle.lq_server_slots.specs.Slots.{SameButKnown, SlotsStand, is_full, slot_in}
-use Rattle.lq_server_slots.specs.Opening.{IdentityFits, IsNamed, IsOpened, IsOpeningTabled, asks_after, name_or}
+use Rattle.lq_server_slots.specs.Slots.{SameButKnown, AreConsistent, has_no_free, slot_in}
+use Rattle.lq_server_slots.specs.Opening.{IdentityFits, IsOpenedName, IsOpened, IsOpeningTabled, asks_after, name_or}
 use Rattle.lq_server.specs.Hold.{ReaderHold}
 use Rattle.lq_server.specs.Own.{IsOwn, StaysOwn}
 use Rattle.lq_server.specs.Closed.{IsCloseAnswer, IsClosing}
@@ -255,7 +255,7 @@ new_reader o board book q mv port backlog s = record {
     low = s.low;
     high = s.high;
     slot = s.slot_is;
-    name = and_then o.seat.name (λ t. IsNamed t o backlog)
+    name = and_then o.seat.name (λ t. IsOpenedName t o backlog)
         (IsNameOf (hold o.reading o.seat o.slot false)) (λ t n. (n.fits, n.asks, n.few)) s.named;
   };
   hang_up_asked = refl;
@@ -265,7 +265,7 @@ new_reader o board book q mv port backlog s = record {
 -- what slots answered before a seat met the keeper, those after it answer as well
 pub answered_over : (old under : ServerSlots) (start : State) (was now : SeatToken Identity)
     (port backlog : ℕ) (result : Result ReaderHold Refusal) → SameButKnown old under
-    → SlotsStand under under.keeper.book → now ≡ record was { book = old.keeper.book }
+    → AreConsistent under under.keeper.book → now ≡ record was { book = old.keeper.book }
     → old.openings ≤ start.limit → IsOpeningTabled old start.limit port backlog result
     → IfOk result (λ (r : ReaderHold).
     (j : ℕ) → 0 < j → j < r.slot → IsSome (slot_in old.subscriptions.items j))
@@ -277,15 +277,16 @@ answered_over old under start was now port backlog result same stands seat withi
     same.book ∙ sym (ap (λ (s : SeatToken Identity). s.book) seat) in
     let items : old.subscriptions.items ≡ under.subscriptions.items =
     λ i. (sym same.subscriptions i).items in
-    let tests : first_refusal (opening_refusals (is_full old.subscriptions.items) old.openings
+    let tests : first_refusal (opening_refusals (has_no_free old.subscriptions.items) old.openings
     start.limit port backlog)
-    ≡ first_refusal (opening_refusals (is_full under.subscriptions.items) under.openings
+    ≡ first_refusal (opening_refusals (has_no_free under.subscriptions.items) under.openings
     start.limit port backlog) =
-    λ i. first_refusal (opening_refusals (is_full (items i)) (sym same.openings i) start.limit port
+    λ i. first_refusal (opening_refusals (has_no_free (items i)) (sym same.openings i)
+    start.limit port
     backlog) in
     record {
       keeps = keeps;
-      stands = subst (SlotsStand under) keeps stands;
+      stands = subst (AreConsistent under) keeps stands;
       openings = subst (λ (n : ℕ). n ≤ start.limit) (sym same.openings) within;
       table = subst (IsRefusedBy result) tests table;
       lowest = subst
@@ -297,7 +298,7 @@ answered_over old under start was now port backlog result same stands seat withi
 
 -- what was received is a front of the updates over the known book
 pub received_front : (r : ReadingHold) → IsTold r
-    → IsPrefix (received r) (whole r.port.floor (known r))
+    → IsPrefix (received r) (all_updates r.port.floor (known r))
 received_front r told =
     let hand : List Message = option_to_list r.hand in
     let front = told.legal_list.front in (

@@ -10,7 +10,7 @@ use Rattle.lq_port.specs.End.{all_put}
 use Rattle.lq_server_slots.specs.declared.delivery.Delivery.{Delivery}
 use Rattle.lq_server_slots.specs.declared.subscription.Subscription.{Subscription}
 use Rattle.lq_server_slots.specs.Rule.{book_of, message_of, mark_or, messages_in, mark_in, last_book}
-use Rattle.lq_server_slots.specs.Standing.{moved_mark, StandsAt}
+use Rattle.lq_server_slots.specs.Standing.{moved_mark, IsConsistentAt}
 
 -- a book extends itself
 pub extends_self : (b : Book) → Extends b b
@@ -104,7 +104,7 @@ moved_mark-some true o k e = e
 moved_mark-some false o k e = absurd (cc)
 
 -- while a message is held, no mark was put
-pub held_unmoved : (s : Subscription) (book : Book) → StandsAt s book
+pub held_unmoved : (s : Subscription) (book : Book) → IsConsistentAt s book
     → 0 < length s.sub.held.messages → mark_in (all_put s.input) ≡ None
 held_unmoved s book stands some =
     stands.out

@@ -21,12 +21,12 @@ use Rattle.lq_server_slots.specs.LegalList.{known_by}
 use Rattle.lq_server_slots.specs.Marking.{hung_mark}
 use Rattle.lq_server_slots.specs.Identity.{identity_of, port_id}
 use Rattle.lq_server_slots.specs.Reading.{received, ready, mark_read, what_of, IsTold}
-use Rattle.lq_server_slots.specs.Standing.{given, upto, moved_mark, IsOut, FirstCloseFits, IsOverrun, IsStill, seen_of, told_by}
+use Rattle.lq_server_slots.specs.Standing.{messages_given, upto, moved_mark, IsOut, FirstCloseFits, IsOverrun, StaysTrue, seen_of, told_by}
 use Rattle.lq_server.specs.Own.{IsOwn}
 use Rattle.lq_server_slots.specs.Opening.{IdentityFits, asks_after, name_or}
 use Rattle.lq_server_slots.specs.Progress.{ShowsProgress}
 use Rattle.lq_server_slots.specs.declared.sync.Progress.{Progress}
-use Rattle.lq_server.specs.Syncing.{bit, in_port, fin_list, IsSynced}
+use Rattle.lq_server.specs.Syncing.{bit, is_mark_in_port, fin_list, IsSynced}
 use Rattle.lq_server.specs.Hold.{ReaderHold}
 use Rattle.lq_server.specs.declared.server.Synced.{Synced}
 use Rattle.lq_server.proofs.ParcelLemmas.{extends_self, extends_trans, messages_in-append, mark_in-append, mark_in-second, mark_in-first, last_book-snoc, messages_in-length, moved_mark-some, held_unmoved}
@@ -181,7 +181,7 @@ module _ (s : Subscription) (old new : ReaderHold) (l : Progress)
   w = option_to_list new.reading.hand ++ messages_in e.ahead
 
   -- with what is held they are all that was given
-  given_is : received new.reading ++ w ++ s.sub.held.messages ≡ given s.sub.held s.input
+  given_is : received new.reading ++ w ++ s.sub.held.messages ≡ messages_given s.sub.held s.input
   given_is =
       ap (λ m. m ++ s.sub.held.messages)
       (sym (append_assoc (received new.reading) (option_to_list new.reading.hand)
@@ -198,7 +198,7 @@ module _ (s : Subscription) (old new : ReaderHold) (l : Progress)
       let number = lv.stands.full.number in
       let most = lv.stands.full.state.numbered.number in
       let limit = lv.stands.full.state.numbered.limit in
-      let count : length (given s.sub.held s.input)
+      let count : length (messages_given s.sub.held s.input)
       ≡ length (received new.reading) + length w + length s.sub.held.messages =
       ap (length {A = Message}) (sym given_is)
       ∙ length-append (received new.reading ++ w) s.sub.held.messages
@@ -211,7 +211,7 @@ module _ (s : Subscription) (old new : ReaderHold) (l : Progress)
 
   -- whether the mark waits in the port
   in_port_is : (ended : Option Mark) → mark_in e.taken ≡ ended
-      → is_some (mark_in e.ahead) ≡ in_port s.sub.held.mark_out (is_some ended)
+      → is_some (mark_in e.ahead) ≡ is_mark_in_port s.sub.held.mark_out (is_some ended)
   in_port_is None none =
       let here : mark_in e.ahead ≡ moved_mark s.sub.held.mark_out s.sub.held.mark =
       sym (mark_in-append e.taken e.ahead none) ∙ mark_put in
@@ -219,7 +219,7 @@ module _ (s : Subscription) (old new : ReaderHold) (l : Progress)
       ∙ moved_mark-is_some s.sub.held.mark_out s.sub.held.mark (λ o. (lv.stands.done o).1)
       ∙ at s.sub.held.mark_out
     where
-      at : (b : Bool) → b ≡ in_port b false
+      at : (b : Bool) → b ≡ is_mark_in_port b false
       at true = refl
       at false = refl
   in_port_is (Some k) there =
@@ -227,12 +227,13 @@ module _ (s : Subscription) (old new : ReaderHold) (l : Progress)
       (mark_ends e.floor e.taken e.ahead k lv.legal there)
       ∙ at s.sub.held.mark_out
     where
-      at : (b : Bool) → false ≡ in_port b true
+      at : (b : Bool) → false ≡ is_mark_in_port b true
       at true = refl
       at false = refl
 
   -- the updates that wait, with the mark where it waits, are the parcels and the message in hand
-  pub waiting_is : length w + bit (in_port s.sub.held.mark_out (is_some (mark_read new.reading)))
+  pub waiting_is : length w + bit (is_mark_in_port s.sub.held.mark_out
+      (is_some (mark_read new.reading)))
       ≡ length e.ahead + bit (is_some new.reading.hand)
   waiting_is =
       let here = all_wait e.floor e.taken e.ahead lv.legal in
@@ -243,7 +244,7 @@ module _ (s : Subscription) (old new : ReaderHold) (l : Progress)
       map-length {A = Message} {B = Parcel} (λ m. Update m) (messages_in e.ahead) i
       + fin_list-length (mark_in e.ahead) i) in
       let mark : bit (is_some (mark_in e.ahead))
-      ≡ bit (in_port s.sub.held.mark_out (is_some (mark_in e.taken))) =
+      ≡ bit (is_mark_in_port s.sub.held.mark_out (is_some (mark_in e.taken))) =
       ap bit (in_port_is (mark_in e.taken) refl) in
       let hand = hand-length new.reading.hand in
       omega (arith, length-append (option_to_list new.reading.hand) (messages_in e.ahead))
@@ -255,17 +256,17 @@ module _ (s : Subscription) (old new : ReaderHold) (l : Progress)
         arith,
         few_waiting,
         waiting_is,
-        bit-few (in_port s.sub.held.mark_out (is_some (mark_read new.reading))),
+        bit-few (is_mark_in_port s.sub.held.mark_out (is_some (mark_read new.reading))),
       )
 
   -- a mark that waits is one of the parcels in the port, or one is in hand
-  pub marks_few : bit (in_port s.sub.held.mark_out (is_some (mark_read new.reading)))
+  pub marks_few : bit (is_mark_in_port s.sub.held.mark_out (is_some (mark_read new.reading)))
       ≤ length e.ahead + bit (is_some new.reading.hand)
   marks_few = omega (arith, waiting_is)
 
   -- what is so counted is the number of updates that wait
   pub w_is : (n : ℕ)
-      → n + bit (in_port s.sub.held.mark_out (is_some (mark_read new.reading)))
+      → n + bit (is_mark_in_port s.sub.held.mark_out (is_some (mark_read new.reading)))
       ≡ length e.ahead + bit (is_some new.reading.hand)
       → n ≡ length w
   w_is n is = omega (arith, waiting_is)
@@ -366,8 +367,8 @@ module _ (s : Subscription) (old new : ReaderHold) (l : Progress)
               told = told_by (sym change i) (length e.taken) (sym mk i);
             }));
         still =
-            subst (λ o. IsSomeAnd o (λ t. IsStill t.told x.mark x.change)) (sym name_is)
-            (subst (λ (z : Option Mark × ℕ). IsStill s.told.value z.0 z.1)
+            subst (λ o. IsSomeAnd o (λ t. StaysTrue t.told x.mark x.change)) (sym name_is)
+            (subst (λ (z : Option Mark × ℕ). StaysTrue s.told.value z.0 z.1)
             (λ i. (sym mk i, sym number i)) lv.stands.still);
         later = lv.later;
         knows =

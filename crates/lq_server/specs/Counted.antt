@@ -32,8 +32,8 @@ pub record Call : Type 0 where
   pub after : Book
 
 -- the numbers that calls were answered
-abbrev pub answers_of : List Call → List ℕ
-answers_of calls = map (λ c. c.answer.change) calls
+abbrev pub numbers_answered : List Call → List ℕ
+numbers_answered calls = map (λ c. c.answer.change) calls
 
 -- `apply` answered the call, and this book extends what the seat then knew
 pub record IsCallIn (book : Book) (call : Call) : Type 0 where
@@ -46,12 +46,12 @@ pub record IsOneCalls (book : Book) (calls : List Call) (n : ℕ) : Type 0 where
   pub among : Contains calls call
   pub number : call.answer.change ≡ n + 1
   pub place : slice_get book.changes n ≡ Some call.change
-  pub once : times (n + 1) (answers_of calls) ≡ 1
+  pub once : times (n + 1) (numbers_answered calls) ≡ 1
 
 -- where calls were answered the numbers of a book's changes, each once, each change of the book is
 -- that of one call
 abbrev pub CallsMakeTheBook : Type 0
 CallsMakeTheBook =
     (book : Book) (calls : List Call) → All (IsCallIn book) calls
-    → ((x : ℕ) → times x (answers_of calls) ≡ times x (numbers (length book.changes)))
+    → ((x : ℕ) → times x (numbers_answered calls) ≡ times x (numbers (length book.changes)))
     → (n : ℕ) → n < length book.changes → IsOneCalls book calls n

@@ -94,33 +94,33 @@ update_in (Fin k) = []
 update_in Empty = []
 update_in Ended = []
 
-abbrev pub updates_in : List Read → List Message
-updates_in [] = []
-updates_in (a ∷ answers) = update_in a ++ updates_in answers
+abbrev pub updates_read : List Read → List Message
+updates_read [] = []
+updates_read (a ∷ answers) = update_in a ++ updates_read answers
 
 -- the mark is among them
-abbrev pub HasMark : List Read → Type 0
-HasMark answers =
+abbrev pub ReadsHaveMark : List Read → Type 0
+ReadsHaveMark answers =
     (k : Mark) × (front : List Read) × (rest : List Read) × (answers ≡ front ++ Fin k ∷ rest)
 
 -- What the reads of a subscription answer, over a book.
 pub record AnswersTell (f : Opening) (b : Book) (answers : List Read) : Type 0 where
   -- the messages are a prefix of the query's update list, each once and in order
-  pub prefix : IsPrefix (updates_in answers) (updates_upto f b (length b.changes))
-  pub once : AreNumbered 1 (updates_in answers)
+  pub prefix : IsPrefix (updates_read answers) (updates_upto f b (length b.changes))
+  pub once : AreNumbered 1 (updates_read answers)
   -- the mark comes after the whole list up to the change that it names, and only `Ended` after it
   pub mark : (front rest : List Read) (k : Mark) → answers ≡ front ++ Fin k ∷ rest
-      → IsMarkAfter f b (updates_in front) k × AllByRecursion (λ a. a ≡ Ended) rest
+      → IsMarkAfter f b (updates_read front) k × AllByRecursion (λ a. a ≡ Ended) rest
   -- `Ended` comes only after the mark
-  pub ended : (front rest : List Read) → answers ≡ front ++ Ended ∷ rest → HasMark front
+  pub ended : (front rest : List Read) → answers ≡ front ++ Ended ∷ rest → ReadsHaveMark front
   -- after each message that is the last of its change, folding the messages into the opening's
   -- result gives the result after that change
-  pub folding : (front rest : List Read) → answers ≡ front ++ rest → IsSettled (updates_in front)
-      → folded (result_after f b f.opened) (updates_in front)
-      ≡ result_after f b (last_change f.opened (updates_in front))
+  pub folding : (front rest : List Read) → answers ≡ front ++ rest → IsSettled (updates_read front)
+      → folded (result_after f b f.opened) (updates_read front)
+      ≡ result_after f b (last_change f.opened (updates_read front))
   -- before the mark, folding gives the result after the change that the mark names
   pub closing : (front rest : List Read) (k : Mark) → answers ≡ front ++ Fin k ∷ rest
-      → folded (result_after f b f.opened) (updates_in front) ≡ result_after f b k.change
+      → folded (result_after f b f.opened) (updates_read front) ≡ result_after f b k.change
 
 -- For a reader that had received nothing, and whose reads then gave these answers: it has received
 -- the messages among them, and `AnswersTell` holds over the book that it knows.
@@ -129,5 +129,5 @@ AnswersAreTold =
     (first last : ReaderHold) (answers : List Read) → received first.reading ≡ []
     → mark_read first.reading ≡ None → AreAnswers first.reading answers last.reading
     → ReaderIsTold last
-    → (received last.reading ≡ updates_in answers)
+    → (received last.reading ≡ updates_read answers)
     × AnswersTell last.reading.port.floor (known last.reading) answers

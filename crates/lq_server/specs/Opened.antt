@@ -8,7 +8,7 @@ use Rattle.lq_board.specs.Token.{BoardName}
 use Rattle.lq_server_slots.specs.declared.open.Opened.{Opened}
 use Rattle.lq_server_slots.specs.declared.slots.ServerSlots.{ServerSlots}
 use Rattle.lq_server_slots.specs.Opening.{IsOpened, IsOpeningTabled}
-use Rattle.lq_server_slots.specs.Slots.{SlotsStand, slot_in}
+use Rattle.lq_server_slots.specs.Slots.{AreConsistent, slot_in}
 use Rattle.lq_server.specs.Hold.{ReaderHold}
 use Rattle.lq_server.specs.Own.{IsOwn}
 
@@ -29,7 +29,7 @@ pub record IsNewReader (r : ReaderHold) (board : BoardName) (book : Book) (q : Q
 pub record IsAnsweredOver (under : ServerSlots) (start : State) (book : Book) (port backlog : ℕ)
     (result : Result ReaderHold Refusal) : Type 0 where
   pub keeps : under.keeper.book ≡ book
-  pub stands : SlotsStand under book
+  pub stands : AreConsistent under book
   pub openings : under.openings ≤ start.limit
   pub table : IsOpeningTabled under start.limit port backlog result
   pub lowest : IfOk result (λ r.

@@ -12,12 +12,12 @@ use Rattle.lq_update.specs.declared.parcel.Parcel.{Parcel}
 use Rattle.lq_update.specs.declared.parcel.Parcel.TheVariants.{Update, Fin}
 use Rattle.lq_port.specs.End.{IsSamePort}
 use Rattle.lq_server_slots.specs.Updates.{updates}
-use Rattle.lq_server_slots.specs.Rule.{query_of, whole, IsMark}
+use Rattle.lq_server_slots.specs.Rule.{query_of, all_updates, IsMark}
 use Rattle.lq_server_slots.specs.Marking.{hung_mark}
 use Rattle.lq_desk_sub.specs.declared.read.Read.{Read}
 use Rattle.lq_desk_sub.specs.declared.read.Read.TheVariants.{Empty, Ended}
 use Rattle.lq_server_slots.specs.Reading.{known, received, ready, mark_read, is_marked, Gives, Fails}
-use Rattle.lq_server_slots.specs.Standing.{upto, FirstCloseFits, IsOverrun, IsStill, seen_of, told_by}
+use Rattle.lq_server_slots.specs.Standing.{upto, FirstCloseFits, IsOverrun, StaysTrue, seen_of, told_by}
 use Rattle.lq_server_slots.specs.Opening.{name_or}
 use Rattle.lq_server.specs.Own.{IsOwn}
 use Rattle.lq_server.specs.Hold.{ReaderHold}
@@ -29,7 +29,7 @@ fin_list None = []
 fin_list (Some k) = Fin k ∷ []
 
 -- the messages that wait are w, and those that are held are h
-pub record IsListed (r : ReaderHold) (x : Synced) (w h : List Message) : Type 0 where
+pub record ListsMessages (r : ReaderHold) (x : Synced) (w h : List Message) : Type 0 where
   pub wait : length w ≡ x.waiting
   pub hold : length h ≡ x.held
   pub all : received r.reading ++ w ++ h
@@ -67,14 +67,14 @@ pub record IsSynced (old new : ReaderHold) (x : Synced) : Type 0 where
       ≡ Some (record (name_or old.seat.name) {
         told = told_by x.change (length new.reading.port.taken) x.mark;
       })
-  pub still : IsSomeAnd old.seat.name (λ t. IsStill t.told x.mark x.change)
+  pub still : IsSomeAnd old.seat.name (λ t. StaysTrue t.told x.mark x.change)
   pub later : Extends new.seat.book old.seat.book
   pub knows : Extends new.seat.book (known old.reading)
   pub lawful : IsFullBook new.seat.book
   pub number : x.change ≡ length new.seat.book.changes
   pub w : List Message
   pub h : List Message
-  pub lists : IsListed new x w h
+  pub lists : ListsMessages new x w h
   -- what was known to wait waits still
   pub ready_stays : IsPrefix (ready old.reading) (ready new.reading)
   -- what waits is within the port but for a message in hand, and what is held within the backlog
@@ -91,10 +91,10 @@ pub record IsSynced (old new : ReaderHold) (x : Synced) : Type 0 where
       k.change))
 
 -- the mark is in the port where it was put and wasn't read
-abbrev pub in_port : Bool → Bool → Bool
-in_port true false = true
-in_port true true = false
-in_port false b = false
+abbrev pub is_mark_in_port : Bool → Bool → Bool
+is_mark_in_port true false = true
+is_mark_in_port true true = false
+is_mark_in_port false b = false
 
 -- a read after the pump of its slot, or after the mark
 abbrev pub IsRead : ReaderHold → ReaderHold → Read → Type 0
@@ -119,7 +119,7 @@ pub record IsWaitingRead (old new : ReaderHold) (result : Result Read Refusal) :
   pub rest : new ≡ record old { reading = new.reading; seat = new.seat }
   pub port : IsSamePort old.reading.port new.reading.port
   pub received : IsPrefix (received new.reading)
-      (whole new.reading.port.floor (known new.reading))
+      (all_updates new.reading.port.floor (known new.reading))
   pub known : Extends (known new.reading) (known old.reading)
   pub refused : FailsOnlyForMemory result
   pub gives : IfOk result (IsRead old new)

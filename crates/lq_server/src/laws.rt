@@ -5,7 +5,7 @@ ghost use Rattle.lq_server.specs.Headline.{AnswersAreTold};
 ghost use Rattle.lq_server.specs.Laws.{FirstClosesAreRefusedLate, WaitingReadsAnswer};
 ghost use Rattle.lq_server.specs.contracts.server.Server as servers;
 
-use crate::named::Named;
+use crate::server_base::Named;
 use lq_board::{Board, Keeper};
 use lq_desk_sub::Sub;
 use lq_port::PortIn;

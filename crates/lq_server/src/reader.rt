@@ -8,15 +8,15 @@ ghost use Rattle.lq_volume.specs.Result.{result_of};
 ghost use Rattle.lq_update.specs.Fold.{EntriesRise, folded, last_change};
 ghost use Rattle.lq_update.specs.Updates.{IsSettled};
 ghost use Rattle.lq_port.specs.End.{IsSamePort};
-ghost use Rattle.lq_server_slots.specs.Rule.{query_of, whole};
+ghost use Rattle.lq_server_slots.specs.Rule.{query_of, all_updates};
 ghost use Rattle.lq_server_slots.specs.Reading.{Gives, Fails, known, received, mark_read, opening_of};
 ghost use Rattle.lq_server.specs.Own.{IsOwn};
 ghost use Rattle.lq_server.specs.Lending.{LendsSeat};
 ghost use Rattle.lq_server.specs.Syncing.{IsWaitingRead};
 ghost use Rattle.lq_server.specs.Headline.{ReaderIsTold};
 
-use crate::named::{Named, Seat};
 use crate::server::Server;
+use crate::server_base::{Named, Seat};
 use lq_desk_sub::Read;
 use lq_server_slots::{Reading, books_extend_themselves};
 use lq_value::{Entry, Refusal};
@@ -120,7 +120,7 @@ impl Reader {
         ensures port { IsSamePort self.old.reading.port self.new.reading.port }
         ensures known { Extends (known self.new.reading) (known self.old.reading) }
         ensures received { IsPrefix (received self.new.reading)
-            (whole self.new.reading.port.floor (known self.new.reading)) }
+            (all_updates self.new.reading.port.floor (known self.new.reading)) }
         ensures gives { IfOk result (Gives self.old.reading self.new.reading) }
         ensures fails { OnErr result (Fails self.old.reading self.new.reading) }
         ensures over { IsSome (mark_read self.old.reading) → result ≡ Ok Read.Ended }

@@ -3,14 +3,14 @@ ghost use Rattle.std.specs.Prelude.{◌≡◌, ◌≢◌, [], ◌∷◌, length,
 ghost use Rattle.lq_value.specs.declared.refusal.Refusal.TheVariants.{NoSeat};
 ghost use Rattle.lq_volume.specs.Book.{Extends};
 ghost use Rattle.lq_board.specs.Author.{AreDisjoint, IsWhole, with_roll, with_signs};
-ghost use Rattle.lq_board.specs.Roll.{IsMerged, without};
+ghost use Rattle.lq_board.specs.Roll.{IsMerged, without_number};
 ghost use Rattle.lq_board.specs.Token.{counted_board};
 ghost use Rattle.lq_server.specs.Counted.{leading_seat};
 ghost use Rattle.lq_server.specs.Own.{StaysOwn};
 ghost use Rattle.lq_server.specs.Retired.{IsRetired};
 
-use crate::locked::Locked;
-use crate::named::{Base, Named, Seat};
+use crate::server_base::{Base, Named, Seat};
+use crate::server_state::ServerState;
 use lq_board::Board;
 use lq_server_slots::Identity;
 use lq_update::Mark;
@@ -49,7 +49,7 @@ pub struct Retired {
 ///
 /// Threads share it by reference. Contracts see which board it has: the one that N names.
 pub struct Server<N: Named> {
-    pub(crate) state: Mutex<Locked<N>>,
+    pub(crate) state: Mutex<ServerState<N>>,
     pub(crate) board: Board<Identity>,
 }
 
@@ -161,7 +161,7 @@ impl<N: Named> Server<N> {
             head.new.author.gathered }
         ensures head { head.new ≡ record head.old {
           author = with_roll head.old.author
-              (without other.old.author.number head.old.author.enlisted)
+              (without_number other.old.author.number head.old.author.enlisted)
               head.new.author.gathered;
         } }
         ensures other { other.new ≡ record other.old {

@@ -3,19 +3,19 @@ ghost use Rattle.std.specs.Prelude.{◌≡◌, ◌+◌, ◌<◌, ◌≤◌, ◌^
 ghost use Rattle.lq_value.specs.declared.refusal.Refusal.TheVariants.{StillOpen};
 ghost use Rattle.lq_volume.specs.Book.{Extends};
 ghost use Rattle.lq_server_slots.specs.Reading.{is_marked};
-ghost use Rattle.lq_server_slots.specs.Opening.{IsOpeningRefused, opening_refusal};
+ghost use Rattle.lq_server_slots.specs.Opening.{IsOpeningRefused, size_refusal};
 ghost use Rattle.lq_server.specs.declared.server.Synced.{Synced as SyncedOf};
 ghost use Rattle.lq_server_slots.specs.declared.slots.ServerSlots.{ServerSlots as SlotsOf};
 ghost use Rattle.lq_server.specs.Closed.{IsCloseAnswer};
 ghost use Rattle.lq_server.specs.Opened.{IsAnsweredOver, IsNewReader};
 ghost use Rattle.lq_server.specs.Own.{IsOwn, StaysOwn};
-ghost use Rattle.lq_server.specs.Syncing.{IsSynced, bit, in_port};
+ghost use Rattle.lq_server.specs.Syncing.{IsSynced, bit, is_mark_in_port};
 
-use crate::named::{Named, Seat};
 use crate::reader::Reader;
 use crate::server::{Server, Synced};
+use crate::server_base::{Named, Seat};
 use lq_predicate::Predicate;
-use lq_server_slots::Asked;
+use lq_server_slots::OpenRequest;
 use lq_value::Refusal;
 use std::sync::Wait;
 
@@ -44,14 +44,14 @@ impl<N: Named> Server<N> {
             IsNewReader r N.board seat.new.book predicate.now moved port backlog) }
 
         // The numbers are checked first, by their bounds alone.
-        ensures refused { IfSome (opening_refusal port backlog) (λ e. result ≡ Err e) }
-        ensures others { IfNone (opening_refusal port backlog) (IfErr result IsOpeningRefused) }
+        ensures refused { IfSome (size_refusal port backlog) (λ e. result ≡ Err e) }
+        ensures others { IfNone (size_refusal port backlog) (IfErr result IsOpeningRefused) }
 
         // The first that fits, by the slots that stood under the lock then, and no other.
         ensures table { (under : SlotsOf)
             × IsAnsweredOver under N.start seat.new.book port backlog result }
     {
-        let asked = Asked {
+        let asked = OpenRequest {
             predicate,
             port,
             backlog,
@@ -153,9 +153,9 @@ impl<N: Named> Server<N> {
 // `in_hand` says whether a message was taken and isn't folded yet, `out` whether the mark was put,
 // and `ended` whether the mark was read.
 fn waiting(parcels: u64, in_hand: bool, out: bool, ended: bool) -> u64
-    requires marks { bit (in_port out ended) ≤ parcels + bit in_hand }
+    requires marks { bit (is_mark_in_port out ended) ≤ parcels + bit in_hand }
     requires few { parcels < 2 ^ 63 }
-    ensures { result + bit (in_port out ended) ≡ parcels + bit in_hand }
+    ensures { result + bit (is_mark_in_port out ended) ≡ parcels + bit in_hand }
 {
     let all = if in_hand { parcels + 1 } else { parcels };
     if out {

@@ -11,9 +11,9 @@ ghost use Rattle.lq_board.specs.Author.{with_change};
 ghost use Rattle.lq_server.specs.Applied.{IsAdded};
 ghost use Rattle.lq_server.specs.Own.{StaysOwn};
 
-use crate::locked::Found;
-use crate::named::{Named, Seat};
 use crate::server::{Accepted, Server};
+use crate::server_base::{Named, Seat};
+use crate::server_state::Found;
 use lq_predicate::Predicate;
 use lq_value::{Name, Refusal};
 use lq_volume::{Change, Listing};

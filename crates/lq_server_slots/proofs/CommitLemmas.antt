@@ -5,13 +5,13 @@ use mathlib.Core.Logic.{dite}
 use native.Mathlib.Decide.{ℕ_discrete}
 use Rattle.lq_volume.specs.declared.change.Change.{Change}
 use Rattle.lq_volume.specs.Book.{state_of}
-use Rattle.lq_board.specs.declared.views.KnownSlot.{KnownSlot}
+use Rattle.lq_board.specs.declared.token_views.KnownSlot.{KnownSlot}
 use Rattle.lq_board.specs.Slot.{slot_at, counted}
 use Rattle.lq_board.specs.Token.{KeeperToken}
 use Rattle.lq_update.specs.declared.mark.Mark.{Mark}
 use Rattle.lq_server_slots.specs.declared.identity.Identity.{Identity}
 use Rattle.lq_server_slots.specs.declared.subscription.Subscription.{Subscription}
-use Rattle.lq_server_slots.specs.Slots.{SlotStands, asks_of, slot_in, place_at, AllStand, IsListed, IsReadyAt, AllReady, before_of, PartlyCommitted, OnlyAt, SlotIs, SlotsAre, IsNoticed}
+use Rattle.lq_server_slots.specs.Slots.{SlotStands, asks_of, slot_in, taken_slot, AllStand, IsListed, IsReadyAt, AllReady, before_of, PartlyCommitted, OnlyAt, SlotIs, SlotsAre, IsNoticed}
 use Rattle.lq_server_slots.proofs.SlotLemmas.{in_here, in_else, counted_here}
 use Rattle.lq_server_slots.proofs.TakenLemmas.{free_or_taken, some_ap, listed-set}
 
@@ -28,8 +28,8 @@ partly_committed-first keeper slots taken openings c h l ready =
       listed = l;
       below = λ j lt. absurd (omega arith);
       from = λ j le lt. (
-        h.each (place_at taken j) (l.low j lt) (l.high j lt),
-        ready (place_at taken j)
+        h.each (taken_slot taken j) (l.low j lt) (l.high j lt),
+        ready (taken_slot taken j)
             (l.low j lt) (l.high j lt),
       );
       free = λ k pos within none.
@@ -42,7 +42,7 @@ partly_committed-first keeper slots taken openings c h l ready =
 pub partly_committed-step : (keeper : KeeperToken Identity) (slots : List (Option Subscription))
     (taken : List ℕ) (openings : ℕ) (c : Change) (committed place : ℕ) (o : Option Subscription)
     → PartlyCommitted keeper slots taken openings c committed → committed < length taken
-    → place ≡ place_at taken committed → SlotStands o (slot_at keeper.slots place) keeper.book
+    → place ≡ taken_slot taken committed → SlotStands o (slot_at keeper.slots place) keeper.book
     → asks_of o (slot_at keeper.slots place)
     ≤ asks_of (slot_in slots place) (slot_at keeper.slots place)
     → is_some o ≡ is_some (slot_in slots place)
@@ -53,7 +53,7 @@ partly_committed-step keeper slots taken openings c committed place o m lt is fi
     let low : 0 < place = subst (λ (p : ℕ). 0 < p) (sym is) (l.low committed lt) in
     let high : place < 65 = subst (λ (p : ℕ). p < 65) (sym is) (l.high committed lt) in
     let here : slot_in (slice_set slots place o) place ≡ o = in_here slots place o (omega arith) in
-    let apart : (j : ℕ) → j < length taken → j ≢ committed → place_at taken j ≢ place =
+    let apart : (j : ℕ) → j < length taken → j ≢ committed → taken_slot taken j ≢ place =
     λ j within ne q. ne (l.once j committed within lt (q ∙ is)) in
     record {
       known = m.known;
@@ -61,17 +61,18 @@ partly_committed-step keeper slots taken openings c committed place o m lt is fi
       listed = listed-set taken slots place o l wide high kept;
       below = λ j under within. dite (ℕ_discrete j committed)
           (λ (e : j ≡ committed). subst (λ (p : ℕ). SlotStands (slot_in (slice_set slots place o) p)
-          (slot_at keeper.slots p) keeper.book) (is ∙ ap (place_at taken) (sym e))
+          (slot_at keeper.slots p) keeper.book) (is ∙ ap (taken_slot taken) (sym e))
           (subst (λ (z : Option Subscription). SlotStands z (slot_at keeper.slots place)
           keeper.book) (sym here) fits))
           (λ (ne : j ≢ committed). subst (λ (z : Option Subscription). SlotStands z
-          (slot_at keeper.slots (place_at taken j)) keeper.book)
-          (sym (in_else slots place (place_at taken j) o (apart j within ne)))
+          (slot_at keeper.slots (taken_slot taken j)) keeper.book)
+          (sym (in_else slots place (taken_slot taken j) o (apart j within ne)))
           (m.below j (omega (arith, ne)) within));
       from = λ j le within.
-          subst (λ (z : Option Subscription). SlotStands z (slot_at keeper.slots (place_at taken j))
+          subst (λ (z : Option Subscription). SlotStands z
+          (slot_at keeper.slots (taken_slot taken j))
           (before_of keeper.book) × IsReadyAt z (state_of (before_of keeper.book)) c)
-          (sym (in_else slots place (place_at taken j) o
+          (sym (in_else slots place (taken_slot taken j) o
           (apart j within (λ e. absurd (omega arith))))) (m.from j (omega arith) within);
       free = λ k pos within none. dite (ℕ_discrete k place)
           (λ (e : k ≡ place).
@@ -98,48 +99,48 @@ module _ (P : Subscription → KnownSlot Identity → Type 0) where
   pub slots_are-more : (taken : List ℕ) (slots : List (Option Subscription))
       (ps qs : List (KnownSlot Identity)) (index place : ℕ) (o : Option Subscription)
       → IsListed taken slots → length slots ≡ 65 → index < length taken
-      → place ≡ place_at taken index → OnlyAt ps qs place → SlotIs P o (slot_at qs place)
+      → place ≡ taken_slot taken index → OnlyAt ps qs place → SlotIs P o (slot_at qs place)
       → ((j : ℕ) → j < index → j < length taken
-      → SlotIs P (slot_in slots (place_at taken j)) (slot_at ps (place_at taken j)))
+      → SlotIs P (slot_in slots (taken_slot taken j)) (slot_at ps (taken_slot taken j)))
       → (j : ℕ) → j < index + 1 → j < length taken
-      → SlotIs P (slot_in (slice_set slots place o) (place_at taken j))
-      (slot_at qs (place_at taken j))
+      → SlotIs P (slot_in (slice_set slots place o) (taken_slot taken j))
+      (slot_at qs (taken_slot taken j))
   slots_are-more taken slots ps qs index place o l wide lt is only here before j under within =
       let high = l.high index lt in
       dite (ℕ_discrete j index)
       (λ (e : j ≡ index). subst (λ (p : ℕ). SlotIs P (slot_in (slice_set slots place o) p)
-      (slot_at qs p)) (is ∙ ap (place_at taken) (sym e))
+      (slot_at qs p)) (is ∙ ap (taken_slot taken) (sym e))
       (subst (λ (z : Option Subscription). SlotIs P z (slot_at qs place))
       (sym (in_here slots place o (omega arith))) here))
       (λ (ne : j ≢ index).
-      let apart : place_at taken j ≢ place = λ q. ne (l.once j index within lt (q ∙ is)) in
+      let apart : taken_slot taken j ≢ place = λ q. ne (l.once j index within lt (q ∙ is)) in
       subst (λ (z : Option Subscription × KnownSlot Identity). SlotIs P z.0 z.1)
       (λ i. (
-        sym (in_else slots place (place_at taken j) o apart) i,
-        sym (only.others (place_at taken j) apart) i,
+        sym (in_else slots place (taken_slot taken j) o apart) i,
+        sym (only.others (taken_slot taken j) apart) i,
       ))
       (before j (omega (arith, ne)) within))
 
   -- and those behind it keep it
   pub slots_are-left : (taken : List ℕ) (slots : List (Option Subscription))
       (ps : List (KnownSlot Identity)) (index place : ℕ) (o : Option Subscription)
-      → IsListed taken slots → index < length taken → place ≡ place_at taken index
+      → IsListed taken slots → index < length taken → place ≡ taken_slot taken index
       → ((j : ℕ) → index ≤ j → j < length taken
-      → SlotIs P (slot_in slots (place_at taken j)) (slot_at ps (place_at taken j)))
+      → SlotIs P (slot_in slots (taken_slot taken j)) (slot_at ps (taken_slot taken j)))
       → (j : ℕ) → index + 1 ≤ j → j < length taken
-      → SlotIs P (slot_in (slice_set slots place o) (place_at taken j))
-      (slot_at ps (place_at taken j))
+      → SlotIs P (slot_in (slice_set slots place o) (taken_slot taken j))
+      (slot_at ps (taken_slot taken j))
   slots_are-left taken slots ps index place o l lt is before j over within =
-      let apart : place_at taken j ≢ place =
+      let apart : taken_slot taken j ≢ place =
       λ q. let e : j ≡ index = l.once j index within lt (q ∙ is) in absurd (omega arith) in
-      subst (λ (z : Option Subscription). SlotIs P z (slot_at ps (place_at taken j)))
-      (sym (in_else slots place (place_at taken j) o apart)) (before j (omega arith) within)
+      subst (λ (z : Option Subscription). SlotIs P z (slot_at ps (taken_slot taken j)))
+      (sym (in_else slots place (taken_slot taken j) o apart)) (before j (omega arith) within)
 
   -- what all listed slots have, each slot has
   pub slots_are-all : (taken : List ℕ) (slots : List (Option Subscription))
       (ps : List (KnownSlot Identity)) (index : ℕ) → IsListed taken slots → length taken ≤ index
       → ((j : ℕ) → j < index → j < length taken
-      → SlotIs P (slot_in slots (place_at taken j)) (slot_at ps (place_at taken j)))
+      → SlotIs P (slot_in slots (taken_slot taken j)) (slot_at ps (taken_slot taken j)))
       → SlotsAre P slots ps
   slots_are-all taken slots ps index l most h k pos within =
       ⊎_elim

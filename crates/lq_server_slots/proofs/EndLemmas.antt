@@ -25,7 +25,7 @@ use Rattle.lq_server_slots.specs.declared.identity.Told.TheVariants.{Live, Ended
 use Rattle.lq_server_slots.specs.Updates.{updates}
 use Rattle.lq_server_slots.specs.Rule.{floor_of, query_of, messages_in, mark_in}
 use Rattle.lq_server_slots.specs.LegalList.{known_by}
-use Rattle.lq_server_slots.specs.Standing.{given, upto, Stands, FirstCloseFits, NotClosed, IsOverrun, IsReady, IsStill, seen_of, told_by}
+use Rattle.lq_server_slots.specs.Standing.{messages_given, upto, Stands, FirstCloseFits, NotClosed, IsOverrun, IsReady, StaysTrue, seen_of, told_by}
 use Rattle.lq_server_slots.proofs.Books.{extends_self, extends_trans, extends_length}
 use Rattle.lq_server_slots.proofs.UpdateLemmas.{updates-add, updates-same, updates-none}
 use Rattle.lq_server_slots.proofs.PutLemmas.{some_mark, not_moved}
@@ -88,25 +88,25 @@ over_fewer q mv o places backlog seen book e over = record {
 }
 
 -- what was told of an ended one stays true
-still_marked : (t : Told) (o : Option Mark) (k : Mark) (m n : ℕ) → o ≡ Some k → IsStill t o m
-    → IsStill t o n
+still_marked : (t : Told) (o : Option Mark) (k : Mark) (m n : ℕ) → o ≡ Some k → StaysTrue t o m
+    → StaysTrue t o n
 still_marked (Live c seen) o k m n is le =
     subst (λ (z : ℕ). c ≤ z) (ap (λ z. upto z m) is ∙ sym (ap (λ z. upto z n) is)) le
 still_marked (Ended j) o k m n is same = same
 
 -- and of a live one that ends now
-still_ends : (t : Told) (k : Mark) (m n : ℕ) → k.change ≡ m → IsStill t None m
-    → IsStill t (Some k) n
+still_ends : (t : Told) (k : Mark) (m n : ℕ) → k.change ≡ m → StaysTrue t None m
+    → StaysTrue t (Some k) n
 still_ends (Live c seen) k m n at le = omega arith
 still_ends (Ended j) k m n at same = absurd (cc)
 
 -- and of one that goes on
-still_more : (t : Told) (m n : ℕ) → m ≤ n → IsStill t None m → IsStill t None n
+still_more : (t : Told) (m n : ℕ) → m ≤ n → StaysTrue t None m → StaysTrue t None n
 still_more (Live c seen) m n less le = omega arith
 still_more (Ended j) m n less same = same
 
 -- what is told now is so
-still_now : (n seen : ℕ) (o : Option Mark) → IsStill (told_by n seen o) o n
+still_now : (n seen : ℕ) (o : Option Mark) → StaysTrue (told_by n seen o) o n
 still_now n seen None = omega arith
 still_now n seen (Some k) = refl
 
@@ -177,12 +177,12 @@ module _ (h : Held) (e : End Delivery Opening) (places : ℕ) (told : Told)
     now_is = ap (λ o. upto o (length book.changes)) live
 
     -- what was given is all updates of the book so far
-    old_is : given h e ≡ updates h.query h.moved book h.opened (length book.changes)
+    old_is : messages_given h e ≡ updates h.query h.moved book h.opened (length book.changes)
     old_is = s.list ∙ ap (updates h.query h.moved book h.opened) now_is
 
     -- what was told of it is still so
-    still_is : IsStill told None (length book.changes)
-    still_is = subst (λ o. IsStill told o (length book.changes)) live s.still
+    still_is : StaysTrue told None (length book.changes)
+    still_is = subst (λ o. StaysTrue told o (length book.changes)) live s.still
 
     -- the opening is within the book
     opened_is : h.opened ≤ length book.changes
@@ -260,7 +260,8 @@ module _ (h : Held) (e : End Delivery Opening) (places : ℕ) (told : Told)
       long = length-append book.changes (c ∷ [])
 
       -- the updates of the longer book are what was given and those of the change
-      now : updates h.query h.moved book' h.opened (length book.changes + 1) ≡ given h e ++ more
+      now : updates h.query h.moved book' h.opened (length book.changes + 1)
+          ≡ messages_given h e ++ more
       now =
           let count : length (updates h.query h.moved book h.opened (length book.changes)) + 1
           ≡ h.sent + 1 = ap (λ n. n + 1) (sym (s.sent ∙ ap (length {A = Message}) old_is)) in
@@ -273,7 +274,7 @@ module _ (h : Held) (e : End Delivery Opening) (places : ℕ) (told : Told)
       goes_on room =
           let e2 : upto h.mark (length book'.changes) ≡ length book.changes + 1 =
           ap (λ o. upto o (length book'.changes)) live ∙ long in
-          let all : given (with_messages h more) e ≡ given h e ++ more =
+          let all : messages_given (with_messages h more) e ≡ messages_given h e ++ more =
           sym (append_assoc (messages_in (all_put e)) h.messages more) in
           record {
             query = s.query;
@@ -283,7 +284,7 @@ module _ (h : Held) (e : End Delivery Opening) (places : ℕ) (told : Told)
             full = full';
             later = extends_trans (known_by e.floor (all_put e)) book book' s.later (c ∷ [], refl);
             list = all ∙ sym now ∙ ap (updates h.query h.moved book' h.opened) (sym e2);
-            sent = ap (λ n. n + length more) s.sent ∙ sym (length-append (given h e) more)
+            sent = ap (λ n. n + length more) s.sent ∙ sym (length-append (messages_given h e) more)
                 ∙ ap (length {A = Message}) (sym all);
             few = omega (arith, s.few, three, long);
             bounded = omega (arith, length-append h.messages more);
@@ -295,7 +296,7 @@ module _ (h : Held) (e : End Delivery Opening) (places : ℕ) (told : Told)
             out = s.out;
             done = λ f. absurd (none_out live f);
             still =
-                subst (λ o. IsStill told o (length book'.changes)) (sym live)
+                subst (λ o. StaysTrue told o (length book'.changes)) (sym live)
                 (still_more told (length book.changes) (length book'.changes) (omega (arith, long))
                 still_is);
             first_close = s.first_close;
@@ -314,7 +315,8 @@ module _ (h : Held) (e : End Delivery Opening) (places : ℕ) (told : Told)
             → IsOverrun h.query h.moved h.opened places h.backlog (seen_of told) book'
             (length book.changes)
         over_is some many =
-            let front : updates h.query h.moved book' h.opened (length book.changes) ≡ given h e =
+            let front : updates h.query h.moved book' h.opened (length book.changes)
+            ≡ messages_given h e =
             updates-same h.query h.moved book book' h.opened (length book.changes) s.full.first
             (c ∷ [], refl) opened_is (omega arith) ∙ sym old_is in
             let a : length (updates h.query h.moved book' h.opened (length book.changes))
@@ -322,7 +324,7 @@ module _ (h : Held) (e : End Delivery Opening) (places : ℕ) (told : Told)
             ap (length {A = Message}) front ∙ length-append (messages_in (all_put e)) h.messages in
             let b : length (updates h.query h.moved book' h.opened (length book.changes + 1))
             ≡ length (messages_in (all_put e)) + length h.messages + length more =
-            ap (length {A = Message}) now ∙ length-append (given h e) more
+            ap (length {A = Message}) now ∙ length-append (messages_given h e) more
             ∙ ap (λ n. n + length more) (length-append (messages_in (all_put e)) h.messages) in
             record {
               within = omega (arith, long);
@@ -359,7 +361,7 @@ pub stands_new : (q : Query) (mv : Bool) (backlog : ℕ) (e : End Delivery Openi
     (Live (length book.changes) 0) Never book
 stands_new q mv backlog e places book taken ahead floor query moves opening port full =
     let put : all_put e ≡ [] = λ i. taken i ++ ahead i in
-    let none : given (opened_with q mv (length book.changes) backlog) e ≡ [] =
+    let none : messages_given (opened_with q mv (length book.changes) backlog) e ≡ [] =
     λ i. messages_in (put i) ++ [] in
     record {
       query = query;

@@ -8,7 +8,7 @@ use Rattle.lq_value.specs.Refusal.{first_refusal}
 use Rattle.lq_predicate.specs.Query.{Query}
 use Rattle.lq_volume.specs.Book.{Book, state_of}
 use Rattle.lq_volume.specs.Result.{result_of}
-use Rattle.lq_board.specs.declared.views.KnownSlot.{KnownSlot}
+use Rattle.lq_board.specs.declared.token_views.KnownSlot.{KnownSlot}
 use Rattle.lq_board.specs.Book.{IsFullBook}
 use Rattle.lq_board.specs.Slot.{slot_at, unused, gone_out, counted}
 use Rattle.lq_board.specs.Token.{KeeperToken}
@@ -29,12 +29,12 @@ use Rattle.lq_server_slots.specs.Rule.{floor_of, query_of}
 use Rattle.lq_server_slots.specs.Marking.{hung_mark}
 use Rattle.lq_server_slots.specs.Identity.{identity_of}
 use Rattle.lq_server_slots.specs.Reading.{ReadingHold}
-use Rattle.lq_server_slots.specs.Standing.{IsSeen, Stands, StandsAt, seen_of}
+use Rattle.lq_server_slots.specs.Standing.{IsSeen, Stands, IsConsistentAt, seen_of}
 use Rattle.lq_server_slots.specs.Laws.{NewSubscriptionsStand}
 use Rattle.lq_server_slots.specs.declared.slots.ServerSlots.{ServerSlots}
 use Rattle.lq_server_slots.specs.declared.open.Opened.{Opened}
 use Rattle.lq_server_slots.specs.Slots.{AreUnchanged, SlotStands, asks_of, slot_in, AllStand, OnlyAt}
-use Rattle.lq_server_slots.specs.Opening.{IsBegun}
+use Rattle.lq_server_slots.specs.Opening.{IsNewSubscription}
 use Rattle.lq_server_slots.proofs.SlotLemmas.{all_stand-set, only_counted, counted_here}
 use Rattle.lq_server_slots.proofs.SyncLemmas.{only_trans}
 
@@ -47,7 +47,7 @@ pub begun_new : NewSubscriptionsStand → (s : Subscription) (r : ReadingHold) (
     → s.input.places ≡ port → s.input.floor ≡ g → query_of g ≡ q → g.moved ≡ mv → g.opened ≡ at
     → floor_of g ≡ book → s.input.taken ≡ [] → s.input.ahead ≡ [] → IsFullBook book
     → r.port ≡ s.input → r.hand ≡ None → r.result ≡ opened_at at (result_of q (state_of book))
-    → IsBegun s r book q mv port backlog
+    → IsNewSubscription s r book q mv port backlog
 begun_new stand s r book q mv port backlog at g held number places told first_close ports opening_at
     query moved opened floor taken ahead full end hand result =
     let now : s.sub.held ≡ opened_with q mv (length book.changes) backlog = held
@@ -81,8 +81,8 @@ begun_new stand s r book q mv port backlog at g held number places told first_cl
 
 -- a subscription that was just made is so for what it was made for
 pub begun_own : (s : Subscription) (r : ReadingHold) (book : Book) (q : Query) (mv : Bool)
-    (port backlog : ℕ) → IsBegun s r book q mv port backlog
-    → IsBegun s r book s.sub.held.query s.sub.held.moved s.places s.sub.held.backlog
+    (port backlog : ℕ) → IsNewSubscription s r book q mv port backlog
+    → IsNewSubscription s r book s.sub.held.query s.sub.held.moved s.places s.sub.held.backlog
 begun_own s r book q mv port backlog b = record {
   stands = b.stands;
   messages = b.messages;
@@ -117,7 +117,7 @@ pub settled : (keeper one two : KeeperToken Identity) (slots : List (Option Subs
     → one.slots ≡ counted keeper.slots place n
     → ((slot_at keeper.slots place).out ≡ false → n ≡ (slot_at keeper.slots place).asks)
     → two.slots ≡ gone_out one.slots place (Some (identity_of s)) → s.asks ≡ n
-    → StandsAt s book → IsSeen s → s.sub.held.messages ≡ [] → s.sub.held.mark ≡ None
+    → IsConsistentAt s book → IsSeen s → s.sub.held.messages ≡ [] → s.sub.held.mark ≡ None
     → AllStand two (slice_set slots place (Some s)) (openings + 1) book
 settled keeper one two slots place openings n s book h pos within free counts idle gone asks stands
     seen none live =
@@ -194,6 +194,6 @@ openings_within (Err e) old new limit more same less =
 
 -- of a subscription that was just made nothing had been taken
 pub begun_seen : (s : Subscription) (r : ReadingHold) (book : Book) (q : Query) (mv : Bool)
-    (port backlog : ℕ) → IsBegun s r book q mv port backlog → IsSeen s
+    (port backlog : ℕ) → IsNewSubscription s r book q mv port backlog → IsSeen s
 begun_seen s r book q mv port backlog b =
     subst (λ (z : Told). seen_of z ≤ length s.input.taken) (sym b.told) (omega arith)

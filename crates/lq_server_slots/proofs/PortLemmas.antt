@@ -10,7 +10,7 @@ use Rattle.lq_update.specs.declared.parcel.Parcel.{Parcel}
 use Rattle.lq_update.specs.declared.parcel.Parcel.TheVariants.{Update, Fin}
 use Rattle.lq_server_slots.specs.declared.delivery.Delivery.{Delivery}
 use Rattle.lq_server_slots.specs.declared.delivery.Opening.{Opening}
-use Rattle.lq_server_slots.specs.Rule.{book_of, floor_of, query_of, message_of, mark_or, messages_in, mark_in, last_book, whole, IsMark, Tells, MayFollow}
+use Rattle.lq_server_slots.specs.Rule.{book_of, floor_of, query_of, message_of, mark_or, messages_in, mark_in, last_book, all_updates, IsMark, Tells, MayFollow}
 use Rattle.lq_server_slots.specs.LegalList.{known_by, LegalList}
 use Rattle.lq_server_slots.proofs.Books.{extends_self, extends_trans}
 use Rattle.lq_server_slots.proofs.UpdateLemmas.{updates-front}
@@ -76,19 +76,19 @@ legal_list-none f opening full =
       later = extends_self (floor_of f);
       full = full;
       front =
-          (whole f (floor_of f), refl);
+          (all_updates f (floor_of f), refl);
       mark = tt;
     }
 
 -- the mark and the messages, after one parcel more
 legal_list-what : (f : Opening) (messages : List Message) (book : Book) (w : Parcel)
     → Tells f messages book w
-    → IsPrefix (messages ++ message_of w) (whole f book)
+    → IsPrefix (messages ++ message_of w) (all_updates f book)
     × IfSome (mark_or w None) (IsMark f (messages ++ message_of w) book)
 legal_list-what f messages book (Update m) t = (t, tt)
 legal_list-what f messages book (Fin k) t =
     let same : messages ++ [] ≡ messages = append-nil messages in (
-      subst (λ l. IsPrefix l (whole f book)) (sym (same ∙ t.all))
+      subst (λ l. IsPrefix l (all_updates f book)) (sym (same ∙ t.all))
           (updates-front (query_of f) f.moved book f.opened k.change (length book.changes)
           t.within),
       subst (λ l. IsMark f l book k) (sym same) t,
@@ -109,7 +109,7 @@ legal_list-step f ps x legal_list comes =
       later = subst (λ (b : Book). Extends b (floor_of f)) (sym book)
           (extends_trans (floor_of f) (known_by f ps) (book_of x) legal_list.later comes.later);
       full = subst IsFullBook (sym book) comes.full;
-      front = subst (λ (t : List Message × Book). IsPrefix t.0 (whole f t.1))
+      front = subst (λ (t : List Message × Book). IsPrefix t.0 (all_updates f t.1))
           (λ i. (sym messages i, sym book i)) w.0;
       mark = subst (λ (t : Option Mark × List Message × Book). IfSome t.0 (IsMark f t.1 t.2))
           (λ i. (sym mark i, sym messages i, sym book i)) w.1;

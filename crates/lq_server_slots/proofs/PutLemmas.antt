@@ -10,7 +10,7 @@ use Rattle.lq_update.specs.declared.mark.Mark.{Mark}
 use Rattle.lq_update.specs.declared.mark.Cause.TheVariants.{Overrun}
 use Rattle.lq_update.specs.declared.parcel.Parcel.{Parcel}
 use Rattle.lq_update.specs.declared.parcel.Parcel.TheVariants.{Update, Fin}
-use Rattle.lq_desk_sub.specs.Held.{Held, Prepared, next_of, next_parcel, without, with_back}
+use Rattle.lq_desk_sub.specs.Held.{Held, Prepared, next_of, next_parcel, without_parcel, with_back}
 use Rattle.lq_desk_sub.specs.Laws.{PuttingBackUndoes}
 use Rattle.lq_port.specs.End.{End, all_put, IsSamePort, Gains}
 use Rattle.lq_port.specs.Port.{IsLegal}
@@ -22,7 +22,7 @@ use Rattle.lq_server_slots.specs.declared.subscription.Subscription.{Subscriptio
 use Rattle.lq_server_slots.specs.Updates.{updates}
 use Rattle.lq_server_slots.specs.Rule.{book_of, floor_of, query_of, message_of, mark_or, messages_in, mark_in, IsMark, Tells, MayFollow}
 use Rattle.lq_server_slots.specs.LegalList.{known_by}
-use Rattle.lq_server_slots.specs.Standing.{given, upto, moved_mark, Stands, StandsAt, FirstCloseFits, SameHeld, SameButPuts, mark_left, left_of, IsOut, IsStuck, IsDrained, IsOverrun, IsStill, SideBySide, seen_of}
+use Rattle.lq_server_slots.specs.Standing.{messages_given, upto, moved_mark, Stands, IsConsistentAt, FirstCloseFits, SameHeld, SameButPuts, mark_count, left_of, IsOut, CannotPut, IsDrained, IsOverrun, StaysTrue, SideBySide, seen_of}
 use Rattle.lq_server_slots.proofs.Books.{extends_self}
 use Rattle.lq_server_slots.proofs.UpdateLemmas.{updates-front}
 use Rattle.lq_server_slots.proofs.PortLemmas.{prefix_self, prefix_trans, messages_in-snoc, mark_in-append, last_book-snoc}
@@ -96,7 +96,7 @@ module _ (h : Held) (d : End Delivery Opening) (places : ℕ) (told : Told)
       let fits =
       some_mark h.mark k (λ k. (k.seq ≡ h.sent + 1) × (k.change ≤ length book.changes)) n.1
       s.mark in
-      let same : given h d ≡ messages_in (all_put d) =
+      let same : messages_given h d ≡ messages_in (all_put d) =
       ap (λ l. messages_in (all_put d) ++ l) n.0 ∙ append-nil (messages_in (all_put d)) in
       let all : messages_in (all_put d) ≡ updates h.query h.moved book h.opened k.change =
       sym same ∙ s.list
@@ -134,7 +134,7 @@ module _ (h : Held) (d : End Delivery Opening) (places : ℕ) (told : Told)
       }
 
   -- a parcel that leaves what is held changes nothing else of it
-  same_held : (p : Parcel) → SameHeld h (without h (Some p))
+  same_held : (p : Parcel) → SameHeld h (without_parcel h (Some p))
   same_held (Update m) =
       record { query = refl; moved = refl; opened = refl; backlog = refl; sent = refl; mark = refl }
   same_held (Fin k) =
@@ -142,26 +142,27 @@ module _ (h : Held) (d : End Delivery Opening) (places : ℕ) (told : Told)
 
   -- the parcel's message and those still held are the messages that were held
   messages_then : (p : Parcel) → NextIs h.messages h.mark h.mark_out p
-      → message_of p ++ (without h (Some p)).messages ≡ h.messages
+      → message_of p ++ (without_parcel h (Some p)).messages ≡ h.messages
   messages_then (Update m) n = sym n
   messages_then (Fin k) n = refl
 
   -- the mark is out just where the parcel is the mark
   out_then : (p : Parcel) → NextIs h.messages h.mark h.mark_out p
-      → mark_or p None ≡ moved_mark (without h (Some p)).mark_out (without h (Some p)).mark
+      → mark_or p None ≡ moved_mark (without_parcel h (Some p)).mark_out
+      (without_parcel h (Some p)).mark
   out_then (Update m) n = sym (not_moved h.mark_out h.mark (open_with m (drop 1 h.messages) n))
   out_then (Fin k) n = sym n.1
 
   -- where the mark is out, no message is held, and there is a mark
   done_then : (p : Parcel) → NextIs h.messages h.mark h.mark_out p
-      → (without h (Some p)).mark_out ≡ true → ((without h (Some p)).messages ≡ [])
-      × IsSome (without h (Some p)).mark
+      → (without_parcel h (Some p)).mark_out ≡ true → ((without_parcel h (Some p)).messages ≡ [])
+      × IsSome (without_parcel h (Some p)).mark
   done_then (Update m) n e = absurd (open_with m (drop 1 h.messages) n e)
   done_then (Fin k) n e = (n.0, subst IsSome (sym n.1) refl)
 
   -- no more messages are held than before
   bounded_then : (p : Parcel) → NextIs h.messages h.mark h.mark_out p
-      → length (without h (Some p)).messages ≤ (without h (Some p)).backlog
+      → length (without_parcel h (Some p)).messages ≤ (without_parcel h (Some p)).backlog
   bounded_then (Update m) n =
       let long : length h.messages ≡ suc (length (drop 1 h.messages)) = ap (length {A = Message}) n
       in omega (arith, s.bounded)
@@ -169,11 +170,11 @@ module _ (h : Held) (d : End Delivery Opening) (places : ℕ) (told : Told)
 
   -- one parcel less is left to put
   left_then : (p : Parcel) → NextIs h.messages h.mark h.mark_out p
-      → left_of (without h (Some p)) < left_of h
+      → left_of (without_parcel h (Some p)) < left_of h
   left_then (Update m) n = let long : length h.messages ≡ suc (length (drop 1 h.messages)) =
       ap (length {A = Message}) n in omega arith
   left_then (Fin k) n =
-      let now : mark_left h.mark_out ≡ 1 = ap mark_left n.2 in
+      let now : mark_count h.mark_out ≡ 1 = ap mark_count n.2 in
       let none : length h.messages ≡ 0 = ap (length {A = Message}) n.0 in
       omega arith
 
@@ -190,15 +191,15 @@ module _ (h : Held) (d : End Delivery Opening) (places : ℕ) (told : Told)
         ∙ ap (λ z. messages_in (all_put d) ++ message_of z) is
 
     -- what was given stays: one parcel more is put, one less is held
-    pub given_then : given (without h (Some p)) e ≡ given h d
+    pub given_then : messages_given (without_parcel h (Some p)) e ≡ messages_given h d
     given_then =
-        ap (λ l. l ++ (without h (Some p)).messages) put_messages
-        ∙ append_assoc (messages_in (all_put d)) (message_of p) (without h (Some p)).messages
+        ap (λ l. l ++ (without_parcel h (Some p)).messages) put_messages
+        ∙ append_assoc (messages_in (all_put d)) (message_of p) (without_parcel h (Some p)).messages
         ∙ ap (λ l. messages_in (all_put d) ++ l)
         (messages_then p (next_is h.messages h.mark h.mark_out p next))
 
     -- a parcel was put, and the list of what is put and held stays
-    pub put_stands : Stands (without h (Some p)) e places told first_close book
+    pub put_stands : Stands (without_parcel h (Some p)) e places told first_close book
     put_stands =
         let n = next_is h.messages h.mark h.mark_out p next in
         let r = same_held p in
@@ -226,7 +227,7 @@ module _ (h : Held) (d : End Delivery Opening) (places : ℕ) (told : Told)
           out = ap mark_in all_then ∙ mark_in-append (all_put d) (x ∷ []) (unput p n)
               ∙ ap (λ z. mark_or z None) is ∙ out_then p n;
           done = done_then p n;
-          still = subst (λ o. IsStill told o (length book.changes)) (sym r.mark) s.still;
+          still = subst (λ o. StaysTrue told o (length book.changes)) (sym r.mark) s.still;
           first_close = subst (FirstCloseFits first_close) (sym r.mark) s.first_close;
           overrun =
               subst (λ (z : Query × Bool × ℕ × ℕ × Option Mark). IfSome z.4
@@ -237,11 +238,11 @@ module _ (h : Held) (d : End Delivery Opening) (places : ℕ) (told : Told)
         }
 
     -- the put changes nothing but what is held
-    pub put_same : SameHeld h (without h (Some p))
+    pub put_same : SameHeld h (without_parcel h (Some p))
     put_same = same_held p
 
     -- after the put, one parcel less is left
-    pub put_left : left_of (without h (Some p)) < left_of h
+    pub put_left : left_of (without_parcel h (Some p)) < left_of h
     put_left = left_then p (next_is h.messages h.mark h.mark_out p next)
 
 -- with nothing to put, nothing is left
@@ -261,7 +262,7 @@ pub same_put : (h : Held) (d e : End Delivery Opening) (places : ℕ) (told : To
     → IsSamePort d e → all_put e ≡ all_put d → Stands h d places told first_close book
     → Stands h e places told first_close book
 same_put h d e places told first_close book port put s =
-    let same : given h e ≡ given h d =
+    let same : messages_given h e ≡ messages_given h d =
     ap (λ (ps : List Delivery). messages_in ps ++ h.messages) put in
     record {
       query = ap query_of port.2 ∙ s.query;
@@ -309,14 +310,14 @@ alike_trans s t u a b = record {
 }
 
 -- where there is no next parcel, what is held is what was held
-pub none_out : (h h' : Held) → next_parcel h ≡ None → h' ≡ without h (next_parcel h) → h' ≡ h
-none_out h h' none rest = rest ∙ ap (without h) none
+pub none_out : (h h' : Held) → next_parcel h ≡ None → h' ≡ without_parcel h (next_parcel h) → h' ≡ h
+none_out h h' none rest = rest ∙ ap (without_parcel h) none
 
 -- with the next parcel taken out and put back, what is held is what was held
 pub back_out : PuttingBackUndoes → (h h' h'' : Held) (p q : Parcel) → next_parcel h ≡ Some p
-    → h' ≡ without h (next_parcel h) → q ≡ p → h'' ≡ with_back h' q → h'' ≡ h
+    → h' ≡ without_parcel h (next_parcel h) → q ≡ p → h'' ≡ with_back h' q → h'' ≡ h
 back_out undoes h h' h'' p q next rest same back =
-    back ∙ (λ i. with_back ((rest ∙ ap (without h) next) i) (same i)) ∙ undoes h p next
+    back ∙ (λ i. with_back ((rest ∙ ap (without_parcel h) next) i) (same i)) ∙ undoes h p next
 
 -- with the same held and the same end of the port, a subscription is as before
 pub alike_held : (s : Subscription) (sub : Prepared) (input : End Delivery Opening)
@@ -333,12 +334,12 @@ alike_held s sub input held same = record {
   asks = refl;
   told = refl;
   first_close = refl;
-  given_same = λ i. given (held i) (same i);
+  given_same = λ i. messages_given (held i) (same i);
 }
 
 -- a look side by side stays one, where a subscription is as before and its end of the port the same
 pub beside_stays : (s t u : Subscription) (d e : End Delivery Opening) (book : Book) (n : ℕ)
-    → SideBySide s t d e book n → StandsAt u book → SameButPuts t u → u.input ≡ t.input
+    → SideBySide s t d e book n → IsConsistentAt u book → SameButPuts t u → u.input ≡ t.input
     → SideBySide s u d e book n
 beside_stays s t u d e book n at stands alike same = record {
   stands = stands;
@@ -357,7 +358,7 @@ beside_stays s t u d e book n at stands alike same = record {
 
 -- a port as it is drained: the two ends, and all that is the same as when the drain began
 pub record Drains (s t : Subscription) (d e : End Delivery Opening) (book : Book) : Type 0 where
-  pub stands : StandsAt t book
+  pub stands : IsConsistentAt t book
   pub alike : SameButPuts s t
   pub port : e.port ≡ t.input.port
   pub same : IsSamePort d e
@@ -365,7 +366,8 @@ pub record Drains (s t : Subscription) (d e : End Delivery Opening) (book : Book
   pub known : IsPrefix d.ahead e.ahead
 
 -- a drain begins with what is there
-pub drains_none : (s : Subscription) (d : End Delivery Opening) (book : Book) → StandsAt s book
+pub drains_none : (s : Subscription) (d : End Delivery Opening) (book : Book)
+    → IsConsistentAt s book
     → d.port ≡ s.input.port → Drains s s d d book
 drains_none s d book stands port = record {
   stands = stands;
@@ -419,7 +421,7 @@ module _ (s t : Subscription) (c d e input : End Delivery Opening) (book : Book)
   }
 
   -- and with a put behind that the port is drained further
-  pub drains_on : (u : Subscription) → StandsAt u book
+  pub drains_on : (u : Subscription) → IsConsistentAt u book
       → SameButPuts (record t { input = input }) u → Drains s u c e book
   unfolding looks
   drains_on u stands alike = record {
@@ -433,7 +435,7 @@ module _ (s t : Subscription) (c d e input : End Delivery Opening) (book : Book)
 
 -- with both ends seen side by side, what is stuck is drained
 pub stuck_drained : (input e : End Delivery Opening) (u : Subscription) (n : ℕ)
-    → input.ahead ≡ e.ahead → n ≡ length e.ahead → u.input ≡ input → IsStuck u → IsDrained u n
+    → input.ahead ≡ e.ahead → n ≡ length e.ahead → u.input ≡ input → CannotPut u → IsDrained u n
 stuck_drained input e u n ahead value same stuck =
     subst (λ (k : ℕ). IsOut u.sub.held ⊎ (u.places ≤ k))
     (ap (λ (e : End Delivery Opening). length e.ahead) same ∙ ap (length {A = Delivery}) ahead

@@ -15,15 +15,15 @@ use Rattle.lq_update.specs.declared.parcel.Parcel.{Parcel}
 use Rattle.lq_update.specs.declared.parcel.Parcel.TheVariants.{Update as told_update, Fin as told_fin}
 use Rattle.lq_update.specs.Fold.{Folding, folded, last_change, settled_after, fold_refusals, folding_after, folding_after_all, opened_at}
 use Rattle.lq_update.specs.Laws.{RebuildsTakeAll, FoldsGiveResults, FoldingsFollow, SettledIsTested, WholeFoldsGiveResults}
-use Rattle.lq_update.specs.Updates.{IsSettled, IsPrefixOf, updates_of}
+use Rattle.lq_update.specs.Updates.{IsSettled, updates_of}
 use Rattle.lq_desk_sub.specs.declared.read.Read.TheVariants.{Update, Fin}
 use Rattle.lq_port.specs.End.{End, IsSamePort, IsFront, Loses}
 use Rattle.lq_server_slots.specs.declared.delivery.Delivery.{Delivery}
 use Rattle.lq_server_slots.specs.declared.delivery.Opening.{Opening}
 use Rattle.lq_server_slots.specs.Updates.{updates}
-use Rattle.lq_server_slots.specs.Rule.{book_of, floor_of, query_of, message_of, mark_or, messages_in, mark_in, whole, IsMark, MayFollow}
+use Rattle.lq_server_slots.specs.Rule.{book_of, floor_of, query_of, message_of, mark_or, messages_in, mark_in, all_updates, IsMark, MayFollow}
 use Rattle.lq_server_slots.specs.LegalList.{known_by, LegalList}
-use Rattle.lq_server_slots.specs.Reading.{ReadingHold, Reads, opening_of, known, received, ready, mark_read, what_of, Gives, Fails, IsTold}
+use Rattle.lq_server_slots.specs.Reading.{ReadingHold, ReadsPort, opening_of, known, received, ready, mark_read, what_of, Gives, Fails, IsTold}
 use Rattle.lq_server_slots.proofs.Books.{extends_length}
 use Rattle.lq_server_slots.proofs.PortLemmas.{prefix_trans, messages_in-snoc, mark_in-append, last_book-snoc, legal_list-none, legal_list-step}
 
@@ -62,7 +62,7 @@ state_then fl book n is first e =
 -- the fold refuses no next message
 pub fold_fits : RebuildsTakeAll → (f : Opening) (book : Book) (got : List Message) (m : Message)
     → f.opened ≡ length (floor_of f).changes → Extends book (floor_of f) → IsFullBook book
-    → IsPrefix (got ++ m ∷ []) (whole f book)
+    → IsPrefix (got ++ m ∷ []) (all_updates f book)
     → first_refusal (fold_refusals (folding_after_all (opening_of f) got) m) ≡ None
 unfolding updates
 fold_fits law f book got m opening later full front =
@@ -79,12 +79,12 @@ fold_fits law f book got m opening later full front =
 
 -- what was received is a front of the updates over the known book
 pub received_front : (e : End Delivery Opening) (hand : Option Message) (result : Folding)
-    (ended : Bool) → Reads e result hand ended
-    → IsPrefix (received (hold e hand result)) (whole e.floor (known_by e.floor e.taken))
+    (ended : Bool) → ReadsPort e result hand ended
+    → IsPrefix (received (hold e hand result)) (all_updates e.floor (known_by e.floor e.taken))
 received_front e hand result ended r =
-    subst (λ (l : List Message). IsPrefix l (whole e.floor (known_by e.floor e.taken)))
+    subst (λ (l : List Message). IsPrefix l (all_updates e.floor (known_by e.floor e.taken)))
     (sym (received_is e hand result r.got r.all))
-    (prefix_trans r.got (messages_in e.taken) (whole e.floor (known_by e.floor e.taken))
+    (prefix_trans r.got (messages_in e.taken) (all_updates e.floor (known_by e.floor e.taken))
     (option_to_list hand, sym r.all) r.legal_list.front)
 
 -- a front of parcels, without their books
@@ -95,19 +95,20 @@ front_of (p ∷ ps) x rest e = (ap what_of e.0, ap (map what_of) e.1)
 
 -- the message in hand is folded, or stays
 module _ (law : RebuildsTakeAll) (e : End Delivery Opening) (result : Folding) (m : Message)
-    (ended : Bool) (r : Reads e result (Some m) ended) where
+    (ended : Bool) (r : ReadsPort e result (Some m) ended) where
   -- the message in hand is not refused by the fold
   pub hand_fits : first_refusal (fold_refusals result m) ≡ None
   hand_fits =
       subst (λ (g : Folding). first_refusal (fold_refusals g m) ≡ None) (sym r.folds)
       (fold_fits law e.floor (known_by e.floor e.taken) r.got m r.legal_list.opening
       r.legal_list.later r.legal_list.full
-      (subst (λ (l : List Message). IsPrefix l (whole e.floor (known_by e.floor e.taken))) r.all
+      (subst (λ (l : List Message). IsPrefix l
+      (all_updates e.floor (known_by e.floor e.taken))) r.all
       r.legal_list.front))
 
   -- when the message in hand is folded, the reader has read it
   pub kept_hand : (result' : Folding) (hand' : Option Message) → (result' ≡ folding_after result m)
-      × (hand' ≡ None) → Reads e result' hand' ended
+      × (hand' ≡ None) → ReadsPort e result' hand' ended
   kept_hand result' hand' is =
       record {
         got = r.got ++ m ∷ [];
@@ -122,9 +123,9 @@ module _ (law : RebuildsTakeAll) (e : End Delivery Opening) (result : Folding) (
 
   -- when the message stays in hand, the reader has read what it had
   pub stays_hand : (result' : Folding) (hand' : Option Message) → (result' ≡ result)
-      × (hand' ≡ Some m) → Reads e result' hand' ended
+      × (hand' ≡ Some m) → ReadsPort e result' hand' ended
   stays_hand result' hand' is =
-      subst (λ (z : Folding × Option Message). Reads e z.0 z.1 ended)
+      subst (λ (z : Folding × Option Message). ReadsPort e z.0 z.1 ended)
       (λ i. (sym is.0 i, sym is.1 i)) r
 
   -- when the message in hand is folded, the read gives its update
@@ -190,7 +191,7 @@ module _ (d e : End Delivery Opening) (x : Delivery) (same : IsSamePort d e) (lo
       (front_of d.ahead x e.ahead loses.1)
 
   module _ (result : Folding) (hand : Option Message) (ended : Bool) (none : hand ≡ None)
-      (live : ended ≡ false) (r : Reads d result hand ended) where
+      (live : ended ≡ false) (r : ReadsPort d result hand ended) where
     -- with nothing in hand, the messages that were taken are those that were read
     bare : messages_in d.taken ≡ r.got
     bare = r.all ∙ ap (λ (o : Option Message). r.got ++ option_to_list o) none ∙ append-nil r.got
@@ -218,12 +219,12 @@ module _ (d e : End Delivery Opening) (x : Delivery) (same : IsSamePort d e) (lo
           subst (λ (g : Folding). first_refusal (fold_refusals g m) ≡ None)
           (ap (λ (g : Folding). folding_after_all g r.got) floor ∙ sym r.folds)
           (fold_fits law e.floor (known_by e.floor e.taken) r.got m f.opening f.later f.full
-          (subst (λ (l : List Message). IsPrefix l (whole e.floor (known_by e.floor e.taken)))
+          (subst (λ (l : List Message). IsPrefix l (all_updates e.floor (known_by e.floor e.taken)))
           told_then f.front))
 
       -- when the message is folded, the reader has read it
       pub took : (result' : Folding) (hand' : Option Message) → (result' ≡ folding_after result m)
-          × (hand' ≡ None) → Reads e result' hand' ended
+          × (hand' ≡ None) → ReadsPort e result' hand' ended
       took result' hand' at =
           record {
             got = r.got ++ m ∷ [];
@@ -240,7 +241,7 @@ module _ (d e : End Delivery Opening) (x : Delivery) (same : IsSamePort d e) (lo
 
       -- when the message stays in hand, the reader has taken it and not read it
       pub took_in_hand : (result' : Folding) (hand' : Option Message) → (result' ≡ result)
-          × (hand' ≡ Some m) → Reads e result' hand' ended
+          × (hand' ≡ Some m) → ReadsPort e result' hand' ended
       took_in_hand result' hand' at =
           record {
             got = r.got;
@@ -295,7 +296,7 @@ module _ (d e : End Delivery Opening) (x : Delivery) (same : IsSamePort d e) (lo
       fin_then = messages_then ∙ (λ i. bare i ++ message_of (is i)) ∙ append-nil r.got
 
       -- when the mark is taken, the reader has ended
-      pub took_mark : (hand' : Option Message) → hand' ≡ None → Reads e result hand' true
+      pub took_mark : (hand' : Option Message) → hand' ≡ None → ReadsPort e result hand' true
       took_mark hand' bare' =
           record {
             got = r.got;
@@ -332,19 +333,19 @@ module _ (d e : End Delivery Opening) (x : Delivery) (same : IsSamePort d e) (lo
 
 -- with a message in hand, the mark was not read
 pub hand_first : (e : End Delivery Opening) (result : Folding) (hand : Option Message) (m : Message)
-    (ended : Bool) → Reads e result hand ended → hand ≡ Some m → IsSome (mark_in e.taken) → ⊥
+    (ended : Bool) → ReadsPort e result hand ended → hand ≡ Some m → IsSome (mark_in e.taken) → ⊥
 hand_first e result hand m ended r is some =
     let none : hand ≡ None = r.no_hand (r.over ∙ some) in cc
 
 -- before the end, the mark was not read
 pub live_unmarked : (e : End Delivery Opening) (result : Folding) (hand : Option Message)
-    (ended : Bool) → Reads e result hand ended → ended ≡ false → IsSome (mark_in e.taken) → ⊥
+    (ended : Bool) → ReadsPort e result hand ended → ended ≡ false → IsSome (mark_in e.taken) → ⊥
 live_unmarked e result hand ended r live some = true≢false (sym (r.over ∙ some) ∙ live)
 
 -- a new reading received nothing
 pub reads_new : (e : End Delivery Opening) (result : Folding) → e.taken ≡ []
     → e.floor.opened ≡ length (floor_of e.floor).changes → IsFullBook (floor_of e.floor)
-    → result ≡ opening_of e.floor → Reads e result None false
+    → result ≡ opening_of e.floor → ReadsPort e result None false
 reads_new e result taken opening full is =
     record {
       got = [];
@@ -362,7 +363,7 @@ opened_then d e port n is = is ∙ sym (ap (λ (f : Opening). f.opened) port.2)
 
 -- what was received is folded
 pub folds_received : (e : End Delivery Opening) (hand : Option Message) (result : Folding)
-    (ended : Bool) → Reads e result hand ended
+    (ended : Bool) → ReadsPort e result hand ended
     → result ≡ folding_after_all (opening_of e.floor) (received (hold e hand result))
 folds_received e hand result ended r =
     r.folds ∙ ap (folding_after_all (opening_of e.floor))
@@ -370,7 +371,7 @@ folds_received e hand result ended r =
 
 -- what is so of each reading, in what contracts see of it
 pub told_now : (e : End Delivery Opening) (hand : Option Message) (result : Folding) (ended : Bool)
-    → Reads e result hand ended → IsTold (hold e hand result)
+    → ReadsPort e result hand ended → IsTold (hold e hand result)
 told_now e hand result ended r =
     let got = received_is e hand result r.got r.all in
     record {
@@ -404,7 +405,7 @@ settled_result law follow test r told settled =
     let long = extends_length (floor_of f) b legal_list.later in
     let opening : f.opened ≡ length (floor_of f).changes = legal_list.opening in
     let state = state_then (floor_of f) b f.opened opening first legal_list.later in
-    let front : IsPrefixOf got (updates_of (query_of f) f.moved b f.opened (length b.changes)) =
+    let front : IsPrefix got (updates_of (query_of f) f.moved b f.opened (length b.changes)) =
     prefix_trans got (messages_in r.port.taken)
     (updates_of (query_of f) f.moved b f.opened (length b.changes))
     (option_to_list r.hand, sym told.all) legal_list.front in

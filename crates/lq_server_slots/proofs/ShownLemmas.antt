@@ -6,7 +6,7 @@ use Rattle.std.proofs.Math.ListN.{drop_of_length-le}
 use Rattle.std.proofs.lemmas.List.FromFn.{get_or-map-range_with_len}
 use Rattle.lq_volume.specs.declared.change.Change.{Change}
 use Rattle.lq_volume.specs.Book.{Book, number_of, state_of}
-use Rattle.lq_board.specs.declared.views.KnownSlot.{KnownSlot}
+use Rattle.lq_board.specs.declared.token_views.KnownSlot.{KnownSlot}
 use Rattle.lq_board.specs.Book.{IsFullBook}
 use Rattle.lq_board.specs.Slot.{slot_at}
 use Rattle.lq_update.specs.declared.message.Message.{Message}
@@ -17,17 +17,17 @@ use Rattle.lq_update.specs.declared.mark.Cause.TheVariants.{Closed, HungUp, Over
 use Rattle.lq_update.specs.Updates.{updates_of, step_of}
 use Rattle.lq_desk_sub.specs.Held.{Held, after_messages, after_messages_by, ended_by, overruns as held_overruns}
 use Rattle.lq_port.specs.End.{all_put}
-use Rattle.lq_desk_world.specs.World.{Subscribed, End, covered_by, mark_behind, updates_due, waiting, overruns, overrun_if, after_change}
+use Rattle.lq_desk_world.specs.World.{Subscribed, Ending, covered_by, mark_behind, updates_due, waiting, change_overruns, overrun_if, after_change}
 use Rattle.lq_desk_world.specs.Events.{noticing_if, closing_if}
 use Rattle.lq_server_slots.specs.declared.delivery.Delivery.{Delivery}
 use Rattle.lq_server_slots.specs.declared.identity.Identity.{Identity}
 use Rattle.lq_server_slots.specs.declared.subscription.Subscription.{Subscription}
 use Rattle.lq_server_slots.specs.Updates.{updates}
 use Rattle.lq_server_slots.specs.Rule.{message_of, mark_or, messages_in, mark_in}
-use Rattle.lq_server_slots.specs.Standing.{StandsAt, IsReady, moved_mark, upto}
+use Rattle.lq_server_slots.specs.Standing.{IsConsistentAt, IsReady, moved_mark, upto}
 use Rattle.lq_server_slots.specs.Marking.{held_committed}
 use Rattle.lq_server_slots.specs.Slots.{SlotStands, slot_in}
-use Rattle.lq_server_slots.specs.Shown.{end_of, subscribed, shown_in, mark_to_put, with_mark, IsPassedOn, SlotPassesOn, SlotsShowWorlds, ActsShowWorlds}
+use Rattle.lq_server_slots.specs.Shown.{mark_ending, subscribed, slot_shown, mark_to_put, with_mark, PassesOnAs, SlotPassesOn, SlotsShowWorlds, ActsShowWorlds}
 use Rattle.lq_server_slots.proofs.SlotLemmas.{told_length}
 
 -- the opaque list is the query's update list
@@ -39,20 +39,20 @@ opened_list s book n = refl
 
 -- the mark and the end cover the same changes
 covers : (o : Option Mark) (book : Book) → book.start.number ≡ 0
-    → upto o (length book.changes) ≡ covered_by book (end_of o)
+    → upto o (length book.changes) ≡ covered_by book (mark_ending o)
 covers None book zero = omega (arith, zero)
 covers (Some k) book zero = refl
 
 -- the updates due to the subscription of the world
 dues : (asked : Bool) (taken : ℕ) (s : Subscription) (book : Book) → IsFullBook book
-    → StandsAt s book
+    → IsConsistentAt s book
     → updates_due book (subscribed asked taken s)
     ≡ messages_in (all_put s.input) ++ s.sub.held.messages
 dues asked taken s book full stands =
     sym (stands.list
     ∙ ap (updates s.sub.held.query s.sub.held.moved book s.sub.held.opened)
     (covers s.sub.held.mark book full.first)
-    ∙ opened_list s book (covered_by book (end_of s.sub.held.mark)))
+    ∙ opened_list s book (covered_by book (mark_ending s.sub.held.mark)))
 
 -- a parcel is at most one message
 one_at_most : (w : Parcel) (ms : List Message) (n : ℕ) → length ms ≤ n
@@ -88,7 +88,8 @@ out_there b None e some = absurd (true≢false (sym some))
 out_there b (Some k) e some = (k, ap (λ (x : Bool). moved_mark x (Some k)) e)
 
 -- the messages held are what waits in the world
-holds : (b : Bool) (s : Subscription) (book : Book) → s.sub.held.mark_out ≡ b → StandsAt s book
+holds : (b : Bool) (s : Subscription) (book : Book) → s.sub.held.mark_out ≡ b
+    → IsConsistentAt s book
     → drop (length (all_put s.input))
     (messages_in (all_put s.input) ++ s.sub.held.messages) ≡ s.sub.held.messages
 holds false s book is stands =
@@ -106,22 +107,23 @@ holds true s book is stands =
 
 -- the mark behind the updates is the lock's
 behind : (n : ℕ) (o : Option Mark) → IfSome o (λ k. k.seq ≡ n + 1)
-    → mark_behind n (end_of o) ≡ mark_to_put false o
+    → mark_behind n (mark_ending o) ≡ mark_to_put false o
 behind n None is = refl
 behind n (Some k) is =
     λ i. Fin (record { seq = sym is i; change = k.change; cause = k.cause }) ∷ []
 
 -- and it is still to come where it isn't out
-marks : (b : Bool) (s : Subscription) (book : Book) → s.sub.held.mark_out ≡ b → StandsAt s book
+marks : (b : Bool) (s : Subscription) (book : Book) → s.sub.held.mark_out ≡ b
+    → IsConsistentAt s book
     → (n : ℕ) → n ≡ length (messages_in (all_put s.input) ++ s.sub.held.messages)
-    → drop (length (all_put s.input) - n) (mark_behind n (end_of s.sub.held.mark))
+    → drop (length (all_put s.input) - n) (mark_behind n (mark_ending s.sub.held.mark))
     ≡ mark_to_put s.sub.held.mark_out s.sub.held.mark
 marks false s book is stands n long =
     let none = stands.out ∙ ap (λ (x : Bool). moved_mark x s.sub.held.mark) is in
     let told = told_length (all_put s.input) none in
     let joined = length-append (messages_in (all_put s.input)) s.sub.held.messages in
     let zero : length (all_put s.input) - n ≡ 0 = omega arith in
-    ap (λ (m : ℕ). drop m (mark_behind n (end_of s.sub.held.mark))) zero
+    ap (λ (m : ℕ). drop m (mark_behind n (mark_ending s.sub.held.mark))) zero
     ∙ behind n s.sub.held.mark
     (numbered s.sub.held.mark (λ k. (k.seq ≡ s.sub.held.sent + 1)
     × (k.change ≤ length book.changes)) (λ k h. h.0 ∙ ap (λ (m : ℕ). m + 1)
@@ -138,17 +140,17 @@ marks true s book is stands n long =
     let fewer = fewer_messages (all_put s.input) there.0 (stands.out ∙ there.1) in
     let none : length s.sub.held.messages ≡ 0 = ap (length {A = Message}) done.0 in
     let joined = length-append (messages_in (all_put s.input)) s.sub.held.messages in
-    drop_of_length-le (mark_behind n (end_of s.sub.held.mark))
-    (let most = at_most n (end_of s.sub.held.mark) in omega arith)
+    drop_of_length-le (mark_behind n (mark_ending s.sub.held.mark))
+    (let most = at_most n (mark_ending s.sub.held.mark) in omega arith)
     ∙ ap (λ (x : Bool). mark_to_put x s.sub.held.mark) (sym is)
   where
-    at_most : (n : ℕ) (o : Option End) → length (mark_behind n o) ≤ 1
+    at_most : (n : ℕ) (o : Option Ending) → length (mark_behind n o) ≤ 1
     at_most n None = omega arith
     at_most n (Some e) = omega arith
 
 -- a subscription under the lock stands for one of the world
 passed_on : (asked : Bool) (taken : ℕ) (s : Subscription) (book : Book) → IsFullBook book
-    → StandsAt s book → IsPassedOn book (subscribed asked taken s) s
+    → IsConsistentAt s book → PassesOnAs book (subscribed asked taken s) s
 passed_on asked taken s book full stands =
     let due = dues asked taken s book full stands in
     let held : waiting book (subscribed asked taken s) ≡ s.sub.held.messages =
@@ -164,7 +166,7 @@ passed_on asked taken s book full stands =
 
 -- and so for a slot that may be free
 slot_passed : (taken : ℕ) (o : Option Subscription) (p : KnownSlot Identity) (book : Book)
-    → IsFullBook book → SlotStands o p book → SlotPassesOn book (shown_in taken o p) o
+    → IsFullBook book → SlotStands o p book → SlotPassesOn book (slot_shown taken o p) o
 slot_passed taken None p book full stands = tt
 slot_passed taken (Some s) p book full stands =
     passed_on (nat_lt s.asks p.asks) taken s book full stands.stands
@@ -172,7 +174,7 @@ slot_passed taken (Some s) p book full stands =
 -- slots that stand over the keeper's book show a world
 pub slots_shown : SlotsShowWorlds
 slots_shown slots taken full stands k pos within =
-    let f : ℕ → Option Subscribed = λ k. shown_in (taken k) (slot_in slots.subscriptions.items k)
+    let f : ℕ → Option Subscribed = λ k. slot_shown (taken k) (slot_in slots.subscriptions.items k)
     (slot_at slots.keeper.slots k) in
     subst
     (λ (o : Option Subscribed). SlotPassesOn slots.keeper.book o
@@ -189,14 +191,14 @@ number_is book full = omega (arith, full.first)
 
 -- a commit ends it as the change does, by whether its messages are too many
 overrun_shown : (h : Held) (ready : List Message) (before : ℕ) (book : Book) (u : Subscribed)
-    → u.end ≡ end_of h.mark → before ≡ number_of book → (b : Bool)
+    → u.end ≡ mark_ending h.mark → before ≡ number_of book → (b : Bool)
     → overrun_if book u b ≡ with_mark u (after_messages_by h ready before b).mark
 overrun_shown h ready before book u end at true =
     λ i. record u { end = Some (record { cause = Overrun; change = sym at i }) }
 overrun_shown h ready before book u end at false = λ i. record u { end = end i }
 
 change_shown : (asked : Bool) (taken : ℕ) (s : Subscription) (book : Book) (c : Change)
-    → IsFullBook book → StandsAt s book → IsReady s.sub (state_of book) c
+    → IsFullBook book → IsConsistentAt s book → IsReady s.sub (state_of book) c
     → (o : Option Mark) → s.sub.held.mark ≡ o
     → after_change book c (subscribed asked taken s)
     ≡ with_mark (subscribed asked taken s) (held_committed s.sub).mark
@@ -204,17 +206,17 @@ change_shown asked taken s book c full stands ready (Some k) is =
     let h = s.sub.held in
     let u = subscribed asked taken s in
     let ended : is_none h.mark ≡ false = ap (λ (o : Option Mark). is_none o) is in
-    let over : is_none (end_of h.mark) ≡ false =
-    ap (λ (o : Option Mark). is_none (end_of o)) is in
-    ap (λ (b : Bool). overrun_if book u (b && overruns book c u)) over
+    let over : is_none (mark_ending h.mark) ≡ false =
+    ap (λ (o : Option Mark). is_none (mark_ending o)) is in
+    ap (λ (b : Bool). overrun_if book u (b && change_overruns book c u)) over
     ∙ sym (ap (λ (b : Bool). with_mark u
     (if b then after_messages h s.sub.ready s.sub.before else h).mark) ended)
 change_shown asked taken s book c full stands ready None is =
     let h = s.sub.held in
     let u = subscribed asked taken s in
     let live : is_none h.mark ≡ true = ap (λ (o : Option Mark). is_none o) is in
-    let going : is_none (end_of h.mark) ≡ true =
-    ap (λ (o : Option Mark). is_none (end_of o)) is in
+    let going : is_none (mark_ending h.mark) ≡ true =
+    ap (λ (o : Option Mark). is_none (mark_ending o)) is in
     let made = ready is in
     let passed = passed_on asked taken s book full stands in
     let sent : length (updates_due book u) ≡ h.sent =
@@ -227,7 +229,7 @@ change_shown asked taken s book c full stands ready None is =
     ap (length {A = Message}) passed.held in
     let before : s.sub.before ≡ number_of book =
     made.1 ∙ full.number ∙ sym (number_is book full) in
-    ap (λ (b : Bool). overrun_if book u (b && overruns book c u)) going
+    ap (λ (b : Bool). overrun_if book u (b && change_overruns book c u)) going
     ∙ (λ i. overrun_if book u (nat_lt 0 (news i) && nat_lt h.backlog (waits i + news i)))
     ∙ overrun_shown h s.sub.ready s.sub.before book u refl before (held_overruns h s.sub.ready)
     ∙ sym (ap (λ (b : Bool). with_mark u
@@ -235,7 +237,7 @@ change_shown asked taken s book c full stands ready None is =
 
 -- an end in the world and the mark under the lock, by whether there is one
 notice_shown : (h : Held) (book : Book) (u : Subscribed) (asked : Bool) → IsFullBook book
-    → u.end ≡ end_of h.mark → (b : Bool)
+    → u.end ≡ mark_ending h.mark → (b : Bool)
     → (noticing_if book u b).1
     ≡ Some (with_mark u (if b then ended_by h HungUp (length book.changes) else h).mark)
 notice_shown h book u asked full end true =
@@ -243,7 +245,7 @@ notice_shown h book u asked full end true =
 notice_shown h book u asked full end false = λ i. Some (record u { end = end i })
 
 close_shown : (h : Held) (book : Book) (u : Subscribed) → IsFullBook book
-    → u.end ≡ end_of h.mark → (b : Bool)
+    → u.end ≡ mark_ending h.mark → (b : Bool)
     → (closing_if book u b).1
     ≡ Some (with_mark u (if b then ended_by h Closed (length book.changes) else h).mark)
 close_shown h book u full end true =
@@ -251,7 +253,7 @@ close_shown h book u full end true =
 close_shown h book u full end false = λ i. Some (record u { end = end i })
 
 -- a subscription is live where the one that it stands for is
-same_live : (o : Option Mark) → is_none (end_of o) ≡ is_none o
+same_live : (o : Option Mark) → is_none (mark_ending o) ≡ is_none o
 same_live None = refl
 same_live (Some k) = refl
 

@@ -6,7 +6,7 @@ use native.Mathlib.Decide.{ℕ_discrete}
 use Rattle.lq_volume.specs.declared.change.Change.{Change}
 use Rattle.lq_volume.specs.Change.{IsLawful}
 use Rattle.lq_volume.specs.Book.{Book, grown, state_of}
-use Rattle.lq_board.specs.declared.views.KnownSlot.{KnownSlot}
+use Rattle.lq_board.specs.declared.token_views.KnownSlot.{KnownSlot}
 use Rattle.lq_board.specs.Book.{IsFullBook}
 use Rattle.lq_board.specs.Slot.{slot_at, unused, unused_slots, counted}
 use Rattle.lq_board.specs.Token.{KeeperToken}
@@ -25,8 +25,8 @@ use Rattle.lq_server_slots.specs.declared.subscription.Subscription.{Subscriptio
 use Rattle.lq_server_slots.specs.Rule.{message_of, mark_or, messages_in, mark_in}
 use Rattle.lq_server_slots.specs.Marking.{hung_mark}
 use Rattle.lq_server_slots.specs.Identity.{identity_of, port_id}
-use Rattle.lq_server_slots.specs.Standing.{Stands, StandsAt, IsFilled, IsSeen, IsStuck, IsOut, SameButPuts, SameButHeld, moved_mark, seen_of}
-use Rattle.lq_server_slots.specs.Slots.{IsTaken, IsToFill, SlotStands, asks_of, slot_in, AllStand, OnlyAt, before_of, IsGrown}
+use Rattle.lq_server_slots.specs.Standing.{Stands, IsConsistentAt, IsFilled, IsSeen, CannotPut, IsOut, SameButPuts, SameButHeld, moved_mark, seen_of}
+use Rattle.lq_server_slots.specs.Slots.{IsTakenSlot, IsToFill, SlotStands, asks_of, slot_in, AllStand, OnlyAt, before_of, IsGrown}
 
 -- ---- one slot
 
@@ -48,7 +48,7 @@ mark_stays true o h = absurd (h refl)
 mark_stays false o h = refl
 
 -- with a message held, no mark was put
-pub held_unmoved : (s : Subscription) (book : Book) → StandsAt s book
+pub held_unmoved : (s : Subscription) (book : Book) → IsConsistentAt s book
     → 0 < length s.sub.held.messages → mark_in (all_put s.input) ≡ None
 held_unmoved s book stands some =
     stands.out ∙ mark_stays s.sub.held.mark_out s.sub.held.mark
@@ -57,7 +57,7 @@ held_unmoved s book stands some =
 
 -- where nothing more could be put, messages are held only after as many as the port has places, and
 -- those that had been taken
-pub stuck_filled : (s : Subscription) (book : Book) → StandsAt s book → IsSeen s → IsStuck s
+pub stuck_filled : (s : Subscription) (book : Book) → IsConsistentAt s book → IsSeen s → CannotPut s
     → IsFilled s
 stuck_filled s book stands seen stuck some =
     let told : length (messages_in (all_put s.input)) ≡ length (all_put s.input) =
@@ -99,7 +99,7 @@ identity_others s t a first_close = λ i. record {
 
 -- a taken slot whose subscription and book changed stands, but for what its port has room for
 pub to_fill_then : (s t : Subscription) (p : KnownSlot Identity) (book0 book : Book)
-    → IsTaken s p book0 → StandsAt t book → IsSeen t → identity_of t ≡ identity_of s
+    → IsTakenSlot s p book0 → IsConsistentAt t book → IsSeen t → identity_of t ≡ identity_of s
     → (hung_mark t.sub.held.mark → hung_mark s.sub.held.mark) → IsToFill t p book
 to_fill_then s t p book0 book taken stands seen identity hung =
     let asks : t.asks ≡ s.asks = ap (λ (x : Identity). x.asks) identity in
@@ -113,7 +113,7 @@ to_fill_then s t p book0 book taken stands seen identity hung =
 
 -- and it stands whole once its port is filled
 pub taken_filled : (s t : Subscription) (p : KnownSlot Identity) (book : Book) → IsToFill s p book
-    → StandsAt t book → IsSeen t → IsStuck t → SameButPuts s t → IsTaken t p book
+    → IsConsistentAt t book → IsSeen t → CannotPut t → SameButPuts s t → IsTakenSlot t p book
 taken_filled s t p book was stands seen stuck alike =
     record {
       stands = stands;
@@ -141,7 +141,7 @@ seen_alike s t alike taken seen =
 -- the keeper knows more of a taken slot's asks, and the subscription may have ended
 pub taken_noticed : (s t : Subscription) (p q : KnownSlot Identity) (n : ℕ) (asked : Bool)
     (book : Book)
-    → IsTaken s p book → StandsAt t book → SameButHeld s t → t.first_close ≡ s.first_close
+    → IsTakenSlot s p book → IsConsistentAt t book → SameButHeld s t → t.first_close ≡ s.first_close
     → t.sub.held.messages ≡ s.sub.held.messages
     → (hung_mark t.sub.held.mark → (asked ≡ true) ⊎ hung_mark s.sub.held.mark)
     → (asked ≡ true → s.asks < n) → p.asks ≤ n → q ≡ record {
@@ -149,7 +149,7 @@ pub taken_noticed : (s t : Subscription) (p q : KnownSlot Identity) (n : ℕ) (a
       asks = n;
       name =
           p.name;
-    } → IsTaken t q book
+    } → IsTakenSlot t q book
 taken_noticed s t p q n asked book taken stands others first_close messages hung test le is =
     let identity = identity_others s t others first_close in
     let asks = others.asks in
@@ -173,11 +173,12 @@ taken_noticed s t p q n asked book taken stands others first_close messages hung
     }
 
 -- a taken slot stands on where all that is held, and whether it was closed, stay
-pub taken_alike : (s t : Subscription) (p : KnownSlot Identity) (book : Book) → IsTaken s p book
-    → t.sub.held ≡ s.sub.held → SameButHeld s t → t.first_close ≡ s.first_close → IsTaken t p book
+pub taken_alike : (s t : Subscription) (p : KnownSlot Identity) (book : Book) → IsTakenSlot s p book
+    → t.sub.held ≡ s.sub.held → SameButHeld s t → t.first_close ≡ s.first_close
+    → IsTakenSlot t p book
 taken_alike s t p book taken held others first_close =
     let mark = ap (λ (h : Held). h.mark) held in
-    let stands : StandsAt t book =
+    let stands : IsConsistentAt t book =
     subst
     (λ (z : Held × End Delivery Opening × ℕ × Told × FirstClose). Stands z.0 z.1 z.2 z.3 z.4 book)
     (λ i. (

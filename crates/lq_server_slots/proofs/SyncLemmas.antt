@@ -4,7 +4,7 @@ use Rattle.std.specs.Prelude.{IsSome, IsSomeAnd}
 use Rattle.std.proofs.lemmas.List.{set-get_or}
 use Rattle.lq_volume.specs.declared.change.Change.{Change}
 use Rattle.lq_volume.specs.Book.{Book, Extends, grown}
-use Rattle.lq_board.specs.declared.views.KnownSlot.{KnownSlot}
+use Rattle.lq_board.specs.declared.token_views.KnownSlot.{KnownSlot}
 use Rattle.lq_board.specs.Slot.{slot_at, unused, gone_out, go_out, come_back}
 use Rattle.lq_board.specs.Token.{SeatToken}
 use Rattle.lq_update.specs.declared.message.Message.{Message}
@@ -19,8 +19,8 @@ use Rattle.lq_server_slots.specs.Rule.{messages_in}
 use Rattle.lq_server_slots.specs.Marking.{hung_mark, after_close}
 use Rattle.lq_server_slots.specs.Identity.{identity_of, port_id_inj}
 use Rattle.lq_server_slots.specs.Reading.{ReadingHold}
-use Rattle.lq_server_slots.specs.Standing.{Stands, StandsAt, IsDrained, IsSeen, IsStuck, SameButHeld, seen_of, told_by}
-use Rattle.lq_server_slots.specs.Slots.{IsTaken, SlotStands, asks_of, OnlyAt}
+use Rattle.lq_server_slots.specs.Standing.{Stands, IsConsistentAt, IsDrained, IsSeen, CannotPut, SameButHeld, seen_of, told_by}
+use Rattle.lq_server_slots.specs.Slots.{IsTakenSlot, SlotStands, asks_of, OnlyAt}
 use Rattle.lq_server_slots.specs.Opening.{IdentityFits, name_or}
 use Rattle.lq_server_slots.specs.Progress.{IsShown}
 use Rattle.lq_server_slots.specs.declared.sync.Progress.{Progress}
@@ -113,9 +113,9 @@ close_then o p q asked m n same number is = is
 
 -- a taken slot stands on once its seat has met the keeper
 pub taken_met : (s : Subscription) (p q : KnownSlot Identity) (book : Book) (n : ℕ)
-    (name : Option Identity) → IsTaken s p book
+    (name : Option Identity) → IsTakenSlot s p book
     → q ≡ record { out = true; asks = n; name = name } → p.name ≡ name → p.asks ≤ n
-    → IsTaken s q book
+    → IsTakenSlot s q book
 taken_met s p q book n name taken is same le =
     let e : q.asks ≡ n = ap (λ (x : KnownSlot Identity). x.asks) is in
     record {
@@ -134,8 +134,8 @@ seen_now n seen (Some k) = omega arith
 
 -- a taken slot stands on once its port is filled and its reader told, and its seat has its new name
 pub taken_shown : (s t : Subscription) (p q : KnownSlot Identity) (n : ℕ) (book : Book)
-    (d e : ReadingHold) (x : Progress) → IsTaken s p book → IsShown s t d e book x → p.asks ≤ n
-    → q ≡ record { out = true; asks = n; name = Some (identity_of t) } → IsTaken t q book
+    (d e : ReadingHold) (x : Progress) → IsTakenSlot s p book → IsShown s t d e book x → p.asks ≤ n
+    → q ≡ record { out = true; asks = n; name = Some (identity_of t) } → IsTakenSlot t q book
 taken_shown s t p q n book d e x taken shown le is =
     let m : Subscription = shown.m in
     let b = shown.between in
@@ -143,17 +143,17 @@ taken_shown s t p q n book d e x taken shown le is =
     let seen : ℕ = length e.port.taken in
     let told : told_by (length book.changes) seen m.sub.held.mark ≡ t.told.value =
     sym (shown.told ∙ ap (λ (k : ℕ). told_by k seen m.sub.held.mark) shown.number) in
-    let stands : StandsAt u book =
+    let stands : IsConsistentAt u book =
     subst (λ (z : Told). Stands m.sub.held m.input m.places z m.first_close book) told
     (told_now m.sub.held m.input m.places m.told.value m.first_close book seen b.stands) in
     let few : IsSeen u =
     subst (λ (z : Told × List Delivery). seen_of z.0 ≤ length z.1)
     (λ i. (told i, sym b.met i)) (seen_now (length book.changes) seen m.sub.held.mark) in
-    let stuck : IsStuck u =
+    let stuck : CannotPut u =
     subst (IsDrained m) (ap (length {A = Delivery}) (sym b.ahead)) shown.drained in
     let known : q.asks ≡ n = ap (λ (x : KnownSlot Identity). x.asks) is in
     let asks = b.alike.asks in
-    subst (λ (z : Subscription). IsTaken z q book) (sym shown.rest)
+    subst (λ (z : Subscription). IsTakenSlot z q book) (sym shown.rest)
     (record {
       stands = stands;
       filled = stuck_filled u book stands few stuck;
@@ -166,10 +166,10 @@ taken_shown s t p q n book d e x taken shown le is =
 
 -- a taken slot stands on once it was closed, and its seat has its new name
 pub taken_closed : (s t : Subscription) (p q : KnownSlot Identity) (n : ℕ) (book : Book)
-    → IsTaken s p book → StandsAt t book → SameButHeld s t → t.sub.held.messages ≡
+    → IsTakenSlot s p book → IsConsistentAt t book → SameButHeld s t → t.sub.held.messages ≡
     s.sub.held.messages → (hung_mark t.sub.held.mark → hung_mark s.sub.held.mark)
     → p.asks ≤ n → q ≡ record { out = true; asks = n; name = Some (identity_of t) }
-    → IsTaken t q book
+    → IsTakenSlot t q book
 taken_closed s t p q n book taken stands others messages hung le is =
     let asks = others.asks in
     let known : q.asks ≡ n = ap (λ (x : KnownSlot Identity). x.asks) is in

@@ -10,13 +10,13 @@ use mathlib.Core.Logic.{dite}
 use native.Mathlib.Decide.{ℕ_discrete}
 use Rattle.lq_volume.specs.State.{State}
 use Rattle.lq_volume.specs.declared.change.Change.{Change}
-use Rattle.lq_board.specs.declared.views.KnownSlot.{KnownSlot}
+use Rattle.lq_board.specs.declared.token_views.KnownSlot.{KnownSlot}
 use Rattle.lq_volume.specs.Book.{Book}
 use Rattle.lq_board.specs.Slot.{slot_at}
 use Rattle.lq_board.specs.Token.{KeeperToken}
 use Rattle.lq_server_slots.specs.declared.identity.Identity.{Identity}
 use Rattle.lq_server_slots.specs.declared.subscription.Subscription.{Subscription}
-use Rattle.lq_server_slots.specs.Slots.{AllStand, OnlyAt, SlotStands, asks_of, slot_in, place_at, IsListed, IsDropped, IsReadyAt, all_taken, is_full}
+use Rattle.lq_server_slots.specs.Slots.{AllStand, OnlyAt, SlotStands, asks_of, slot_in, taken_slot, IsListed, IsDropped, IsReadyAt, all_taken, has_no_free}
 use Rattle.lq_server_slots.proofs.SlotLemmas.{all_stand-step, in_here, in_else}
 
 -- a slot is free or taken
@@ -62,7 +62,7 @@ listed-alike taken slots slots' same l =
       low = l.low;
       high = l.high;
       once = l.once;
-      some = λ i lt. same (place_at taken i) (l.high i lt) ∙ l.some i lt;
+      some = λ i lt. same (taken_slot taken i) (l.high i lt) ∙ l.some i lt;
       each = λ k pos within some. l.each k pos within (sym (same k within) ∙ some);
     }
 
@@ -114,29 +114,30 @@ listed-add taken slots k s l wide pos within none =
     let more : List ℕ = taken ++ k ∷ [] in
     let set : List (Option Subscription) = slice_set slots k (Some s) in
     let long : length more ≡ length taken + 1 = length-append taken (k ∷ []) in
-    let old : (i : ℕ) → i < n → place_at more i ≡ place_at taken i = λ i lt. get_or_append_left
+    let old : (i : ℕ) → i < n → taken_slot more i ≡ taken_slot taken i = λ i lt. get_or_append_left
     taken (k ∷ []) 0 i lt in
-    let new : place_at more n ≡ k = get_or-append_seam taken k [] 0 in
-    let apart : (i : ℕ) → i < n → place_at taken i ≢ k =
+    let new : taken_slot more n ≡ k = get_or-append_seam taken k [] 0 in
+    let apart : (i : ℕ) → i < n → taken_slot taken i ≢ k =
     λ i lt e. true≢false (sym (subst (λ (j : ℕ). is_some (slot_in slots j) ≡ true) e (l.some i lt))
     ∙ some_ap _ _ none) in
     record {
-      low = λ i lt. up_to (λ i. 0 < place_at more i) n i (omega arith)
+      low = λ i lt. up_to (λ i. 0 < taken_slot more i) n i (omega arith)
           (λ b. subst (λ (p : ℕ). 0 < p) (sym (old i b)) (l.low i b))
           (subst (λ (p : ℕ). 0 < p) (sym new) pos);
-      high = λ i lt. up_to (λ i. place_at more i < 65) n i (omega arith)
+      high = λ i lt. up_to (λ i. taken_slot more i < 65) n i (omega arith)
           (λ b. subst (λ (p : ℕ). p < 65) (sym (old i b)) (l.high i b))
           (subst (λ (p : ℕ). p < 65) (sym new) within);
-      once = λ i j lti ltj. up_to (λ i. place_at more i ≡ place_at more j → i ≡ j) n i (omega arith)
-          (λ bi. up_to (λ j. place_at more i ≡ place_at more j → i ≡ j) n j (omega arith)
+      once = λ i j lti ltj. up_to (λ i. taken_slot more i ≡ taken_slot more j → i ≡ j) n i
+          (omega arith)
+          (λ bi. up_to (λ j. taken_slot more i ≡ taken_slot more j → i ≡ j) n j (omega arith)
           (λ bj e. l.once i j bi bj (sym (old i bi) ∙ e ∙ old j bj))
           (λ e. absurd (apart i bi (sym (old i bi) ∙ e ∙ new))))
-          (up_to (λ j. place_at more n ≡ place_at more j → n ≡ j) n j (omega arith)
+          (up_to (λ j. taken_slot more n ≡ taken_slot more j → n ≡ j) n j (omega arith)
           (λ bj e. absurd (apart j bj (sym (old j bj) ∙ sym e ∙ new)))
           (λ e. refl));
-      some = λ i lt. up_to (λ i. IsSome (slot_in set (place_at more i))) n i (omega arith)
+      some = λ i lt. up_to (λ i. IsSome (slot_in set (taken_slot more i))) n i (omega arith)
           (λ b. subst (λ (p : ℕ). is_some (slot_in set p) ≡ true) (sym (old i b))
-          (some_ap _ _ (in_else slots k (place_at taken i) (Some s) (apart i b)) ∙ l.some i b))
+          (some_ap _ _ (in_else slots k (taken_slot taken i) (Some s) (apart i b)) ∙ l.some i b))
           (subst (λ (p : ℕ). is_some (slot_in set p) ≡ true) (sym new)
           (some_ap _ _ (in_here slots k (Some s) (omega arith))));
       each = λ j low high some. dite (ℕ_discrete j k)
@@ -151,7 +152,7 @@ listed-add taken slots k s l wide pos within none =
 record WasAt (taken fewer : List ℕ) (a i : ℕ) : Type 0 where
   pub old : ℕ
   pub within : old < length taken
-  pub same : place_at fewer i ≡ place_at taken old
+  pub same : taken_slot fewer i ≡ taken_slot taken old
   pub other : old ≢ a
   pub below : i < a → old ≡ i
   pub above : a ≤ i → old ≡ i + 1
@@ -182,7 +183,7 @@ was_at taken a i at lt =
 
 -- a taken slot was freed, and its place removed
 pub listed-remove : (taken : List ℕ) (slots : List (Option Subscription)) (k a : ℕ)
-    → IsListed taken slots → a < length taken → place_at taken a ≡ k → length slots ≡ 65
+    → IsListed taken slots → a < length taken → taken_slot taken a ≡ k → length slots ≡ 65
     → IsListed (remove taken a) (slice_set slots k None)
 listed-remove taken slots k a l at here wide =
     let fewer : List ℕ = remove taken a in
@@ -208,10 +209,10 @@ listed-remove taken slots k a l at here wide =
           (cases_lt i a);
       some = λ i lt.
           let v = was_at taken a i at lt in
-          let ne : place_at taken v.old ≢ k =
+          let ne : taken_slot taken v.old ≢ k =
           λ e. v.other (l.once v.old a v.within at (e ∙ sym here)) in
           subst (λ (p : ℕ). is_some (slot_in set p) ≡ true) (sym v.same)
-          (some_ap _ _ (in_else slots k (place_at taken v.old) None ne) ∙ l.some v.old v.within);
+          (some_ap _ _ (in_else slots k (taken_slot taken v.old) None ne) ∙ l.some v.old v.within);
       each = λ j low high some. dite (ℕ_discrete j k)
           (λ (e : j ≡ k). absurd (true≢false (sym some ∙ ap (λ (i : ℕ). is_some (slot_in set i)) e
           ∙ some_ap _ _ (in_here slots k None (omega arith)))))
@@ -219,15 +220,15 @@ listed-remove taken slots k a l at here wide =
           let was = l.each j low high (sym (some_ap _ _ (in_else slots k j None ne)) ∙ some) in
           let m : ℕ = was.0 in
           let lt : m < length taken = was.1 in
-          let is : place_at taken m ≡ j = was.2 in
-          let off : m ≢ a = λ e. ne (sym is ∙ ap (place_at taken) e ∙ here) in
+          let is : taken_slot taken m ≡ j = was.2 in
+          let off : m ≢ a = λ e. ne (sym is ∙ ap (taken_slot taken) e ∙ here) in
           ⊎_elim
           (λ (b : m < a). (m, omega arith, get_or-remove_below taken a 0 m b at ∙ is))
           (λ (b : a ≤ m). let up : (m - 1) + 1 ≡ m = omega (arith, off) in (
             m - 1,
             omega (arith, off),
             get_or-remove_above taken a 0 (m - 1) (omega (arith, off)) at
-                ∙ ap (place_at taken) up ∙ is,
+                ∙ ap (taken_slot taken) up ∙ is,
           ))
           (cases_lt m a));
     }
@@ -243,19 +244,19 @@ listed-drop taken taken' slots k l wide d =
 -- one more of the listed slots is ready
 pub ready_more : (taken : List ℕ) (slots : List (Option Subscription)) (count place : ℕ)
     (o : Option Subscription) (s : State) (c : Change) → IsListed taken slots
-    → length slots ≡ 65 → count < length taken → place ≡ place_at taken count → IsReadyAt o s c
-    → ((j : ℕ) → j < count → j < length taken → IsReadyAt (slot_in slots (place_at taken j)) s c)
+    → length slots ≡ 65 → count < length taken → place ≡ taken_slot taken count → IsReadyAt o s c
+    → ((j : ℕ) → j < count → j < length taken → IsReadyAt (slot_in slots (taken_slot taken j)) s c)
     → (j : ℕ) → j < count + 1 → j < length taken
-    → IsReadyAt (slot_in (slice_set slots place o) (place_at taken j)) s c
+    → IsReadyAt (slot_in (slice_set slots place o) (taken_slot taken j)) s c
 ready_more taken slots count place o s c l wide lt is ready h j under within =
     let high = l.high count lt in
     dite (ℕ_discrete j count)
     (λ (e : j ≡ count). subst (λ (p : ℕ). IsReadyAt (slot_in (slice_set slots place o) p) s c)
-    (is ∙ ap (place_at taken) (sym e))
+    (is ∙ ap (taken_slot taken) (sym e))
     (subst (λ (z : Option Subscription). IsReadyAt z s c)
     (sym (in_here slots place o (omega arith))) ready))
     (λ (ne : j ≢ count). subst (λ (z : Option Subscription). IsReadyAt z s c)
-    (sym (in_else slots place (place_at taken j) o (λ q. ne (l.once j count within lt (q ∙ is)))))
+    (sym (in_else slots place (taken_slot taken j) o (λ q. ne (l.once j count within lt (q ∙ is)))))
     (h j (omega (arith, ne)) within))
 
 -- ---- whether a slot is free
@@ -277,14 +278,14 @@ all_taken-each (Some s ∷ slots) h = all_taken-each slots (λ k lt. h (suc k) (
 
 -- a slot is free
 pub full-none : (slots : List (Option Subscription)) (k : ℕ) → length slots ≡ 65 → 0 < k → k < 65
-    → slot_in slots k ≡ None → false ≡ is_full slots
+    → slot_in slots k ≡ None → false ≡ has_no_free slots
 full-none [] k wide pos within none = absurd (omega arith)
 full-none (o ∷ slots) zero wide pos within none = absurd (omega arith)
 full-none (o ∷ slots) (suc k) wide pos within none = sym (all_taken-none slots k (omega arith) none)
 
 -- each slot is taken
 pub full-each : (slots : List (Option Subscription)) (n : ℕ) → length slots ≡ 65 → 65 ≤ n
-    → ((k : ℕ) → 0 < k → k < n → IsSome (slot_in slots k)) → true ≡ is_full slots
+    → ((k : ℕ) → 0 < k → k < n → IsSome (slot_in slots k)) → true ≡ has_no_free slots
 full-each [] n wide most h = absurd (omega arith)
 full-each (o ∷ slots) n wide most h =
     sym (all_taken-each slots (λ k lt. h (suc k) (omega arith) (omega arith)))

@@ -13,7 +13,7 @@ use Rattle.lq_board.specs.Slot.{slot_at}
 use Rattle.lq_board.specs.Token.{SeatToken}
 use Rattle.lq_server_slots.specs.declared.identity.Identity.{Identity}
 use Rattle.lq_server_slots.specs.declared.slots.ServerSlots.{ServerSlots}
-use Rattle.lq_server_slots.specs.Slots.{AllReady, IsNoticed, SlotsAre, SlotsStand}
+use Rattle.lq_server_slots.specs.Slots.{AllReady, IsNoticed, SlotsAre, AreConsistent}
 
 -- A change was made, or refused. The volume was v and is w, the book b and d, the author's seat s
 -- and t. Refused, the book and the seat's own changes stay. Made, it is the last of the book, under
@@ -43,6 +43,6 @@ pub record IsPrepared (v : State) (change : Change) (result : Result (Unit {0}) 
   pub board : new.keeper.board ≡ old.keeper.board
   pub book : new.keeper.book ≡ old.keeper.book
   pub openings : new.openings ≡ old.openings
-  pub holding : SlotsStand new new.keeper.book
+  pub holding : AreConsistent new new.keeper.book
   pub rises : (k : ℕ) → (slot_at old.keeper.slots k).asks ≤ (slot_at new.keeper.slots k).asks
   pub refused : IsRefusedBy result (refused v change)

@@ -5,7 +5,7 @@ use Rattle.lq_volume.specs.Book.{Book, Extends}
 use Rattle.lq_board.specs.Book.{IsFullBook}
 use Rattle.lq_server_slots.specs.declared.delivery.Delivery.{Delivery}
 use Rattle.lq_server_slots.specs.declared.delivery.Opening.{Opening}
-use Rattle.lq_server_slots.specs.Rule.{floor_of, messages_in, mark_in, last_book, whole, IsMark}
+use Rattle.lq_server_slots.specs.Rule.{floor_of, messages_in, mark_in, last_book, all_updates, IsMark}
 
 -- the book that is known from these parcels
 abbrev pub known_by : Opening → List Delivery → Book
@@ -16,5 +16,5 @@ pub record LegalList (f : Opening) (ps : List Delivery) : Type 0 where
   pub opening : f.opened ≡ length (floor_of f).changes
   pub later : Extends (known_by f ps) (floor_of f)
   pub full : IsFullBook (known_by f ps)
-  pub front : IsPrefix (messages_in ps) (whole f (known_by f ps))
+  pub front : IsPrefix (messages_in ps) (all_updates f (known_by f ps))
   pub mark : IfSome (mark_in ps) (IsMark f (messages_in ps) (known_by f ps))

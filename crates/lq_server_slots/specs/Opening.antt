@@ -20,10 +20,10 @@ use Rattle.lq_server_slots.specs.declared.subscription.Subscription.{Subscriptio
 use Rattle.lq_server_slots.specs.Rule.{floor_of, query_of}
 use Rattle.lq_server_slots.specs.Identity.{port_id}
 use Rattle.lq_server_slots.specs.Reading.{ReadingHold}
-use Rattle.lq_server_slots.specs.Standing.{StandsAt}
+use Rattle.lq_server_slots.specs.Standing.{IsConsistentAt}
 use Rattle.lq_server_slots.specs.declared.open.Opened.{Opened}
 use Rattle.lq_server_slots.specs.declared.slots.ServerSlots.{ServerSlots}
-use Rattle.lq_server_slots.specs.Slots.{is_full, slot_in}
+use Rattle.lq_server_slots.specs.Slots.{has_no_free, slot_in}
 
 -- the name belongs to the port
 pub record IdentityFits (t : Identity) (e : End Delivery Opening) : Type 0 where
@@ -39,9 +39,10 @@ asks_after n false = n
 asks_after n true = n + 1
 
 -- a subscription that was just made, and its reading end
-pub record IsBegun (s : Subscription) (r : ReadingHold) (book : Book) (q : Query) (mv : Bool)
+pub record IsNewSubscription (s : Subscription) (r : ReadingHold) (book : Book) (q : Query)
+    (mv : Bool)
     (port backlog : ℕ) : Type 0 where
-  pub stands : StandsAt s book
+  pub stands : IsConsistentAt s book
   pub messages : s.sub.held.messages ≡ []
   pub live : s.sub.held.mark ≡ None
   pub query : s.sub.held.query ≡ q
@@ -59,7 +60,7 @@ pub record IsBegun (s : Subscription) (r : ReadingHold) (book : Book) (q : Query
   pub result : r.result ≡ opened_at (length book.changes) (result_of q (state_of book))
 
 -- the name that goes with the seat of a subscription that was just opened
-pub record IsNamed (t : Identity) (o : Opened) (backlog : ℕ) : Type 0 where
+pub record IsOpenedName (t : Identity) (o : Opened) (backlog : ℕ) : Type 0 where
   pub fits : IdentityFits t o.reading.port
   pub asks : o.seat.asks ≡ t.asks
   pub few : t.asks < 1000000000000
@@ -78,7 +79,7 @@ pub record IsOpened (o : Opened) (board : BoardName) (book : Book) (q : Query) (
   pub seat : o.seat.book ≡ book
   pub fresh : o.seat.author.changes ≡ []
   pub signs : o.seat.author.signs ≡ board.free
-  pub named : IsSomeAnd o.seat.name (λ t. IsNamed t o backlog)
+  pub named : IsSomeAnd o.seat.name (λ t. IsOpenedName t o backlog)
   pub floor : floor_of o.reading.port.floor ≡ book
   pub query : query_of o.reading.port.floor ≡ q
   pub moved : o.reading.port.floor.moved ≡ mv
@@ -90,8 +91,8 @@ pub record IsOpened (o : Opened) (board : BoardName) (book : Book) (q : Query) (
   pub result : o.reading.result ≡ opened_at (length book.changes) (result_of q (state_of book))
 
 -- why an opening is refused by its numbers alone: the first that fits
-abbrev pub opening_refusal : ℕ → ℕ → Option Refusal
-opening_refusal port backlog = first_refusal (size_refusals port backlog)
+abbrev pub size_refusal : ℕ → ℕ → Option Refusal
+size_refusal port backlog = first_refusal (size_refusals port backlog)
 
 -- an opening over these slots and with this limit on the openings is refused by the first test that
 -- fits, and by no other
@@ -99,7 +100,7 @@ abbrev pub IsOpeningTabled : {T : Type 0} → ServerSlots → ℕ → ℕ → �
 IsOpeningTabled slots limit port backlog result =
     IsRefusedBy result
     (first_refusal
-    (opening_refusals (is_full slots.subscriptions.items) slots.openings limit port backlog))
+    (opening_refusals (has_no_free slots.subscriptions.items) slots.openings limit port backlog))
 
 -- the other reasons to refuse an opening: no slot is free, the openings have reached the volume's
 -- limit on changes, or memory ran out
@@ -115,8 +116,8 @@ pub record IsOpeningAnswer (slots : ServerSlots) (limit port backlog : ℕ)
   pub lowest : IfOk result (λ o.
       (j : ℕ) → 0 < j → j < o.slot → IsSome (slot_in slots.subscriptions.items j))
   -- the numbers are checked first, by their bounds alone
-  pub refused : IfSome (opening_refusal port backlog) (λ e. result ≡ Err e)
-  pub others : IfNone (opening_refusal port backlog) (IfErr result IsOpeningRefused)
+  pub refused : IfSome (size_refusal port backlog) (λ e. result ≡ Err e)
+  pub others : IfNone (size_refusal port backlog) (IfErr result IsOpeningRefused)
 
 -- the name of no subscription
 abbrev pub no_identity : Identity

@@ -11,14 +11,14 @@ use Rattle.lq_server_slots.specs.Rule.{MayFollow}
 use Rattle.lq_server_slots.specs.Marking.{hung_mark}
 use Rattle.lq_server_slots.specs.Identity.{identity_of}
 use Rattle.lq_server_slots.specs.Reading.{ReadingHold}
-use Rattle.lq_server_slots.specs.Standing.{StandsAt, IsDrained, SideBySide, told_by}
+use Rattle.lq_server_slots.specs.Standing.{IsConsistentAt, IsDrained, SideBySide, told_by}
 use Rattle.lq_server_slots.specs.declared.sync.Progress.{Progress}
 
 -- What a sync shows of a subscription; s is the subscription under the lock, once its port is
 -- filled and before its reader is told. The seat's name then says what it was told.
 pub record ShowsProgress (s : Subscription) (seat0 seat1 : SeatToken Identity) (d e : ReadingHold)
     (x : Progress) : Type 0 where
-  pub stands : StandsAt s seat1.book
+  pub stands : IsConsistentAt s seat1.book
   pub drained : IsDrained s (length e.port.ahead)
   pub port : IsSamePort d.port e.port
   pub floor : e.port.floor ≡ s.input.floor

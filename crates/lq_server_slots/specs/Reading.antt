@@ -26,7 +26,7 @@ abbrev pub opening_of : Opening → Folding
 opening_of f = opened_at f.opened (result_of (query_of f) (state_of (floor_of f)))
 
 -- the messages received are those that the port gave, except the one in hand; they are folded
-pub record Reads
+pub record ReadsPort
     (e : End Delivery Opening) (result : Folding) (hand : Option Message) (ended : Bool)
     : Type 0 where
   pub got : List Message

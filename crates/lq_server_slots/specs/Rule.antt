@@ -71,8 +71,8 @@ abbrev pub upto_change : Opening → Book → ℕ → List Message
 upto_change f book n = updates (query_of f) f.moved book f.opened n
 
 -- and all updates over it
-abbrev pub whole : Opening → Book → List Message
-whole f book = upto_change f book (length book.changes)
+abbrev pub all_updates : Opening → Book → List Message
+all_updates f book = upto_change f book (length book.changes)
 
 -- the mark comes after all updates up to its change, which isn't before the opening
 pub record IsMark (f : Opening) (messages : List Message) (book : Book) (k : Mark) : Type 0 where
@@ -83,7 +83,7 @@ pub record IsMark (f : Opening) (messages : List Message) (book : Book) (k : Mar
 
 -- which parcel may come after these messages and over this book: the next update, or the mark
 abbrev pub Tells : Opening → List Message → Book → Parcel → Type 0
-Tells f messages book (Update m) = IsPrefix (messages ++ m ∷ []) (whole f book)
+Tells f messages book (Update m) = IsPrefix (messages ++ m ∷ []) (all_updates f book)
 Tells f messages book (Fin k) = IsMark f messages book k
 
 -- x may come after these parcels: its book extends theirs, and it is the next update over that

@@ -1,7 +1,7 @@
 -- What the lock keeps, as a world of the core.
 use Rattle.std.specs.Prelude.{◌≡◌, ℕ, ◌-◌, ◌<◌, Bool, true, false, List, [], ◌∷◌, ◌++◌, length, map, nat_lt, Option, Some, None, slice_index_or}
 use Rattle.std.specs.List.{range_with_len}
-use Rattle.lq_board.specs.declared.views.KnownSlot.{KnownSlot}
+use Rattle.lq_board.specs.declared.token_views.KnownSlot.{KnownSlot}
 use Rattle.lq_board.specs.Book.{IsFullBook}
 use Rattle.lq_board.specs.Slot.{slot_at}
 use Rattle.lq_volume.specs.declared.change.Change.{Change}
@@ -10,20 +10,20 @@ use Rattle.lq_update.specs.declared.mark.Mark.{Mark}
 use Rattle.lq_update.specs.declared.parcel.Parcel.{Parcel}
 use Rattle.lq_update.specs.declared.parcel.Parcel.TheVariants.{Update, Fin}
 use Rattle.lq_port.specs.End.{all_put}
-use Rattle.lq_desk_world.specs.World.{World, Subscribed, End, updates_due, waiting, to_come, after_change}
+use Rattle.lq_desk_world.specs.World.{World, Subscribed, Ending, updates_due, waiting, to_come, after_change}
 use Rattle.lq_desk_world.specs.Events.{noticing, closing}
 use Rattle.lq_server_slots.specs.declared.identity.Identity.{Identity}
 use Rattle.lq_server_slots.specs.declared.subscription.Subscription.{Subscription}
 use Rattle.lq_server_slots.specs.Rule.{messages_in}
 use Rattle.lq_server_slots.specs.Marking.{held_committed, held_noticed, held_closed}
-use Rattle.lq_server_slots.specs.Standing.{StandsAt, IsReady}
+use Rattle.lq_server_slots.specs.Standing.{IsConsistentAt, IsReady}
 use Rattle.lq_server_slots.specs.declared.slots.ServerSlots.{ServerSlots}
-use Rattle.lq_server_slots.specs.Slots.{SlotsStand, slot_in}
+use Rattle.lq_server_slots.specs.Slots.{AreConsistent, slot_in}
 
 -- the end that a mark tells of
-abbrev pub end_of : Option Mark → Option End
-end_of None = None
-end_of (Some k) = Some (record { cause = k.cause; change = k.change })
+abbrev pub mark_ending : Option Mark → Option Ending
+mark_ending None = None
+mark_ending (Some k) = Some (record { cause = k.cause; change = k.change })
 
 -- a subscription under the lock as one of a world, where this many parcels were taken from its port
 abbrev pub subscribed : Bool → ℕ → Subscription → Subscribed
@@ -36,22 +36,23 @@ subscribed asked taken s = record {
   hang_up_asked = asked;
   put = length (all_put s.input);
   taken = taken;
-  end = end_of s.sub.held.mark;
+  end = mark_ending s.sub.held.mark;
 }
 
 -- a slot that may be free; its end was asked for as far as the keeper knows
-abbrev pub shown_in : ℕ → Option Subscription → KnownSlot Identity → Option Subscribed
-shown_in taken None p = None
-shown_in taken (Some s) p = Some (subscribed (nat_lt s.asks p.asks) taken s)
+abbrev pub slot_shown : ℕ → Option Subscription → KnownSlot Identity → Option Subscribed
+slot_shown taken None p = None
+slot_shown taken (Some s) p = Some (subscribed (nat_lt s.asks p.asks) taken s)
 
 -- the world that the slots show where this many parcels were taken from each port: slot k is at
 -- index k - 1
-abbrev pub shown : (ℕ → ℕ) → ServerSlots → World
-shown taken slots = record {
+abbrev pub world_shown : (ℕ → ℕ) → ServerSlots → World
+world_shown taken slots = record {
   book = slots.keeper.book;
   openings = slots.openings;
   slots = map
-      (λ k. shown_in (taken k) (slot_in slots.subscriptions.items k) (slot_at slots.keeper.slots k))
+      (λ k. slot_shown (taken k) (slot_in slots.subscriptions.items k)
+      (slot_at slots.keeper.slots k))
       (range_with_len 1 64);
 }
 
@@ -63,7 +64,7 @@ mark_to_put false (Some k) = Fin k ∷ []
 
 -- The subscription s stands for u of a world: the updates due are the messages that were put and
 -- then those held, and what is to come is those held and then a mark that isn't put yet.
-pub record IsPassedOn (b : Book) (u : Subscribed) (s : Subscription) : Type 0 where
+pub record PassesOnAs (b : Book) (u : Subscribed) (s : Subscription) : Type 0 where
   pub due : updates_due b u ≡ messages_in (all_put s.input) ++ s.sub.held.messages
   pub held : waiting b u ≡ s.sub.held.messages
   pub left : to_come b u
@@ -73,7 +74,7 @@ abbrev pub SlotPassesOn : Book → Option Subscribed → Option Subscription →
 SlotPassesOn b None None = Unit {0}
 SlotPassesOn b None (Some s) = ⊥
 SlotPassesOn b (Some u) None = ⊥
-SlotPassesOn b (Some u) (Some s) = IsPassedOn b u s
+SlotPassesOn b (Some u) (Some s) = PassesOnAs b u s
 
 -- Slots that stand over the keeper's book show a world, whatever the counts taken: its slots are
 -- taken and free as theirs, and each subscription of the world has put, holds and is still to put
@@ -81,13 +82,13 @@ SlotPassesOn b (Some u) (Some s) = IsPassedOn b u s
 abbrev pub SlotsShowWorlds : Type 0
 SlotsShowWorlds =
     (slots : ServerSlots) (taken : ℕ → ℕ) → IsFullBook slots.keeper.book
-    → SlotsStand slots slots.keeper.book → (k : ℕ) → 0 < k → k < 65
-    → SlotPassesOn slots.keeper.book (slice_index_or (shown taken slots).slots (k - 1) None)
+    → AreConsistent slots slots.keeper.book → (k : ℕ) → 0 < k → k < 65
+    → SlotPassesOn slots.keeper.book (slice_index_or (world_shown taken slots).slots (k - 1) None)
     (slot_in slots.subscriptions.items k)
 
 -- the subscription of a world with the end that this mark tells of
 abbrev pub with_mark : Subscribed → Option Mark → Subscribed
-with_mark u o = record u { end = end_of o }
+with_mark u o = record u { end = mark_ending o }
 
 -- A commit, a notice and a close do to the mark of a subscription that stands over a book what a
 -- change, a notice and a close do to the end of the subscription of the world that it stands for.
@@ -106,4 +107,4 @@ pub record ActsAreShown (s : Subscription) (book : Book) (asked : Bool) (taken :
 abbrev pub ActsShowWorlds : Type 0
 ActsShowWorlds =
     (s : Subscription) (book : Book) (asked : Bool) (taken : ℕ) → IsFullBook book
-    → StandsAt s book → ActsAreShown s book asked taken
+    → IsConsistentAt s book → ActsAreShown s book asked taken

@@ -5,7 +5,7 @@ use Rattle.lq_volume.specs.State.{State}
 use Rattle.lq_volume.specs.declared.change.Change.{Change}
 use Rattle.lq_volume.specs.Change.{IsLawful}
 use Rattle.lq_volume.specs.Book.{Book, grown, state_of}
-use Rattle.lq_board.specs.declared.views.KnownSlot.{KnownSlot}
+use Rattle.lq_board.specs.declared.token_views.KnownSlot.{KnownSlot}
 use Rattle.lq_board.specs.Book.{IsFullBook}
 use Rattle.lq_board.specs.Slot.{slot_at}
 use Rattle.lq_board.specs.Token.{KeeperToken}
@@ -13,12 +13,12 @@ use Rattle.lq_server_slots.specs.declared.identity.Identity.{Identity}
 use Rattle.lq_server_slots.specs.declared.subscription.Subscription.{Subscription}
 use Rattle.lq_server_slots.specs.Marking.{hung_mark}
 use Rattle.lq_server_slots.specs.Identity.{identity_of}
-use Rattle.lq_server_slots.specs.Standing.{StandsAt, IsFilled, IsReady, IsSeen, IsStuck}
+use Rattle.lq_server_slots.specs.Standing.{IsConsistentAt, IsFilled, IsReady, IsSeen, CannotPut}
 use Rattle.lq_server_slots.specs.declared.slots.ServerSlots.{ServerSlots}
 
 -- a taken slot: its subscription, and what the keeper knows of its seat
-pub record IsTaken (s : Subscription) (p : KnownSlot Identity) (book : Book) : Type 0 where
-  pub stands : StandsAt s book
+pub record IsTakenSlot (s : Subscription) (p : KnownSlot Identity) (book : Book) : Type 0 where
+  pub stands : IsConsistentAt s book
   pub filled : IsFilled s
   pub seen : IsSeen s
   pub out : p.out ≡ true
@@ -27,7 +27,7 @@ pub record IsTaken (s : Subscription) (p : KnownSlot Identity) (book : Book) : T
 
 -- the same, while its port is still to be filled
 pub record IsToFill (s : Subscription) (p : KnownSlot Identity) (book : Book) : Type 0 where
-  pub stands : StandsAt s book
+  pub stands : IsConsistentAt s book
   pub seen : IsSeen s
   pub out : p.out ≡ true
   pub name : p.name ≡ Some (identity_of s)
@@ -36,7 +36,7 @@ pub record IsToFill (s : Subscription) (p : KnownSlot Identity) (book : Book) : 
 -- a slot that may be free
 abbrev pub SlotStands : Option Subscription → KnownSlot Identity → Book → Type 0
 SlotStands None p book = p.out ≡ false
-SlotStands (Some s) p book = IsTaken s p book
+SlotStands (Some s) p book = IsTakenSlot s p book
 
 -- at most how often its seats have asked, once the seat that is out comes back
 abbrev pub asks_of : Option Subscription → KnownSlot Identity → ℕ
@@ -56,41 +56,41 @@ pub record AllStand (keeper : KeeperToken Identity) (slots : List (Option Subscr
   pub asks : (k : ℕ) → 0 < k → k < 65
       → asks_of (slot_in slots k) (slot_at keeper.slots k) ≤ openings
 
--- the place at an index of a list of places
-abbrev pub place_at : List ℕ → ℕ → ℕ
-place_at taken i = slice_index taken i
+-- the slot at an index of the list of taken slots
+abbrev pub taken_slot : List ℕ → ℕ → ℕ
+taken_slot taken i = slice_index taken i
 
--- the list has this place
-abbrev pub IsPlaceIn : List ℕ → ℕ → Type 0
-IsPlaceIn taken k = (i : ℕ) × (i < length taken) × (place_at taken i ≡ k)
+-- the list has this slot
+abbrev pub IsSlotIn : List ℕ → ℕ → Type 0
+IsSlotIn taken k = (i : ℕ) × (i < length taken) × (taken_slot taken i ≡ k)
 
--- the list has the places of the taken slots, each once, and no others
+-- the list has the taken slots, each once, and no others
 pub record IsListed (taken : List ℕ) (slots : List (Option Subscription)) : Type 0 where
-  pub low : (i : ℕ) → i < length taken → 0 < place_at taken i
-  pub high : (i : ℕ) → i < length taken → place_at taken i < 65
+  pub low : (i : ℕ) → i < length taken → 0 < taken_slot taken i
+  pub high : (i : ℕ) → i < length taken → taken_slot taken i < 65
   pub once : (i j : ℕ) → i < length taken → j < length taken
-      → place_at taken i ≡ place_at taken j → i ≡ j
-  pub some : (i : ℕ) → i < length taken → IsSome (slot_in slots (place_at taken i))
-  pub each : (k : ℕ) → 0 < k → k < 65 → IsSome (slot_in slots k) → IsPlaceIn taken k
+      → taken_slot taken i ≡ taken_slot taken j → i ≡ j
+  pub some : (i : ℕ) → i < length taken → IsSome (slot_in slots (taken_slot taken i))
+  pub each : (k : ℕ) → 0 < k → k < 65 → IsSome (slot_in slots k) → IsSlotIn taken k
 
--- the place was removed from the list, and the rest keeps its order
+-- the slot was removed from the list, and the rest keeps its order
 pub record IsDropped (old new : List ℕ) (k : ℕ) : Type 0 where
   pub index : ℕ
   pub within : index < length old
-  pub place : place_at old index ≡ k
+  pub place : taken_slot old index ≡ k
   pub rest : new ≡ remove old index
 
 -- all slots stand over a book, and the list has exactly the taken ones
-abbrev pub SlotsStand : ServerSlots → Book → Type 0
-SlotsStand s book =
+abbrev pub AreConsistent : ServerSlots → Book → Type 0
+AreConsistent s book =
     AllStand s.keeper s.subscriptions.items s.openings book
     × IsListed s.taken.items s.subscriptions.items
 
 -- the keeper's book is lawful, the volume is the state after it, and all slots stand over it
-pub record StandsBeside (slots : ServerSlots) (volume : State) : Type 0 where
+pub record IsConsistentWith (slots : ServerSlots) (volume : State) : Type 0 where
   pub state : volume ≡ state_of slots.keeper.book
   pub full : IsFullBook slots.keeper.book
-  pub holding : SlotsStand slots slots.keeper.book
+  pub holding : AreConsistent slots slots.keeper.book
 
 -- a subscription has its mark if the keeper knows that its reader asked for its end
 abbrev pub IsNoticed : Subscription → KnownSlot Identity → Type 0
@@ -99,7 +99,7 @@ IsNoticed s p = s.asks < p.asks → IsSome s.sub.held.mark
 -- and its messages and mark were put until none was left or its port was full
 pub record IsServed (s : Subscription) (p : KnownSlot Identity) : Type 0 where
   pub noticed : IsNoticed s p
-  pub stuck : IsStuck s
+  pub stuck : CannotPut s
 
 -- a fact of a slot if it is taken, and of all slots that are
 abbrev pub SlotIs :
@@ -141,8 +141,8 @@ all_taken (None ∷ slots) = false
 all_taken (Some s ∷ slots) = all_taken slots
 
 -- no slot, 1 to 64, is free
-abbrev pub is_full : List (Option Subscription) → Bool
-is_full slots = all_taken (drop 1 slots)
+abbrev pub has_no_free : List (Option Subscription) → Bool
+has_no_free slots = all_taken (drop 1 slots)
 
 -- the messages of a change are prepared for the slot
 abbrev pub IsReadyAt : Option Subscription → State → Change → Type 0
@@ -171,12 +171,12 @@ pub record PartlyCommitted (keeper : KeeperToken Identity) (slots : List (Option
   pub wide : length slots ≡ 65
   pub listed : IsListed taken slots
   pub below : (j : ℕ) → j < committed → j < length taken
-      → SlotStands (slot_in slots (place_at taken j)) (slot_at keeper.slots (place_at taken j))
+      → SlotStands (slot_in slots (taken_slot taken j)) (slot_at keeper.slots (taken_slot taken j))
       keeper.book
   pub from : (j : ℕ) → committed ≤ j → j < length taken
-      → SlotStands (slot_in slots (place_at taken j)) (slot_at keeper.slots (place_at taken j))
+      → SlotStands (slot_in slots (taken_slot taken j)) (slot_at keeper.slots (taken_slot taken j))
       (before_of keeper.book)
-      × IsReadyAt (slot_in slots (place_at taken j)) (state_of (before_of keeper.book)) c
+      × IsReadyAt (slot_in slots (taken_slot taken j)) (state_of (before_of keeper.book)) c
   pub free : (k : ℕ) → 0 < k → k < 65 → slot_in slots k ≡ None
       → (slot_at keeper.slots k).out ≡ false
   pub asks : (k : ℕ) → 0 < k → k < 65

@@ -26,8 +26,8 @@ use Rattle.lq_server_slots.specs.Rule.{query_of, messages_in, mark_in, MayFollow
 use Rattle.lq_server_slots.specs.LegalList.{known_by}
 
 -- the messages that were put, and then those that are held
-abbrev pub given : Held → End Delivery Opening → List Message
-given h e = messages_in (all_put e) ++ h.messages
+abbrev pub messages_given : Held → End Delivery Opening → List Message
+messages_given h e = messages_in (all_put e) ++ h.messages
 
 -- the change up to which the subscription follows, of n changes
 abbrev pub upto : Option Mark → ℕ → ℕ
@@ -63,9 +63,9 @@ seen_of (Ended k) = 0
 
 -- What was told stays true over n changes: a mark is the same, and where none was told, one comes
 -- for no change before.
-abbrev pub IsStill : Told → Option Mark → ℕ → Type 0
-IsStill (Live m seen) mark n = m ≤ upto mark n
-IsStill (Ended k) mark n = mark ≡ Some k
+abbrev pub StaysTrue : Told → Option Mark → ℕ → Type 0
+StaysTrue (Live m seen) mark n = m ≤ upto mark n
+StaysTrue (Ended k) mark n = mark ≡ Some k
 
 -- Change e + 1 was too much. It has messages, and the messages up to it are more than the backlog.
 -- Where its own messages are within the backlog, those up to it are more than port and backlog
@@ -95,15 +95,16 @@ pub record Stands
   pub port : e.places ≡ places
   pub full : IsFullBook book
   pub later : Extends book (known_by e.floor (all_put e))
-  pub list : given h e ≡ updates h.query h.moved book h.opened (upto h.mark (length book.changes))
-  pub sent : h.sent ≡ length (given h e)
+  pub list : messages_given h e ≡ updates h.query h.moved book h.opened
+      (upto h.mark (length book.changes))
+  pub sent : h.sent ≡ length (messages_given h e)
   pub few : h.sent ≤ 3 * length book.changes
   pub bounded : length h.messages ≤ h.backlog
   pub opened : h.opened ≤ upto h.mark (length book.changes)
   pub mark : IfSome h.mark (λ k. (k.seq ≡ h.sent + 1) × (k.change ≤ length book.changes))
   pub out : mark_in (all_put e) ≡ moved_mark h.mark_out h.mark
   pub done : h.mark_out ≡ true → (h.messages ≡ []) × IsSome h.mark
-  pub still : IsStill told h.mark (length book.changes)
+  pub still : StaysTrue told h.mark (length book.changes)
   pub first_close : FirstCloseFits answer h.mark
   pub overrun :
       IfSome h.mark
@@ -111,8 +112,8 @@ pub record Stands
       → IsOverrun h.query h.moved h.opened places h.backlog (seen_of told) book k.change)
 
 -- and for a subscription under the lock
-abbrev pub StandsAt : Subscription → Book → Type 0
-StandsAt s book = Stands s.sub.held s.input s.places s.told.value s.first_close book
+abbrev pub IsConsistentAt : Subscription → Book → Type 0
+IsConsistentAt s book = Stands s.sub.held s.input s.places s.told.value s.first_close book
 
 -- messages are held only where as many as the port has places were put, beside those that had been
 -- taken when the reader was last told
@@ -142,34 +143,34 @@ pub record SameButPuts (s t : Subscription) : Type 0 where
   pub asks : t.asks ≡ s.asks
   pub told : t.told ≡ s.told
   pub first_close : t.first_close ≡ s.first_close
-  pub given_same : given t.sub.held t.input ≡ given s.sub.held s.input
+  pub given_same : messages_given t.sub.held t.input ≡ messages_given s.sub.held s.input
 
 -- whether the mark is left to put, as a count
-abbrev pub mark_left : Bool → ℕ
-mark_left true = 0
-mark_left false = 1
+abbrev pub mark_count : Bool → ℕ
+mark_count true = 0
+mark_count false = 1
 
 -- the most parcels that are left to put
 abbrev pub left_of : Held → ℕ
-left_of h = length h.messages + mark_left h.mark_out
+left_of h = length h.messages + mark_count h.mark_out
 
 -- and for a subscription under the lock
-abbrev pub left : Subscription → ℕ
-left s = left_of s.sub.held
+abbrev pub left_to_put : Subscription → ℕ
+left_to_put s = left_of s.sub.held
 
 -- nothing is left to put
 abbrev pub IsOut : Held → Type 0
 IsOut h = (h.messages ≡ []) × ((h.mark ≡ None) ⊎ (h.mark_out ≡ true))
 
 -- nothing is left to put, or the port was full
-abbrev pub IsStuck : Subscription → Type 0
-IsStuck s = IsOut s.sub.held ⊎ (s.places ≤ length s.input.ahead)
+abbrev pub CannotPut : Subscription → Type 0
+CannotPut s = IsOut s.sub.held ⊎ (s.places ≤ length s.input.ahead)
 
 -- both ends of the port were seen together, and everything that could be put was put
 pub record SideBySide
     (s t : Subscription) (d e : End Delivery Opening) (book : Book) (waiting : ℕ)
     : Type 0 where
-  pub stands : StandsAt t book
+  pub stands : IsConsistentAt t book
   pub alike : SameButPuts s t
   pub port : IsSamePort d e
   pub floor : e.floor ≡ t.input.floor

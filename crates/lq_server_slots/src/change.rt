@@ -7,10 +7,10 @@ ghost use Rattle.lq_board.specs.Author.{with_change};
 ghost use Rattle.lq_board.specs.Book.{IsFullBook};
 ghost use Rattle.lq_board.specs.Slot.{slot_at};
 ghost use Rattle.lq_server_slots.specs.Changing.{IsChangeMade, IsPrepared};
-ghost use Rattle.lq_server_slots.specs.Slots.{SlotsStand, StandsBeside, AllReady, IsNoticed, IsServed, SlotsAre};
+ghost use Rattle.lq_server_slots.specs.Slots.{AreConsistent, IsConsistentWith, AllReady, IsNoticed, IsServed, SlotsAre};
 
 use crate::identity::Identity;
-use crate::passes::{commit_all, ready_all};
+use crate::prepare_commit::{commit_all, ready_all};
 use crate::slots::{ServerSlots, serve_all};
 use lq_board::{Board, Seat};
 use lq_value::Refusal;
@@ -42,12 +42,12 @@ pub fn change_in<R: Wait>(
     requires met { seat.old.book ≡ slots.old.keeper.book }
     requires known { 0 < seat.old.slot
         → seat.old.asks ≤ (slot_at slots.old.keeper.slots seat.old.slot).asks }
-    requires stands { StandsBeside slots.old volume.old }
+    requires stands { IsConsistentWith slots.old volume.old }
     ensures made { IsChangeMade change.now result volume.old volume.new
         slots.old.keeper.book slots.new.keeper.book seat.old seat.new }
     ensures board { slots.new.keeper.board ≡ slots.old.keeper.board }
     ensures openings { slots.new.openings ≡ slots.old.openings }
-    ensures stands { StandsBeside slots.new volume.new }
+    ensures stands { IsConsistentWith slots.new volume.new }
     ensures served { SlotsAre IsServed slots.new.subscriptions.items slots.new.keeper.slots }
 {
     match add(board, slots, volume, seat, change) {
@@ -79,7 +79,7 @@ fn add(
         → seat.old.asks ≤ (slot_at slots.old.keeper.slots seat.old.slot).asks }
     requires volume { volume.old ≡ state_of slots.old.keeper.book }
     requires full { IsFullBook slots.old.keeper.book }
-    requires holding { SlotsStand slots.old slots.old.keeper.book }
+    requires holding { AreConsistent slots.old slots.old.keeper.book }
     ensures made { IsChangeMade change.now result volume.old volume.new
         slots.old.keeper.book slots.new.keeper.book seat.old seat.new }
     ensures lawful { OnOk result (refused volume.old change.now ≡ None) }
@@ -91,7 +91,7 @@ fn add(
     ensures openings { slots.new.openings ≡ slots.old.openings }
     ensures volume { volume.new ≡ state_of slots.new.keeper.book }
     ensures full { IsFullBook slots.new.keeper.book }
-    ensures holding { SlotsStand slots.new slots.old.keeper.book }
+    ensures holding { AreConsistent slots.new slots.old.keeper.book }
 {
     prepare(board, slots, volume, change)?;
     let applied = volume.make(change)?;
@@ -111,7 +111,7 @@ fn prepare(
 ) -> Result<(), Refusal>
     requires board { slots.old.keeper.board ≡ board.now }
     requires volume { volume.now ≡ state_of slots.old.keeper.book }
-    requires holding { SlotsStand slots.old slots.old.keeper.book }
+    requires holding { AreConsistent slots.old slots.old.keeper.book }
     ensures { IsPrepared volume.now change.now result slots.old slots.new }
 {
     if slots.taken.is_empty() {
@@ -131,7 +131,7 @@ fn prepare_taken(
 ) -> Result<(), Refusal>
     requires board { slots.old.keeper.board ≡ board.now }
     requires volume { volume.now ≡ state_of slots.old.keeper.book }
-    requires holding { SlotsStand slots.old slots.old.keeper.book }
+    requires holding { AreConsistent slots.old slots.old.keeper.book }
     ensures { IsPrepared volume.now change.now result slots.old slots.new }
 {
     let planned = volume.plan(change)?;

@@ -6,7 +6,7 @@ ghost use Rattle.lq_server_slots.specs.declared.identity.FirstClose.TheVariants.
 ghost use Rattle.lq_server_slots.specs.Marking.{after_close};
 ghost use Rattle.lq_server_slots.specs.Identity.{identity_of};
 ghost use Rattle.lq_server_slots.specs.Closing.{IsClosed};
-ghost use Rattle.lq_server_slots.specs.Slots.{IsTaken, SlotStands, SlotsStand, IsPlaceIn, IsDropped, place_at, OnlyAt, asks_of, slot_in};
+ghost use Rattle.lq_server_slots.specs.Slots.{IsTakenSlot, SlotStands, AreConsistent, IsSlotIn, IsDropped, taken_slot, OnlyAt, asks_of, slot_in};
 ghost use Rattle.lq_server_slots.specs.Opening.{asks_after, name_or};
 
 use crate::identity::Identity;
@@ -30,13 +30,13 @@ fn close_slot(
     requires known { slot_at keeper.old.slots seat.old.slot
         ≡ record { out = true; asks = seat.old.asks; name = seat.old.name } }
     requires number { number ≡ length keeper.old.book.changes }
-    requires taken { IsTaken slot.old (slot_at keeper.old.slots seat.old.slot) keeper.old.book }
+    requires taken { IsTakenSlot slot.old (slot_at keeper.old.slots seat.old.slot) keeper.old.book }
     ensures closes { result ≡ true → (name_or seat.old.name).first_close ≡ Never }
     ensures late { slot.old.asks < seat.old.asks → result ≡ false }
     ensures board { keeper.new.board ≡ keeper.old.board }
     ensures book { keeper.new.book ≡ keeper.old.book }
     ensures only { OnlyAt keeper.old.slots keeper.new.slots seat.old.slot }
-    ensures taken { IsTaken slot.new (slot_at keeper.new.slots seat.old.slot) keeper.new.book }
+    ensures taken { IsTakenSlot slot.new (slot_at keeper.new.slots seat.old.slot) keeper.new.book }
     ensures asks { slot.new.asks ≡ slot.old.asks }
     ensures seat { seat.new ≡ record seat.old { book = keeper.old.book; name = seat.new.name } }
     ensures name { seat.new.name ≡ Some (record (name_or seat.old.name) {
@@ -59,13 +59,13 @@ fn end_slot(
     requires place { (0 < seat.old.slot) × (seat.old.slot < 65)
         × (length keeper.old.slots ≡ 65) }
     requires number { number ≡ length keeper.old.book.changes }
-    requires taken { IsTaken slot.old (slot_at keeper.old.slots seat.old.slot) keeper.old.book }
+    requires taken { IsTakenSlot slot.old (slot_at keeper.old.slots seat.old.slot) keeper.old.book }
     ensures closes { result ≡ true → (name_or seat.old.name).first_close ≡ Never }
     ensures late { IsSome slot.old.sub.held.mark → result ≡ false }
     ensures board { keeper.new.board ≡ keeper.old.board }
     ensures book { keeper.new.book ≡ keeper.old.book }
     ensures only { OnlyAt keeper.old.slots keeper.new.slots seat.old.slot }
-    ensures taken { IsTaken slot.new (slot_at keeper.new.slots seat.old.slot) keeper.new.book }
+    ensures taken { IsTakenSlot slot.new (slot_at keeper.new.slots seat.old.slot) keeper.new.book }
     ensures asks { slot.new.asks ≡ slot.old.asks }
     ensures known { (slot_at keeper.new.slots seat.old.slot).asks ≡ seat.old.asks }
     ensures named { seat.new.name ≡ Some (identity_of slot.new) }
@@ -119,12 +119,12 @@ pub fn close_in(
 ) -> Option<u64>
     requires board { (slots.old.keeper.board ≡ board.now) × (seat.old.board ≡ board.now) }
     requires seat { (0 < seat.old.slot) × IsSome seat.old.name }
-    requires holding { SlotsStand slots.old slots.old.keeper.book }
+    requires holding { AreConsistent slots.old slots.old.keeper.book }
     ensures closed { IsClosed slots.old.keeper.book seat.old seat.new result }
     ensures board { slots.new.keeper.board ≡ slots.old.keeper.board }
     ensures book { slots.new.keeper.book ≡ slots.old.keeper.book }
     ensures openings { slots.new.openings ≡ slots.old.openings }
-    ensures holding { SlotsStand slots.new slots.new.keeper.book }
+    ensures holding { AreConsistent slots.new slots.new.keeper.book }
 {
     let place = seat.slot() as usize;
     let keeper = &mut slots.keeper;
@@ -161,8 +161,8 @@ fn free_at(
 
 // The index of a place in the list.
 fn index_of(taken: &[usize], place: usize) -> Option<usize>
-    ensures found { IfSome result (λ i. (i < length taken.now) × (place_at taken.now i ≡ place)) }
-    ensures none { IfNone result ((i : ℕ) → i < length taken.now → place_at taken.now i ≢ place) }
+    ensures found { IfSome result (λ i. (i < length taken.now) × (taken_slot taken.now i ≡ place)) }
+    ensures none { IfNone result ((i : ℕ) → i < length taken.now → taken_slot taken.now i ≢ place) }
 {
     for index in 0..taken.len() {
         if taken[index] == place {
@@ -174,7 +174,7 @@ fn index_of(taken: &[usize], place: usize) -> Option<usize>
 
 // Removes a place from the list.
 fn take_out(taken: &mut Vec<usize>, place: usize)
-    requires { IsPlaceIn taken.old.items place }
+    requires { IsSlotIn taken.old.items place }
     ensures { IsDropped taken.old.items taken.new.items place }
 {
     let Some(index) = index_of(taken, place) else {
@@ -188,11 +188,11 @@ pub fn free_in(board: &Board<Identity>, slots: &mut ServerSlots, seat: Seat<Iden
     requires board { (slots.old.keeper.board ≡ board.now) × (seat.board ≡ board.now) }
     requires seat { (0 < seat.slot)
         × IsSomeAnd seat.name (λ t. seat.asks ≡ asks_after t.asks asked) }
-    requires holding { SlotsStand slots.old slots.old.keeper.book }
+    requires holding { AreConsistent slots.old slots.old.keeper.book }
     ensures board { slots.new.keeper.board ≡ slots.old.keeper.board }
     ensures book { slots.new.keeper.book ≡ slots.old.keeper.book }
     ensures openings { slots.new.openings ≡ slots.old.openings }
-    ensures holding { SlotsStand slots.new slots.new.keeper.book }
+    ensures holding { AreConsistent slots.new slots.new.keeper.book }
     ensures taken { IsSome (slot_in slots.old.subscriptions.items seat.slot) }
     ensures freed { slot_in slots.new.subscriptions.items seat.slot ≡ None }
     ensures others { (k : ℕ) → k ≢ seat.slot → slot_in slots.new.subscriptions.items k

@@ -1,6 +1,6 @@
 //! The items of a port.
+use crate::ghost_copy::GhostCopy;
 use crate::identity::Identity;
-use crate::witness::Witness;
 use lq_board::Keeper;
 use lq_port::Follows;
 use lq_predicate::Predicate;
@@ -14,20 +14,20 @@ pub struct Delivery {
     /// The message or the mark.
     pub what: Parcel,
     /// The keeper when it was put.
-    pub book: Witness<Keeper<Identity>>,
+    pub book: GhostCopy<Keeper<Identity>>,
 }
 
 /// The floor of a port: what its rule depends on, fixed at the opening.
 #[derive(Drop)]
 pub struct Opening {
     /// The query.
-    pub query: Witness<Predicate>,
+    pub query: GhostCopy<Predicate>,
     /// Whether one message reports a node that changed its place within the result.
     pub moved: bool,
     /// The number of changes at the opening.
     pub opened: u64,
     /// The keeper at the opening.
-    pub book: Witness<Keeper<Identity>>,
+    pub book: GhostCopy<Keeper<Identity>>,
 }
 
 impl Follows for Delivery {

@@ -1,29 +1,29 @@
 //! The 64 slots of subscriptions under the server's lock, each with its port, and the keeper of the
 //! board beside them.
 //!
-//! Each parcel carries the keeper's book, for contracts alone (`witness`); `specs/Rule` says which
-//! parcel may follow. A subscription under the lock stands over a book (`StandsAt` of
+//! Each parcel carries the keeper's book, for contracts alone (`ghost_copy`); `specs/Rule` says
+//! which parcel may follow. A subscription under the lock stands over a book (`IsConsistentAt` of
 //! `specs/Standing`), and the reading end is a `ReadingHold` (`specs/Reading`). Contracts see
-//! `ServerSlots` by its fields: `SlotsStand` (`specs/Slots`) says how far each taken slot has
+//! `ServerSlots` by its fields: `AreConsistent` (`specs/Slots`) says how far each taken slot has
 //! followed a book, and that the list of the taken places is right. Puts and takes may wait for a
-//! step of a port's other end. Begin with `delivery`, `subscription`, `puts` and `reading`, then
-//! `slots` and `change`.
+//! step of a port's other end. Begin with `delivery`, `subscription`, `fill_port` and `reading`,
+//! then `slots` and `change`.
 #![tactic(auto)]
 
 mod change;
 mod close;
 mod delivery;
+mod fill_port;
+mod ghost_copy;
 mod identity;
 mod laws;
 mod open;
-mod passes;
-mod puts;
+mod prepare_commit;
 mod reading;
 mod slots;
 mod subscription;
 mod sync;
-mod taking;
-mod witness;
+mod take_parcel;
 
 pub use change::change_in;
 pub use close::{close_in, free_in};
@@ -32,7 +32,7 @@ pub use identity::{Identity, Told};
 pub use laws::{
     acts_show_worlds, books_extend_on, books_extend_themselves, slots_show_worlds, states_stay,
 };
-pub use open::{Asked, Opened, open_in};
+pub use open::{OpenRequest, Opened, open_in};
 pub use reading::Reading;
 pub use slots::ServerSlots;
 pub use sync::{Progress, meet_in, sync_in};

@@ -7,16 +7,16 @@ ghost use Rattle.lq_board.specs.Book.{IsFullBook};
 ghost use Rattle.lq_board.specs.Slot.{slot_at, gone_out};
 ghost use Rattle.lq_server_slots.specs.Identity.{identity_of};
 ghost use Rattle.lq_server_slots.specs.declared.identity.Identity.{Identity as IdentityOf};
-ghost use Rattle.lq_server_slots.specs.Slots.{AreUnchanged, SlotsStand, StandsBeside, is_full, slot_in};
-ghost use Rattle.lq_server_slots.specs.Opening.{IsBegun, IsOpened, IsOpeningAnswer};
+ghost use Rattle.lq_server_slots.specs.Slots.{AreUnchanged, AreConsistent, IsConsistentWith, has_no_free, slot_in};
+ghost use Rattle.lq_server_slots.specs.Opening.{IsNewSubscription, IsOpened, IsOpeningAnswer};
 
 use crate::delivery::{Delivery, Opening};
+use crate::ghost_copy::GhostCopy;
 use crate::identity::{FirstClose, Identity, Told};
 use crate::laws::new_subscriptions_stand;
 use crate::reading::Reading;
 use crate::slots::{PLACES, ServerSlots};
 use crate::subscription::Subscription;
-use crate::witness::Witness;
 use lq_board::{Board, Keeper, Seat};
 use lq_desk_sub::{MAX_BACKLOG, Sub};
 use lq_port::{MAX_PLACES, make};
@@ -41,7 +41,7 @@ fn free_place(slots: &[Option<Subscription>]) -> Option<usize>
     ensures free { IfSome result (λ k. slot_in slots.now k ≡ None) }
     ensures lowest { IfSome result (λ k.
         (j : ℕ) → 0 < j → j < k → IsSome (slot_in slots.now j)) }
-    ensures full { is_none result ≡ is_full slots.now }
+    ensures full { is_none result ≡ has_no_free slots.now }
 {
     for place in 1..PLACES {
         if slots[place].is_none() {
@@ -53,7 +53,7 @@ fn free_place(slots: &[Option<Subscription>]) -> Option<usize>
 
 /// The arguments of an opening.
 #[derive(Clone, Copy)]
-pub struct Asked<'a> {
+pub struct OpenRequest<'a> {
     pub predicate: &'a Predicate,
     pub port: u64,
     pub backlog: u64,
@@ -65,13 +65,13 @@ fn begin(
     alloc: Global,
     keeper: &Keeper<Identity>,
     volume: &Volume,
-    asked: &Asked,
+    asked: &OpenRequest,
 ) -> Result<(Subscription, Reading), Refusal>
     requires volume { volume.now ≡ state_of keeper.now.book }
     requires full { IsFullBook keeper.now.book }
     requires port { (0 < asked.now.port) × (asked.now.port ≤ 1024) }
     ensures refused { FailsOnlyForMemory result }
-    ensures begun { IfOk result (λ r. IsBegun r.0 r.1 keeper.now.book
+    ensures begun { IfOk result (λ r. IsNewSubscription r.0 r.1 keeper.now.book
         asked.now.predicate.now asked.now.moved asked.now.port asked.now.backlog) }
     ensures keeper { IfOk result (λ r. r.1.port.floor.book.value ≡ keeper.now) }
 {
@@ -82,10 +82,10 @@ fn begin(
     let entries = volume.fetch(asked.predicate)?;
     let sub = Sub::new(alloc, asked.predicate, at, asked.backlog, asked.moved)?;
     let opening_at = Opening {
-        query: Witness::of(asked.predicate),
+        query: GhostCopy::of(asked.predicate),
         moved: asked.moved,
         opened: at,
-        book: Witness::of(keeper),
+        book: GhostCopy::of(keeper),
     };
     let (input, output) = make::<Delivery>(alloc, asked.port, &opening_at)?;
     let slot = Subscription {
@@ -93,7 +93,7 @@ fn begin(
         input,
         places: asked.port,
         asks: 0,
-        told: Witness::of(&Told::Live {
+        told: GhostCopy::of(&Told::Live {
             change: at,
             seen: 0,
         }),
@@ -174,15 +174,15 @@ fn settle(
     requires place { (0 < place) × (place < 65) }
     requires free { slot_in slots.old.subscriptions.items place ≡ None }
     requires room { slots.old.openings < 1000000000000 }
-    requires begun { IsBegun slot reading slots.old.keeper.book slot.sub.held.query
+    requires begun { IsNewSubscription slot reading slots.old.keeper.book slot.sub.held.query
         slot.sub.held.moved slot.places slot.sub.held.backlog }
-    requires holding { SlotsStand slots.old slots.old.keeper.book }
+    requires holding { AreConsistent slots.old slots.old.keeper.book }
     ensures refused { FailsOnlyForMemory result }
     ensures err { OnErr result (AreUnchanged slots.old slots.new) }
     ensures board { slots.new.keeper.board ≡ slots.old.keeper.board }
     ensures book { slots.new.keeper.book ≡ slots.old.keeper.book }
     ensures openings { OnOk result (slots.new.openings ≡ slots.old.openings + 1) }
-    ensures holding { SlotsStand slots.new slots.new.keeper.book }
+    ensures holding { AreConsistent slots.new slots.new.keeper.book }
     ensures slot { IfOk result (λ o. o.slot ≡ place) }
     ensures reading { IfOk result (λ o. o.reading ≡ reading) }
     ensures opened { IfOk result (λ o. IsOpened o slots.old.keeper.board slots.old.keeper.book
@@ -213,17 +213,17 @@ pub fn open_in(
     board: &Board<Identity>,
     slots: &mut ServerSlots,
     volume: &Volume,
-    asked: &Asked,
+    asked: &OpenRequest,
 ) -> Result<Opened, Refusal>
     requires board { slots.old.keeper.board ≡ board.now }
-    requires stands { StandsBeside slots.old volume.now }
+    requires stands { IsConsistentWith slots.old volume.now }
     requires limit { slots.old.openings ≤ volume.now.limit }
     ensures board { slots.new.keeper.board ≡ slots.old.keeper.board }
     ensures book { slots.new.keeper.book ≡ slots.old.keeper.book }
     ensures limit { slots.new.openings ≤ volume.now.limit }
     ensures openings { OnOk result (slots.new.openings ≡ slots.old.openings + 1) }
     ensures err { OnErr result (AreUnchanged slots.old slots.new) }
-    ensures holding { SlotsStand slots.new slots.new.keeper.book }
+    ensures holding { AreConsistent slots.new slots.new.keeper.book }
     ensures opened { IfOk result (λ o. IsOpened o slots.old.keeper.board slots.old.keeper.book
         asked.now.predicate.now asked.now.moved asked.now.port asked.now.backlog) }
 

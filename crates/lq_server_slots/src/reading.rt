@@ -9,11 +9,11 @@ ghost use Rattle.lq_update.specs.Fold.{EntriesRise, opened_at, folded, last_chan
 ghost use Rattle.lq_update.specs.Updates.{IsSettled};
 ghost use Rattle.lq_port.specs.End.{IsSamePort, all_put};
 ghost use Rattle.lq_port.specs.Port.{IsLegal};
-ghost use Rattle.lq_server_slots.specs.Rule.{MayFollow, floor_of, query_of, whole};
+ghost use Rattle.lq_server_slots.specs.Rule.{MayFollow, floor_of, query_of, all_updates};
 ghost use Rattle.lq_server_slots.specs.Reading.{Gives, Fails, known, received, is_marked, mark_read, opening_of, IsTold};
 
 use crate::delivery::Delivery;
-use crate::taking::{keep, take_one};
+use crate::take_parcel::{keep, take_one};
 use lq_desk_sub::Read;
 use lq_port::{PortIn, PortOut};
 use lq_update::{
@@ -50,7 +50,7 @@ impl Drop for Reading {
 }
 
 impl Model for Reading {
-    ghost use Rattle.lq_server_slots.specs.Reading.{ReadingHold, Reads};
+    ghost use Rattle.lq_server_slots.specs.Reading.{ReadingHold, ReadsPort};
     ghost use Rattle.std.specs.Prelude.{◌≡◌};
     ghost use Rattle.std.specs.Coded.{codes};
     ghost use Rattle.lq_port.specs.contracts.ends.PortOut as port_out;
@@ -67,7 +67,7 @@ impl Model for Reading {
 
     ghost view = { λ r. record { port = r.output; hand = r.hand; result = r.rebuild } };
 
-    ghost invariant = { λ r. Reads r.output r.rebuild r.hand r.ended
+    ghost invariant = { λ r. ReadsPort r.output r.rebuild r.hand r.ended
         × (r.opened ≡ r.output.floor.opened) };
 }
 
@@ -178,7 +178,7 @@ impl Reading {
         ensures same { IsSamePort self.old.port self.new.port }
         ensures known { Extends (known self.new) (known self.old) }
         ensures received { IsPrefix (received self.new)
-            (whole self.new.port.floor (known self.new)) }
+            (all_updates self.new.port.floor (known self.new)) }
         ensures gives { IfOk result (Gives self.old self.new) }
         ensures fails { OnErr result (Fails self.old self.new) }
         ensures hand { OnErr result (IsSome self.new.hand) }
@@ -195,7 +195,7 @@ impl Reading {
         ensures same { IsSamePort self.old.port self.new.port }
         ensures known { Extends (known self.new) (known self.old) }
         ensures received { IsPrefix (received self.new)
-            (whole self.new.port.floor (known self.new)) }
+            (all_updates self.new.port.floor (known self.new)) }
         ensures gives { IfOk result (Gives self.old self.new) }
         ensures fails { OnErr result (Fails self.old self.new) }
         ensures hand { OnErr result (IsSome self.new.hand) }
@@ -211,7 +211,7 @@ impl Reading {
         ensures same { IsSamePort self.old.port self.new.port }
         ensures known { Extends (known self.new) (known self.old) }
         ensures received { IsPrefix (received self.new)
-            (whole self.new.port.floor (known self.new)) }
+            (all_updates self.new.port.floor (known self.new)) }
         ensures gives { IfOk result (Gives self.old self.new) }
         ensures fails { OnErr result (Fails self.old self.new) }
         ensures hand { OnErr result (IsSome self.new.hand) }
@@ -247,7 +247,7 @@ impl Reading {
         ensures same { IsSamePort self.old.port self.new.port }
         ensures known { Extends (known self.new) (known self.old) }
         ensures received { IsPrefix (received self.new)
-            (whole self.new.port.floor (known self.new)) }
+            (all_updates self.new.port.floor (known self.new)) }
         ensures gives { IfOk result (Gives self.old self.new) }
         ensures fails { OnErr result (Fails self.old self.new) }
         ensures hand { OnErr result (IsSome self.new.hand) }

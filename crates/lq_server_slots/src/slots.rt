@@ -3,11 +3,11 @@ ghost use Rattle.std.specs.Prelude.{◌≡◌, ◌<◌, ◌≤◌, ℕ, length, 
 ghost use Rattle.lq_value.specs.Refusal.{FailsOnlyForMemory};
 ghost use Rattle.lq_board.specs.Slot.{slot_at, counted};
 ghost use Rattle.lq_server_slots.specs.Identity.{identity_of};
-ghost use Rattle.lq_server_slots.specs.Standing.{SameButHeld, SameButPuts, IsStuck};
-ghost use Rattle.lq_server_slots.specs.Slots.{IsTaken, IsToFill, SlotStands, asks_of, SlotsStand, IsListed, place_at, OnlyAt, slot_in, IsNoticed, IsServed, SlotIs, SlotsAre};
+ghost use Rattle.lq_server_slots.specs.Standing.{SameButHeld, SameButPuts, CannotPut};
+ghost use Rattle.lq_server_slots.specs.Slots.{IsTakenSlot, IsToFill, SlotStands, asks_of, AreConsistent, IsListed, taken_slot, OnlyAt, slot_in, IsNoticed, IsServed, SlotIs, SlotsAre};
 
+use crate::fill_port::fill;
 use crate::identity::Identity;
-use crate::puts::fill;
 use crate::subscription::{Subscription, notice};
 use lq_board::{Board, Keeper};
 use lq_value::Refusal;
@@ -36,7 +36,7 @@ impl ServerSlots {
         ensures refused { FailsOnlyForMemory result }
         ensures keeper { IfOk result (λ slots. slots.keeper ≡ keeper) }
         ensures openings { IfOk result (λ slots. slots.openings ≡ 0) }
-        ensures holding { IfOk result (λ slots. SlotsStand slots keeper.book) }
+        ensures holding { IfOk result (λ slots. AreConsistent slots keeper.book) }
     {
         let subscriptions = free(alloc)?;
         let taken = Vec::with_capacity(alloc, PLACES)?;
@@ -75,12 +75,12 @@ pub(crate) fn notice_slot(
     requires board { keeper.old.board ≡ board.now }
     requires place { (0 < place) × (place < 65) × (length keeper.old.slots ≡ 65) }
     requires number { number ≡ length keeper.old.book.changes }
-    requires taken { IsTaken slot.old (slot_at keeper.old.slots place) keeper.old.book }
+    requires taken { IsTakenSlot slot.old (slot_at keeper.old.slots place) keeper.old.book }
     ensures board { keeper.new.board ≡ keeper.old.board }
     ensures book { keeper.new.book ≡ keeper.old.book }
     ensures slots { keeper.new.slots ≡ counted keeper.old.slots place result }
     ensures asks { (slot_at keeper.old.slots place).asks ≤ result }
-    ensures taken { IsTaken slot.new (slot_at keeper.new.slots place) keeper.new.book }
+    ensures taken { IsTakenSlot slot.new (slot_at keeper.new.slots place) keeper.new.book }
     ensures ended { slot.old.asks < result → IsSome slot.new.sub.held.mark }
     ensures noticed { IsNoticed slot.new (slot_at keeper.new.slots place) }
     ensures others { SameButHeld slot.old slot.new × (slot.new.first_close ≡ slot.old.first_close) }
@@ -97,7 +97,7 @@ pub(crate) fn notice_slot(
 pub(crate) fn place_of(slots: &ServerSlots, index: usize) -> usize
     requires index { index < length slots.now.taken.items }
     requires listed { IsListed slots.now.taken.items slots.now.subscriptions.items }
-    ensures value { result ≡ place_at slots.now.taken.items index }
+    ensures value { result ≡ taken_slot slots.now.taken.items index }
     ensures low { 0 < result }
     ensures high { result < 65 }
 {
@@ -141,11 +141,11 @@ pub(crate) fn serve_all<R: Wait>(
 )
     requires board { slots.old.keeper.board ≡ board.now }
     requires number { number ≡ length slots.old.keeper.book.changes }
-    requires holding { SlotsStand slots.old slots.old.keeper.book }
+    requires holding { AreConsistent slots.old slots.old.keeper.book }
     ensures board { slots.new.keeper.board ≡ slots.old.keeper.board }
     ensures book { slots.new.keeper.book ≡ slots.old.keeper.book }
     ensures openings { slots.new.openings ≡ slots.old.openings }
-    ensures holding { SlotsStand slots.new slots.new.keeper.book }
+    ensures holding { AreConsistent slots.new slots.new.keeper.book }
     ensures served { SlotsAre IsServed slots.new.subscriptions.items slots.new.keeper.slots }
 {
     for index in 0..slots.taken.len() {
@@ -170,10 +170,10 @@ pub(crate) fn fill_slot<R: Wait>(
     place: usize,
 )
     requires taken { IsToFill taken.old (slot_at keeper.now.slots place) keeper.now.book }
-    ensures taken { IsTaken taken.new (slot_at keeper.now.slots place) keeper.now.book }
+    ensures taken { IsTakenSlot taken.new (slot_at keeper.now.slots place) keeper.now.book }
     ensures alike { SameButPuts taken.old taken.new }
     ensures named { identity_of taken.new ≡ identity_of taken.old }
-    ensures stuck { IsStuck taken.new }
+    ensures stuck { CannotPut taken.new }
     ensures served { IsNoticed taken.old (slot_at keeper.now.slots place)
         → IsServed taken.new (slot_at keeper.now.slots place) }
 {

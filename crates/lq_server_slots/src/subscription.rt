@@ -4,12 +4,12 @@ ghost use Rattle.lq_value.specs.Refusal.{FailsOnlyForMemory};
 ghost use Rattle.lq_volume.specs.Book.{Book, grown, state_of};
 ghost use Rattle.lq_volume.specs.Change.{IsLawful};
 ghost use Rattle.lq_board.specs.Book.{IsFullBook};
-ghost use Rattle.lq_server_slots.specs.Standing.{StandsAt, IsFilled, IsReady, SameButHeld, FirstCloseFits};
+ghost use Rattle.lq_server_slots.specs.Standing.{IsConsistentAt, IsFilled, IsReady, SameButHeld, FirstCloseFits};
 ghost use Rattle.lq_server_slots.specs.Marking.{hung_mark, after_close, held_committed, held_noticed, held_closed};
 
 use crate::delivery::Delivery;
+use crate::ghost_copy::GhostCopy;
 use crate::identity::{FirstClose, Told};
-use crate::witness::Witness;
 use lq_desk_sub::Sub;
 use lq_port::PortIn;
 use lq_update::{Cause, steps_are_few};
@@ -27,7 +27,7 @@ pub struct Subscription {
     /// How often its slot's seats had asked at the opening.
     pub asks: u64,
     /// What its reader was last told. Contracts alone read it.
-    pub told: Witness<Told>,
+    pub told: GhostCopy<Told>,
     /// The answer of its first close.
     pub first_close: FirstClose,
 }
@@ -72,11 +72,11 @@ pub fn ready(slot: &mut Subscription, planned: &Planned<'_>) -> Result<(), Refus
 pub fn commit(slot: &mut Subscription, change: &Change)
     requires few { slot.old.sub.held.sent < 2 ^ 63 }
     requires filled { IsFilled slot.old }
-    ensures stands { (book : Book) → StandsAt slot.old book
+    ensures stands { (book : Book) → IsConsistentAt slot.old book
         → IsReady slot.old.sub (state_of book) change.now
         → IsLawful (state_of book) change.now
         → IsFullBook (grown book (change.now ∷ []))
-        → StandsAt slot.new (grown book (change.now ∷ [])) }
+        → IsConsistentAt slot.new (grown book (change.now ∷ [])) }
     ensures held { slot.new.sub.held ≡ held_committed slot.old.sub }
     ensures others { SameButHeld slot.old slot.new }
     ensures first_close { slot.new.first_close ≡ slot.old.first_close }
@@ -100,8 +100,8 @@ pub fn commit(slot: &mut Subscription, change: &Change)
 /// subscription stays as it is where its reader didn't ask or it has ended. It takes no memory.
 pub fn notice(slot: &mut Subscription, hang_up_asked: bool, number: u64)
     requires few { slot.old.sub.held.sent < 2 ^ 63 }
-    ensures stands { (book : Book) → StandsAt slot.old book → number ≡ length book.changes
-        → StandsAt slot.new book }
+    ensures stands { (book : Book) → IsConsistentAt slot.old book → number ≡ length book.changes
+        → IsConsistentAt slot.new book }
     ensures held { slot.new.sub.held ≡ held_noticed hang_up_asked number slot.old.sub.held }
     ensures others { SameButHeld slot.old slot.new }
     ensures first_close { slot.new.first_close ≡ slot.old.first_close }
@@ -128,8 +128,8 @@ pub fn notice(slot: &mut Subscription, hang_up_asked: bool, number: u64)
 pub fn close(slot: &mut Subscription, number: u64) -> bool
     requires fits { FirstCloseFits slot.old.first_close slot.old.sub.held.mark }
     requires few { slot.old.sub.held.sent < 2 ^ 63 }
-    ensures stands { (book : Book) → StandsAt slot.old book → number ≡ length book.changes
-        → StandsAt slot.new book }
+    ensures stands { (book : Book) → IsConsistentAt slot.old book → number ≡ length book.changes
+        → IsConsistentAt slot.new book }
     ensures held { slot.new.sub.held ≡ held_closed number slot.old.sub.held }
     ensures others { SameButHeld slot.old slot.new }
     ensures messages { slot.new.sub.held.messages ≡ slot.old.sub.held.messages }

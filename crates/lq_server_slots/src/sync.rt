@@ -3,19 +3,19 @@ ghost use Rattle.std.specs.Prelude.{◌≡◌, ◌<◌, ◌≤◌, length, IsSom
 ghost use Rattle.lq_volume.specs.Book.{Extends};
 ghost use Rattle.lq_board.specs.Slot.{slot_at};
 ghost use Rattle.lq_server_slots.specs.Identity.{identity_of};
-ghost use Rattle.lq_server_slots.specs.Standing.{SameButHeld, StandsAt, told_by};
+ghost use Rattle.lq_server_slots.specs.Standing.{SameButHeld, IsConsistentAt, told_by};
 ghost use Rattle.lq_server_slots.specs.declared.subscription.Subscription.{Subscription as SubscriptionOf};
 ghost use Rattle.lq_server_slots.specs.declared.identity.Identity.{Identity as IdentityOf};
-ghost use Rattle.lq_server_slots.specs.Slots.{IsTaken, SlotStands, SlotsStand, OnlyAt, SameButKnown, asks_of};
+ghost use Rattle.lq_server_slots.specs.Slots.{IsTakenSlot, SlotStands, AreConsistent, OnlyAt, SameButKnown, asks_of};
 ghost use Rattle.lq_server_slots.specs.Opening.{IdentityFits};
 ghost use Rattle.lq_server_slots.specs.Progress.{IsShown, ShowsProgress};
 
+use crate::fill_port::drain;
+use crate::ghost_copy::GhostCopy;
 use crate::identity::{Identity, Told};
-use crate::puts::drain;
 use crate::reading::Reading;
 use crate::slots::{ServerSlots, notice_slot};
 use crate::subscription::Subscription;
-use crate::witness::Witness;
 use lq_board::{Board, Keeper, Seat};
 use lq_update::Mark;
 use std::sync::Wait;
@@ -120,12 +120,12 @@ pub(crate) fn notice_by(
     requires place { (0 < seat.now.slot) × (seat.now.slot < 65)
         × (length keeper.old.slots ≡ 65) }
     requires number { number ≡ length keeper.old.book.changes }
-    requires taken { IsTaken slot.old (slot_at keeper.old.slots seat.now.slot) keeper.old.book }
+    requires taken { IsTakenSlot slot.old (slot_at keeper.old.slots seat.now.slot) keeper.old.book }
     requires known { (slot_at keeper.old.slots seat.now.slot).asks ≡ seat.now.asks }
     ensures board { keeper.new.board ≡ keeper.old.board }
     ensures book { keeper.new.book ≡ keeper.old.book }
     ensures only { OnlyAt keeper.old.slots keeper.new.slots seat.now.slot }
-    ensures taken { IsTaken slot.new (slot_at keeper.new.slots seat.now.slot) keeper.new.book }
+    ensures taken { IsTakenSlot slot.new (slot_at keeper.new.slots seat.now.slot) keeper.new.book }
     ensures ended { slot.old.asks < seat.now.asks → IsSome slot.new.sub.held.mark }
     ensures others { SameButHeld slot.old slot.new × (slot.new.first_close ≡ slot.old.first_close) }
 {
@@ -142,14 +142,14 @@ fn show<R: Wait>(
     reading: &mut Reading,
     number: u64,
 ) -> Progress
-    requires stands { StandsAt slot.old keeper.now.book }
+    requires stands { IsConsistentAt slot.old keeper.now.book }
     requires number { number ≡ length keeper.now.book.changes }
     requires port { reading.old.port.port ≡ slot.old.input.port }
     ensures { IsShown slot.old slot.new reading.old reading.new keeper.now.book result }
 {
     let waiting = drain(rt, keeper, slot, reading);
     let mark = slot.sub.mark();
-    slot.told = Witness::of(&told_after(number, reading.taken(), mark));
+    slot.told = GhostCopy::of(&told_after(number, reading.taken(), mark));
     Progress {
         change: number,
         waiting,
@@ -234,10 +234,10 @@ fn meet_slot_at(
 pub fn meet_in(board: &Board<Identity>, slots: &mut ServerSlots, seat: &mut Seat<Identity>) -> u64
     requires board { (slots.old.keeper.board ≡ board.now) × (seat.old.board ≡ board.now) }
     requires seat { (0 < seat.old.slot) × IsSome seat.old.name }
-    requires holding { SlotsStand slots.old slots.old.keeper.book }
+    requires holding { AreConsistent slots.old slots.old.keeper.book }
     ensures number { result ≡ length slots.old.keeper.book.changes }
     ensures same { SameButKnown slots.old slots.new }
-    ensures holding { SlotsStand slots.new slots.new.keeper.book }
+    ensures holding { AreConsistent slots.new slots.new.keeper.book }
     ensures seat { seat.new ≡ record seat.old { book = slots.old.keeper.book } }
     ensures known { (slot_at slots.new.keeper.slots seat.old.slot).asks ≡ seat.old.asks }
     ensures later { Extends slots.old.keeper.book seat.old.book }
@@ -257,11 +257,11 @@ pub fn sync_in<R: Wait>(
     requires board { (slots.old.keeper.board ≡ board.now) × (seat.old.board ≡ board.now) }
     requires seat { (0 < seat.old.slot)
         × IsSomeAnd seat.old.name (λ t. IdentityFits t reading.old.port) }
-    requires holding { SlotsStand slots.old slots.old.keeper.book }
+    requires holding { AreConsistent slots.old slots.old.keeper.book }
     ensures board { slots.new.keeper.board ≡ slots.old.keeper.board }
     ensures book { slots.new.keeper.book ≡ slots.old.keeper.book }
     ensures openings { slots.new.openings ≡ slots.old.openings }
-    ensures holding { SlotsStand slots.new slots.new.keeper.book }
+    ensures holding { AreConsistent slots.new slots.new.keeper.book }
     ensures seat { seat.new.book ≡ slots.old.keeper.book }
     ensures progress { (s : SubscriptionOf)
         × ShowsProgress s seat.old seat.new reading.old reading.new result }

@@ -1,5 +1,5 @@
 //! What the tables of the scenarios ask of a server, and what they are told.
-use crate::draws::{Draws, numbered};
+use crate::random_changes::{Draws, numbered};
 use lq_update::Cause;
 use lq_value::{AttrName, Entry, Kind, Name, Refusal, Value};
 use lq_volume::Change;

@@ -12,19 +12,19 @@ mod acts;
 #[cfg(test)]
 mod again;
 #[cfg(test)]
-mod draws;
-#[cfg(test)]
 mod fills;
 #[cfg(test)]
 mod followed;
-#[cfg(test)]
-mod held;
 #[cfg(test)]
 mod more_threads;
 #[cfg(test)]
 mod one_thread;
 #[cfg(test)]
+mod owned_tokens;
+#[cfg(test)]
 mod party;
+#[cfg(test)]
+mod random_changes;
 #[cfg(test)]
 mod reference;
 #[cfg(test)]

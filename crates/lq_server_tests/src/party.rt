@@ -1,7 +1,7 @@
 //! What one thread has, and what it does with it beside others.
 use crate::acts::{Act, Call, Told, change};
-use crate::draws::{Asked, Draws};
-use crate::held::{ReaderOf, SeatOf};
+use crate::owned_tokens::{ReaderOf, SeatOf};
+use crate::random_changes::{DrawnOpening, Draws};
 use crate::reference::{Log, Taken};
 use lq_server::{Named, Server};
 use lq_value::Refusal;
@@ -181,13 +181,13 @@ impl<N: Named> Party<N> {
         act: &Act,
     ) -> Result<Told, Refusal> {
         let asked = match act {
-            Act::Open(query, port, backlog) => Asked {
+            Act::Open(query, port, backlog) => DrawnOpening {
                 query,
                 port: *port,
                 backlog: *backlog,
                 moved: false,
             },
-            Act::OpenMoved(query, port, backlog) => Asked {
+            Act::OpenMoved(query, port, backlog) => DrawnOpening {
                 query,
                 port: *port,
                 backlog: *backlog,

@@ -1,6 +1,6 @@
 //! What readers have to be told of accepted changes: for each, the difference of two whole results.
 use crate::acts::Told;
-use crate::draws::Asked;
+use crate::random_changes::DrawnOpening;
 use lq_desk_sub::Read;
 use lq_predicate::{Predicate, read};
 use lq_server::Accepted;
@@ -147,7 +147,7 @@ fn tells(message: &Message, line: Line, entry: &Entry, other: Option<&Entry>) ->
 
 impl Log {
     /// The log of a subscription that isn't opened yet.
-    pub fn new(alloc: Global, asked: Asked) -> Log {
+    pub fn new(alloc: Global, asked: DrawnOpening) -> Log {
         Log {
             query: asked.query,
             moved: asked.moved,

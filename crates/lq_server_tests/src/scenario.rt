@@ -1,9 +1,9 @@
 //! A scenario: parties at one server, each in a thread of its own, turn by turn.
 ghost use Rattle.std.specs.Prelude.{◌≡◌, true};
 
-use crate::draws::{Draws, QUERIES};
-use crate::held::SeatOf;
+use crate::owned_tokens::SeatOf;
 use crate::party::{Acted, Party, Table};
+use crate::random_changes::{Draws, QUERIES};
 use crate::reference::{LIMIT, find_results, is_left};
 use lq_server::{Base, Named, Retired, Server, servers_may_be_shared};
 use lq_value::Refusal;

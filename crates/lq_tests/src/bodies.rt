@@ -71,10 +71,10 @@ fn are_same(one: &[Message], other: &[Message]) -> bool {
     one.len() == other.len() && one.iter().zip(other).all(|(a, b)| is_same(a, b))
 }
 
-/// Whether `may_tell` says no just where there is no message and nothing is clobbered.
+/// Whether `may_have_messages` says no just where there is no message and nothing is clobbered.
 fn is_foreseen(predicate: &Predicate, planned: &Planned<'_>, plain: &[Message]) -> bool {
     let is_quiet = plain.is_empty() && planned.clobbered().is_none();
-    matches_of(predicate, planned).may_tell() != is_quiet
+    matches_of(predicate, planned).may_have_messages() != is_quiet
 }
 
 /// How many messages a change tells a predicate, by both bodies the same.

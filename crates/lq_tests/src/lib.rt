@@ -1,8 +1,8 @@
 //! Tests that cross crates: worked examples as lists of events (`events`), each call that may give
 //! up with memory for each variant of its arguments (`variants`), listings and paths (`folders`),
 //! calls that are given again where memory ran out (`again`), the plain body of `step` beside the
-//! fast one (`plain`, `bodies`), and changes that tell nothing (`beside`, `creates`). Nothing here
-//! waits.
+//! fast one (`plain`, `bodies`), and changes that tell nothing (`skipped_writes`, `creates`).
+//! Nothing here waits.
 #![tactic(auto)]
 
 #[cfg(test)]
@@ -11,8 +11,6 @@ mod act;
 mod again;
 #[cfg(test)]
 mod ask;
-#[cfg(test)]
-mod beside;
 #[cfg(test)]
 mod bodies;
 #[cfg(test)]
@@ -27,5 +25,7 @@ mod folders;
 mod folds;
 #[cfg(test)]
 mod plain;
+#[cfg(test)]
+mod skipped_writes;
 #[cfg(test)]
 mod variants;

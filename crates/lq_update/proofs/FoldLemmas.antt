@@ -13,7 +13,7 @@ use Rattle.lq_update.specs.declared.message.Message.{Message}
 use Rattle.lq_update.specs.Diff.{same_entry, missing, has_node, moves, messages_of}
 use Rattle.lq_update.specs.Touched.{left, told_first}
 use Rattle.lq_update.specs.Updates.{numbered}
-use Rattle.lq_update.specs.Fold.{EntriesRise, taken_out, old_entry, folded_by, fits_by, folded, folded_one, fits_in}
+use Rattle.lq_update.specs.Fold.{EntriesRise, taken_out, old_entry, folded_by, fits_result, folded, folded_one, fits_in}
 use Rattle.lq_update.proofs.ToldLemmas.{alone_if, messages-split}
 use Rattle.lq_update.proofs.EntryLemmas.{Above, entry_at, at-above, at-node, has_node-at, has_entry-at, at-filter, rises-filter, at-put_in, rises-put_in, at-taken_out, same-self, same-entry, entries-same}
 
@@ -33,7 +33,7 @@ gives (Moved dir name) e = Some e
 
 -- a message fits where its node has what it needs
 pub fits-needs : (op : Opcode) (e : Entry) (r : List Entry) → EntriesRise r
-    → entry_at e.node r ≡ needs op e → fits_by op e r ≡ true
+    → entry_at e.node r ≡ needs op e → fits_result op e r ≡ true
 fits-needs Created e r h is = rw (has_node-at e.node r, is) refl
 fits-needs Removed e r h is = has_entry-at e r h ∙ rw is (same-self e)
 fits-needs (Moved dir name) e r h is = has_entry-at (old_entry dir name e) r h
@@ -108,7 +108,7 @@ ops_folded r (x ∷ xs) = ops_folded (folded_by x.0 x.1 r) xs
 -- each message fits what those before it leave
 abbrev pub OpsFit : List Entry → List Op → Type 0
 OpsFit r [] = Unit {0}
-OpsFit r (x ∷ xs) = (fits_by x.0 x.1 r ≡ true) × OpsFit (folded_by x.0 x.1 r) xs
+OpsFit r (x ∷ xs) = (fits_result x.0 x.1 r ≡ true) × OpsFit (folded_by x.0 x.1 r) xs
 
 -- what a node must have, and has then, where this is told of it
 abbrev pub NeedAt : Option Op → Option Entry → Type 0

@@ -6,7 +6,7 @@ use Rattle.lq_value.specs.Refusal.{first_refusal}
 use Rattle.lq_value.specs.declared.refusal.Refusal.TheVariants.{Mismatch}
 use Rattle.lq_update.specs.declared.message.Message.{Message}
 use Rattle.lq_update.specs.Fold.{Folding, fold_refusals, fits_in}
-use Rattle.lq_update.specs.Latest.{may_follow}
+use Rattle.lq_update.specs.FoldProgress.{may_follow}
 
 -- one that may follow is refused just where it doesn't fit
 pub refusal-following : (f : Folding) (m : Message) → may_follow f.seq f.change f.settled m ≡ true

@@ -19,7 +19,7 @@ use Rattle.lq_predicate.specs.Truth.{truth}
 use Rattle.lq_volume.specs.declared.change.Change.TheVariants.{Create, Remove, Move, Write, SetAttr, RemoveAttr}
 use Rattle.lq_volume.specs.AttributeLaws.{ValuesAreFound}
 use Rattle.lq_volume.specs.State.{State, Record, IsVolume, record_at}
-use Rattle.lq_volume.specs.Change.{after, altered, written, set_attr, remove_attr}
+use Rattle.lq_volume.specs.Change.{after, altered, rewritten, set_attr, remove_attr}
 use Rattle.lq_volume.specs.Laws.{ChangesKeepTrees, ClobberedGo, UntouchedStay}
 use Rattle.lq_volume.specs.Result.{result_of, entry_of, entry_if, match_at, shown}
 use Rattle.lq_update.specs.Diff.{missing, messages_of, diff}
@@ -47,7 +47,7 @@ same-name names name other among not_among = at (bytes_eq name other) refl
 -- what an altered record shows under another name
 shown-written : (size : ℕ) (time : ℤ) (r : Record) (name : List ℕ)
     → bytes_eq name (codes "size") ≡ false → bytes_eq name (codes "last_modified") ≡ false
-    → shown (written size time r) name ≡ shown r name
+    → shown (rewritten size time r) name ≡ shown r name
 shown-written size time r name p q = rw (p, q) refl
 
 -- a setting leaves what a record shows under every other name
@@ -124,8 +124,8 @@ changes-pass found q moved s (Write node size time) names altered v by is off =
     let off_both = subst (AllByRecursion (λ name. list_any (bytes_eq name) names ≡ false))
     (sym (some-inside is)) off in
     diff-same q moved s (after s (Write node size time)) v
-    (altered-passes (λ r. truth q (shown r)) node (written size time)
-    (λ r. by (shown (written size time r)) (shown r) (λ name among.
+    (altered-passes (λ r. truth q (shown r)) node (rewritten size time)
+    (λ r. by (shown (rewritten size time r)) (shown r) (λ name among.
     shown-written size time r name (same-name names name (codes "size") among off_both.0)
     (same-name names name (codes "last_modified") among off_both.1.0))) (λ n r. refl) s.records)
 changes-pass found q moved s (SetAttr node attr value) names altered v by is off =
@@ -160,14 +160,14 @@ lookup-altered node f (e ∷ es) = elim (cases_eq e.0 node) [
 shown-beside : (q : Query) (r : Record) (size : ℕ) (time : ℤ)
     → is_beside (span_of (codes "size") q) (pos r.size) (pos size) ≡ true
     → is_beside (span_of (codes "last_modified") q) r.time time ≡ true
-    → (name : List ℕ) → (shown r name ≡ shown (written size time r) name)
-    ⊎ StaysBeside (span_of name q) (shown r name) (shown (written size time r) name)
+    → (name : List ℕ) → (shown r name ≡ shown (rewritten size time r) name)
+    ⊎ StaysBeside (span_of name q) (shown r name) (shown (rewritten size time r) name)
 shown-beside q r size time sizes times name =
     by (bytes_eq name (codes "size")) refl (bytes_eq name (codes "last_modified")) refl
   where
     Goal : List ℕ → Type 0
-    Goal n = (shown r n ≡ shown (written size time r) n)
-        ⊎ StaysBeside (span_of n q) (shown r n) (shown (written size time r) n)
+    Goal n = (shown r n ≡ shown (rewritten size time r) n)
+        ⊎ StaysBeside (span_of n q) (shown r n) (shown (rewritten size time r) n)
 
     by : (b : Bool) → bytes_eq name (codes "size") ≡ b
         → (d : Bool) → bytes_eq name (codes "last_modified") ≡ d → Goal name
@@ -199,10 +199,11 @@ pub match-written : TruthStaysBesideSpans
     → is_beside (span_of (codes "last_modified") q) r.time time ≡ true
     → match_at q (after s (Write node size time)) node ≡ match_at q s node
 match-written law q s r node size time is sizes times =
-    let same : truth q (shown r) ≡ truth q (shown (written size time r)) =
-    law q (shown r) (shown (written size time r)) (shown-beside q r size time sizes times) in
-    let there : record_at (after s (Write node size time)) node ≡ Some (written size time r) =
-    lookup-altered node (written size time) s.records ∙ ap (option_map (written size time)) is in
+    let same : truth q (shown r) ≡ truth q (shown (rewritten size time r)) =
+    law q (shown r) (shown (rewritten size time r)) (shown-beside q r size time sizes times) in
+    let there : record_at (after s (Write node size time)) node ≡ Some (rewritten size time r) =
+    lookup-altered node (rewritten size time) s.records
+    ∙ ap (option_map (rewritten size time)) is in
     ap (option_and_then (λ r. entry_if q (node, r))) there
     ∙ ap (λ b. cond b (Some (entry_of (node, r))) None) (sym same)
     ∙ sym (ap (option_and_then (λ r. entry_if q (node, r))) is)

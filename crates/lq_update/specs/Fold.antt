@@ -38,22 +38,22 @@ folded_by Removed e entries = taken_out e entries
 folded_by (Moved dir name) e entries = put_in e (taken_out (old_entry dir name e) entries)
 
 -- what a message takes out is in the set; the node of a triple that is only put in isn't
-abbrev pub fits_by : Opcode → Entry → List Entry → Bool
-fits_by Created e entries = not (has_node e.node entries)
-fits_by Removed e entries = has_entry e entries
-fits_by (Moved dir name) e entries = has_entry (old_entry dir name e) entries
+abbrev pub fits_result : Opcode → Entry → List Entry → Bool
+fits_result Created e entries = not (has_node e.node entries)
+fits_result Removed e entries = has_entry e entries
+fits_result (Moved dir name) e entries = has_entry (old_entry dir name e) entries
 
 -- a message's triple, with the new place if it moved
-abbrev pub entry_in : Message → Entry
-entry_in m = record { dir = m.dir; name = m.name; node = m.node }
+abbrev pub message_entry : Message → Entry
+message_entry m = record { dir = m.dir; name = m.name; node = m.node }
 
 -- the set after a message
 abbrev pub folded_one : List Entry → Message → List Entry
-folded_one entries m = folded_by m.op (entry_in m) entries
+folded_one entries m = folded_by m.op (message_entry m) entries
 
 -- whether a message fits the set
 abbrev pub fits_in : List Entry → Message → Bool
-fits_in entries m = fits_by m.op (entry_in m) entries
+fits_in entries m = fits_result m.op (message_entry m) entries
 
 -- the set after messages, in order
 abbrev pub folded : List Entry → List Message → List Entry

@@ -16,13 +16,13 @@ use Rattle.lq_volume.specs.Book.{Book, Extends, after_all, grown, state_at, stat
 use Rattle.lq_volume.specs.Result.{result_of}
 use Rattle.lq_update.specs.declared.message.Message.{Message}
 use Rattle.lq_update.specs.Diff.{diff}
-use Rattle.lq_update.specs.Updates.{step_of, updates_from, updates_of, IsPrefixOf, IsSettled}
+use Rattle.lq_update.specs.Updates.{step_of, updates_from, updates_of, IsSettled}
 use Rattle.lq_update.specs.Fold.{Folding, is_settled, settled_after, fold_refusals, folding_after_all, opened_at, EntriesRise, folded, fits_in, last_change}
 
 -- a longer book only appends to an update list
 abbrev pub UpdatesGrow : Type 0
 UpdatesGrow = (q : Query) (moved : Bool) (b : Book) (m n : ℕ)
-    → IsPrefixOf (updates_of q moved b m n) (updates_of q moved b m (n + 1))
+    → IsPrefix (updates_of q moved b m n) (updates_of q moved b m (n + 1))
 
 -- the messages of a list of changes and further changes are those of the first list, then those of
 -- the further ones from the state and number that the first ones lead to
@@ -69,7 +69,7 @@ ResultsRise = (q : Query) (s : State) → IsVolume s → EntriesRise (result_of 
 abbrev pub FoldsGiveResults : Type 0
 FoldsGiveResults = (q : Query) (moved : Bool) (b : Book) (m n : ℕ) (front : List Message)
     → IsVolume b.start → IsBook b → b.start.number ≤ m → m ≤ number_of b
-    → IsPrefixOf front (updates_of q moved b m n) → IsSettled front
+    → IsPrefix front (updates_of q moved b m n) → IsSettled front
     → folded (result_of q (state_at b m)) front ≡ result_of q (state_at b (last_change m front))
 
 -- folding a whole update list gives the result after all its changes

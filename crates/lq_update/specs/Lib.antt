@@ -4,5 +4,5 @@ pub mod Touched
 pub mod Fold
 pub mod Place
 pub mod Locations
-pub mod Latest
+pub mod FoldProgress
 pub mod Laws

@@ -40,10 +40,6 @@ updates_from q moved s (c ∷ cs) seq =
 abbrev pub updates_of : Query → Bool → Book → ℕ → ℕ → List Message
 updates_of q moved b m n = updates_from q moved (state_at b m) (changes_between b m n) 1
 
--- the first list is a prefix of the second
-abbrev pub IsPrefixOf : List Message → List Message → Type 0
-IsPrefixOf xs ys = (rest : List Message) × (xs ++ rest ≡ ys)
-
 -- no message yet, or the final one was the last of its change
 abbrev pub IsSettled : List Message → Type 0
 IsSettled [] = Unit {0}

@@ -17,7 +17,7 @@ impl<'s, 'a> Matches<'s, 'a> {
     ///
     /// It reads only the entries in the plan. It takes no memory.
     #[inline(always)]
-    pub fn may_tell(&self) -> bool
+    pub fn may_have_messages(&self) -> bool
         ensures { (moved : Bool) → (seq : ℕ) → result ≡ false → step_of self.now.predicate.now moved
             self.now.planned.now.before self.now.planned.now.change seq ≡ [] }
     {

@@ -3,7 +3,7 @@ ghost use Rattle.std.specs.Prelude.{◌≡◌, Some, None, IfOk, IfErr, IfSome, 
 ghost use Rattle.lq_value.specs.declared.refusal.Refusal.TheVariants.{Mismatch};
 ghost use Rattle.lq_value.specs.Refusal.{FailsOnlyForMemory, IsRefusedBy};
 ghost use Rattle.lq_update.specs.Diff.{has_node, same_entry};
-ghost use Rattle.lq_update.specs.Fold.{EntriesRise, entry_in, fits_in, folded_one, has_entry, old_entry, put_in, taken_out};
+ghost use Rattle.lq_update.specs.Fold.{EntriesRise, message_entry, fits_in, folded_one, has_entry, old_entry, put_in, taken_out};
 ghost use Rattle.lq_update.specs.Place.{IsEntryAt, IsGapFor, IsTripleAt};
 
 use crate::message::{Message, Opcode};
@@ -36,7 +36,8 @@ fn put(alloc: Global, entries: &mut Vec<Entry>, message: &Message) -> Result<(),
     requires { EntriesRise entries.old.items }
     ensures refused { IsRefusedBy result
         (if not (has_node message.now.node entries.old.items) then None else Some Mismatch) }
-    ensures ok { OnOk result (entries.new.items ≡ put_in (entry_in message.now) entries.old.items) }
+    ensures ok { OnOk result (entries.new.items
+        ≡ put_in (message_entry message.now) entries.old.items) }
     ensures err { OnErr result (entries.new.items ≡ entries.old.items) }
     ensures rise { EntriesRise entries.new.items }
 {
@@ -51,9 +52,9 @@ fn put(alloc: Global, entries: &mut Vec<Entry>, message: &Message) -> Result<(),
 fn take(entries: &mut Vec<Entry>, message: &Message) -> Result<(), Refusal>
     requires { EntriesRise entries.old.items }
     ensures refused { IsRefusedBy result
-        (if has_entry (entry_in message.now) entries.old.items then None else Some Mismatch) }
+        (if has_entry (message_entry message.now) entries.old.items then None else Some Mismatch) }
     ensures ok { OnOk result
-        (entries.new.items ≡ taken_out (entry_in message.now) entries.old.items) }
+        (entries.new.items ≡ taken_out (message_entry message.now) entries.old.items) }
     ensures err { OnErr result (entries.new.items ≡ entries.old.items) }
     ensures rise { EntriesRise entries.new.items }
 {
@@ -73,10 +74,10 @@ fn replace(
 ) -> Result<(), Refusal>
     requires { EntriesRise entries.old.items }
     ensures refused { IsRefusedBy result
-        (if has_entry (old_entry dir name.now (entry_in message.now)) entries.old.items
+        (if has_entry (old_entry dir name.now (message_entry message.now)) entries.old.items
         then None else Some Mismatch) }
-    ensures ok { OnOk result (entries.new.items ≡ put_in (entry_in message.now)
-        (taken_out (old_entry dir name.now (entry_in message.now)) entries.old.items)) }
+    ensures ok { OnOk result (entries.new.items ≡ put_in (message_entry message.now)
+        (taken_out (old_entry dir name.now (message_entry message.now)) entries.old.items)) }
     ensures err { OnErr result (entries.new.items ≡ entries.old.items) }
     ensures rise { EntriesRise entries.new.items }
 {
@@ -90,7 +91,7 @@ fn replace(
 
 fn entry_of(alloc: Global, message: &Message) -> Result<Entry, Refusal>
     ensures refused { FailsOnlyForMemory result }
-    ensures value { IfOk result (λ entry. entry ≡ entry_in message.now) }
+    ensures value { IfOk result (λ entry. entry ≡ message_entry message.now) }
 {
     Ok(Entry {
         dir: message.dir,

@@ -3,7 +3,7 @@ ghost use Rattle.std.specs.Prelude.{◌≡◌, IfOk, OnOk, OnErr};
 ghost use Rattle.lq_value.specs.Refusal.{FailsOnlyForMemory, IsRefusedBy, first_refusal};
 ghost use Rattle.lq_update.specs.Fold.{EntriesRise, fold_refusals, folding_after, opened_at};
 
-use crate::latest::Latest;
+use crate::fold_progress::FoldProgress;
 use crate::locations::{Location, entries_of, fold_into, locations_of};
 use crate::message::Message;
 use lq_value::{Entry, Refusal};
@@ -17,7 +17,7 @@ use std::marker::Model;
 /// Contracts see it as a `Folding`, as they see a `Rebuild`.
 #[derive(Drop)]
 pub struct IndexedRebuild {
-    latest: Latest,
+    latest: FoldProgress,
     alloc: Global,
     locations: BTreeMap<u64, Location>,
 }
@@ -48,7 +48,7 @@ impl IndexedRebuild {
         ensures value { IfOk result (λ rebuild. rebuild ≡ opened_at at entries.now) }
     {
         Ok(IndexedRebuild {
-            latest: Latest::opening(at),
+            latest: FoldProgress::opening(at),
             alloc,
             locations: locations_of(alloc, entries)?,
         })
@@ -90,7 +90,7 @@ impl IndexedRebuild {
             return Err(Refusal::OutOfStep);
         }
         fold_into(self.alloc, &mut self.locations, message)?;
-        self.latest = Latest::of(message);
+        self.latest = FoldProgress::of(message);
         Ok(())
     }
 }

@@ -5,22 +5,21 @@
 //! waits. Begin with `message`, then `step`.
 #![tactic(auto)]
 
-mod beside;
 mod difference;
 mod fold;
+mod fold_progress;
 mod indexed_rebuild;
-mod latest;
 mod laws;
 mod locations;
 mod mark;
 mod matches;
 mod message;
+mod message_list;
+mod number_writes;
 mod parcel;
 mod rebuild;
 mod stepping;
-mod telling;
 
-pub use beside::writes_beside;
 pub use indexed_rebuild::IndexedRebuild;
 pub use laws::{
     bare_creates_tell_nothing, changes_add_steps, changes_pass_over, foldings_follow,
@@ -31,6 +30,7 @@ pub use laws::{
 pub use mark::{Cause, Mark};
 pub use matches::{Matches, matches_of};
 pub use message::{Message, Opcode};
+pub use number_writes::writes_cross_no_number;
 pub use parcel::Parcel;
 pub use rebuild::Rebuild;
 pub use stepping::{MAX_STEP, step, step_planned};

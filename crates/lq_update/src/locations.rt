@@ -5,7 +5,7 @@ ghost use Rattle.std.specs.Ordering.{nat_cmp};
 ghost use Rattle.lq_value.specs.declared.refusal.Refusal.TheVariants.{Mismatch};
 ghost use Rattle.lq_value.specs.Refusal.{FailsOnlyForMemory, IsRefusedBy};
 ghost use Rattle.lq_update.specs.Diff.{has_node};
-ghost use Rattle.lq_update.specs.Fold.{EntriesRise, entry_in, fits_in, folded_one, has_entry, old_entry, put_in, taken_out};
+ghost use Rattle.lq_update.specs.Fold.{EntriesRise, message_entry, fits_in, folded_one, has_entry, old_entry, put_in, taken_out};
 ghost use Rattle.lq_update.specs.Locations.{entries_of};
 
 use crate::message::{Message, Opcode};
@@ -100,7 +100,7 @@ fn put(
         (if not (has_node message.now.node (entries_of locations.old.entries))
         then None else Some Mismatch) }
     ensures ok { OnOk result (entries_of locations.new.entries
-        ≡ put_in (entry_in message.now) (entries_of locations.old.entries)) }
+        ≡ put_in (message_entry message.now) (entries_of locations.old.entries)) }
     ensures err { OnErr result (locations.new.entries ≡ locations.old.entries) }
     ensures rise { EntriesRise (entries_of locations.new.entries) }
 {
@@ -132,10 +132,10 @@ fn put_back(locations: &mut BTreeMap<u64, Location>, node: u64, before: Location
 fn take(locations: &mut BTreeMap<u64, Location>, message: &Message) -> Result<(), Refusal>
     requires { EntriesRise (entries_of locations.old.entries) }
     ensures refused { IsRefusedBy result
-        (if has_entry (entry_in message.now) (entries_of locations.old.entries)
+        (if has_entry (message_entry message.now) (entries_of locations.old.entries)
         then None else Some Mismatch) }
     ensures ok { OnOk result (entries_of locations.new.entries
-        ≡ taken_out (entry_in message.now) (entries_of locations.old.entries)) }
+        ≡ taken_out (message_entry message.now) (entries_of locations.old.entries)) }
     ensures err { OnErr result (locations.new.entries ≡ locations.old.entries) }
     ensures rise { EntriesRise (entries_of locations.new.entries) }
 {
@@ -155,11 +155,11 @@ fn replace(
 ) -> Result<(), Refusal>
     requires { EntriesRise (entries_of locations.old.entries) }
     ensures refused { IsRefusedBy result
-        (if has_entry (old_entry dir name.now (entry_in message.now))
+        (if has_entry (old_entry dir name.now (message_entry message.now))
         (entries_of locations.old.entries) then None else Some Mismatch) }
     ensures ok { OnOk result (entries_of locations.new.entries
-        ≡ put_in (entry_in message.now) (taken_out
-        (old_entry dir name.now (entry_in message.now)) (entries_of locations.old.entries))) }
+        ≡ put_in (message_entry message.now) (taken_out
+        (old_entry dir name.now (message_entry message.now)) (entries_of locations.old.entries))) }
     ensures err { OnErr result (locations.new.entries ≡ locations.old.entries) }
     ensures rise { EntriesRise (entries_of locations.new.entries) }
 {

@@ -4,7 +4,7 @@ ghost use Rattle.lq_value.specs.Refusal.{IsRefusedBy, first_refusal};
 ghost use Rattle.lq_update.specs.Fold.{EntriesRise, fold_refusals, folding_after, opened_at};
 
 use crate::fold::fold;
-use crate::latest::Latest;
+use crate::fold_progress::FoldProgress;
 use crate::message::Message;
 use lq_value::{Entry, Refusal};
 use std::alloc::Global;
@@ -16,7 +16,7 @@ use std::marker::Model;
 /// last of its change, the number of that change, and the entries by rising node.
 #[derive(Drop)]
 pub struct Rebuild {
-    latest: Latest,
+    latest: FoldProgress,
     alloc: Global,
     entries: Vec<Entry>,
 }
@@ -45,7 +45,7 @@ impl Rebuild {
         ensures { result ≡ opened_at at entries.items }
     {
         Rebuild {
-            latest: Latest::opening(at),
+            latest: FoldProgress::opening(at),
             alloc,
             entries,
         }
@@ -92,7 +92,7 @@ impl Rebuild {
             return Err(Refusal::OutOfStep);
         }
         fold(self.alloc, &mut self.entries, message)?;
-        self.latest = Latest::of(message);
+        self.latest = FoldProgress::of(message);
         Ok(())
     }
 }

@@ -11,7 +11,7 @@ ghost use Rattle.lq_update.specs.Touched.{entry_at, left_at};
 use crate::difference::{changes_touch_few, copied};
 use crate::matches::{Matches, matches_of};
 use crate::message::{Message, Opcode};
-use crate::telling::{join, message, put_all};
+use crate::message_list::{join, message, put_all};
 use lq_predicate::{Predicate, holds};
 use lq_value::{Entry, Refusal};
 use lq_volume::{Applied, Change, EntryView, Planned, Volume};
@@ -77,8 +77,8 @@ impl<'s, 'a> Matches<'s, 'a> {
     /// Puts the messages of the change for the query behind those in a queue with room for three
     /// more.
     ///
-    /// They are those of `step_planned`. Asking `may_tell` first is faster where there is no
-    /// message. It takes memory for names alone. Refused: `NoMemory`; then the queue stays as it
+    /// They are those of `step_planned`. Asking `may_have_messages` first is faster where there is
+    /// no message. It takes memory for names alone. Refused: `NoMemory`; then the queue stays as it
     /// was.
     #[inline(always)]
     pub fn put_step(

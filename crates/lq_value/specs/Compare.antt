@@ -4,12 +4,12 @@ use Rattle.std.specs.Cmp.Lexicographic.{slice_cmp}
 use Rattle.std.specs.Ordering.{nat_cmp, int_cmp, is_lt, is_le, is_gt, is_ge, is_eq}
 use Rattle.std.specs.Str.{chars}
 use Rattle.std.specs.declared.cmp.Ordering.{Ordering}
-use Rattle.lq_value.specs.Held.{Held, Words, Number}
+use Rattle.lq_value.specs.PlainValue.{PlainValue, Words, Number}
 use Rattle.lq_value.specs.declared.literal.Literal.{Literal}
 use Rattle.lq_value.specs.declared.literal.Literal.TheVariants as literal
 use Rattle.lq_value.specs.declared.op.Op.{Op}
 use Rattle.lq_value.specs.declared.op.Op.TheVariants.{Eq, Ne, Lt, Le, Gt, Ge}
-use Rattle.lq_value.specs.Number.{number_of}
+use Rattle.lq_value.specs.Number.{decimal_number}
 use Rattle.lq_value.specs.Form.{pattern_number}
 use Rattle.lq_value_pattern.specs.Pattern.{fits}
 
@@ -40,7 +40,7 @@ suits (literal.Plain text) Ge = true
 -- the whole number that a literal writes
 abbrev pub literal_number : Literal → Option ℤ
 literal_number (literal.Pattern elements) = pattern_number elements
-literal_number (literal.Plain text) = number_of text
+literal_number (literal.Plain text) = decimal_number text
 
 -- whether `==` or `!=` is true for a text that the pattern fits, or doesn't fit
 abbrev pub fits_by : Op → Bool → Bool
@@ -61,6 +61,6 @@ abbrev pub compares_number : ℤ → Op → Option ℤ → Bool
 compares_number value op None = false
 compares_number value op (Some number) = accepts op (int_cmp value number)
 
-abbrev pub compares : Held → Op → Literal → Bool
+abbrev pub compares : PlainValue → Op → Literal → Bool
 compares (Words bytes) op lit = compares_text bytes op lit
 compares (Number value) op lit = compares_number value op (literal_number lit)

@@ -2,7 +2,7 @@
 use Rattle.std.specs.Prelude.{◌≡◌, ℤ, List, Option, None, option_and_then}
 use Rattle.std.specs.Str.{chars, encode_utf8_all}
 use Rattle.std.specs.String.{string_bytes}
-use Rattle.lq_value.specs.Number.{number_of}
+use Rattle.lq_value.specs.Number.{decimal_number}
 use Rattle.lq_value.specs.declared.pattern.Form.{Form}
 use Rattle.lq_value.specs.declared.pattern.Form.TheVariants.{PlainText, StarredText, Elements}
 use Rattle.lq_value_pattern.specs.Pattern.{plain_chars, plain_elements, starred_elements}
@@ -10,7 +10,7 @@ use Rattle.lq_value_pattern.specs.declared.element.Element.{Element}
 
 -- the whole number that a pattern writes, if all its elements are plain and their text writes one
 abbrev pub pattern_number : List Element → Option ℤ
-pattern_number es = option_and_then (λ cs. number_of (encode_utf8_all cs)) (plain_chars es)
+pattern_number es = option_and_then (λ cs. decimal_number (encode_utf8_all cs)) (plain_chars es)
 
 -- the elements that a form stores
 abbrev pub elements_of : Form → List Element

@@ -12,6 +12,6 @@ small_bytes (Here text) = text
 small_bytes (Apart text) = string_bytes text
 
 -- for the text of a name, which a longer name shares with its copies
-abbrev pub name_bytes : NameText → List ℕ
-name_bytes (Short text) = text
-name_bytes (Shared text) = text
+abbrev pub name_text_bytes : NameText → List ℕ
+name_text_bytes (Short text) = text
+name_text_bytes (Shared text) = text

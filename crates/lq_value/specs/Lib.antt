@@ -3,7 +3,7 @@ pub mod Name
 pub mod NameHash
 pub mod Field
 pub mod Value
-pub mod Held
+pub mod PlainValue
 pub mod Number
 pub mod Kept
 pub mod Form

@@ -15,9 +15,9 @@ digits_number cs =
     else None
 
 -- the number with an optional `-`; leading zeros are allowed, and `-0` is 0
-abbrev pub number_of : List ℕ → Option ℤ
-number_of [] = None
-number_of (c ∷ cs) =
+abbrev pub decimal_number : List ℕ → Option ℤ
+decimal_number [] = None
+decimal_number (c ∷ cs) =
     if c == 45
     then option_map (λ n. neg_ℤ (pos n)) (digits_number cs)
     else option_map pos (digits_number (c ∷ cs))

@@ -1,7 +1,7 @@
 //! The number that decimal digits write.
 ghost use Rattle.std.specs.Prelude.{◌≡◌, ◌+◌, ◌*◌, ◌-◌, ◌<◌, ◌^◌, Some, None, IfSome, if◌then◌else◌};
 ghost use Rattle.std.specs.Char.{is_ascii_digit, digit_value};
-ghost use Rattle.lq_value.specs.Number.{digits_number, number_of};
+ghost use Rattle.lq_value.specs.Number.{digits_number, decimal_number};
 
 /// The most digits that a number has.
 const MAX_DIGITS: usize = 20;
@@ -10,7 +10,7 @@ const MAX_DIGITS: usize = 20;
 ///
 /// `None` where they write no number. It takes no memory. The form is our own.
 pub fn number_of_bytes(bytes: &[u8]) -> Option<i128>
-    ensures { result ≡ number_of bytes.now }
+    ensures { result ≡ decimal_number bytes.now }
 {
     match bytes.split_first() {
         Some((b'-', digits)) => Some(-(digits_of_bytes(digits)? as i128)),

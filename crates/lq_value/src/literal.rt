@@ -1,7 +1,7 @@
 //! Literals, and the comparison of an attribute with one.
 ghost use Rattle.std.specs.Prelude.{◌≡◌, IfOk, IsTrue};
 ghost use Rattle.lq_value.specs.Refusal.{FailsOnlyForMemory};
-ghost use Rattle.lq_value.specs.Held.{held_of};
+ghost use Rattle.lq_value.specs.PlainValue.{plain_value_of};
 ghost use Rattle.lq_value.specs.Compare.{compares, compares_number, compares_text, literal_number, suits};
 
 use crate::op::Op;
@@ -68,7 +68,7 @@ impl Literal {
 #[inline(always)]
 pub fn compare(view: View<'_>, op: Op, literal: &Literal) -> bool
     requires { IsTrue (suits literal.now op) }
-    ensures { result ≡ compares (held_of view.entry) op literal.now }
+    ensures { result ≡ compares (plain_value_of view.entry) op literal.now }
 {
     match view {
         View::Text(text) => compare_text(text, op, literal),

@@ -49,14 +49,14 @@ impl fmt::Debug for Name {
 
 impl Model for Name {
     ghost use Rattle.std.specs.Prelude.{ℕ, List, IsTrue};
-    ghost use Rattle.lq_value.specs.Kept.{name_bytes};
+    ghost use Rattle.lq_value.specs.Kept.{name_text_bytes};
     ghost use Rattle.lq_value.specs.Name.{is_name};
 
     ghost Value = { List ℕ };
 
-    ghost view = { λ name. name_bytes name.text };
+    ghost view = { λ name. name_text_bytes name.text };
 
-    ghost invariant = { λ name. IsTrue (is_name (name_bytes name.text)) };
+    ghost invariant = { λ name. IsTrue (is_name (name_text_bytes name.text)) };
 }
 
 impl Name {

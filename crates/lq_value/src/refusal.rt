@@ -73,7 +73,7 @@ pub enum Refusal {
 }
 
 impl Refusal {
-    ghost use Rattle.lq_value.specs.Refusal.{code_of, name_of};
+    ghost use Rattle.lq_value.specs.Refusal.{code_of, refusal_name};
 
     /// The refusal's number, which is the same for every offset of a `BadQuery`.
     pub fn code(self) -> u64
@@ -112,7 +112,7 @@ impl Refusal {
 
     /// The refusal's name, without an offset.
     pub fn name(self) -> &'static str
-        ensures { result.now ≡ name_of self }
+        ensures { result.now ≡ refusal_name self }
     {
         match self {
             Refusal::BadName => "BadName",

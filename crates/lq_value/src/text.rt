@@ -2,7 +2,7 @@
 ghost use Rattle.std.specs.Prelude.{◌≡◌, IfOk, length};
 ghost use Rattle.std.specs.Str.{bytes_eq};
 ghost use Rattle.lq_value.specs.Refusal.{FailsOnlyForMemory};
-ghost use Rattle.lq_value.specs.Number.{number_of};
+ghost use Rattle.lq_value.specs.Number.{decimal_number};
 
 use crate::digits::number_of_bytes;
 use crate::refusal::Refusal;
@@ -29,13 +29,13 @@ impl fmt::Debug for Text {
 impl Model for Text {
     ghost use Rattle.std.specs.Prelude.{◌≡◌, ℕ, List};
     ghost use Rattle.std.specs.String.{string_bytes};
-    ghost use Rattle.lq_value.specs.Number.{number_of};
+    ghost use Rattle.lq_value.specs.Number.{decimal_number};
 
     ghost Value = { List ℕ };
 
     ghost view = { λ text. string_bytes text.text };
 
-    ghost invariant = { λ text. text.number ≡ number_of (string_bytes text.text) };
+    ghost invariant = { λ text. text.number ≡ decimal_number (string_bytes text.text) };
 }
 
 impl Text {
@@ -78,7 +78,7 @@ impl Text {
     /// The whole number that the text writes, if it writes one: an optional `-` and 1 to 20 decimal
     /// digits. It takes no memory.
     pub fn number(&self) -> Option<i128>
-        ensures { result ≡ number_of self.now }
+        ensures { result ≡ decimal_number self.now }
     {
         self.number
     }

@@ -1,7 +1,7 @@
 //! The typed value of an attribute.
 ghost use Rattle.std.specs.Prelude.{◌≡◌, IfOk};
 ghost use Rattle.lq_value.specs.Refusal.{FailsOnlyForMemory, IsRefusedBy};
-ghost use Rattle.lq_value.specs.Held.{held_in, held_of};
+ghost use Rattle.lq_value.specs.PlainValue.{held_in, plain_value_of};
 ghost use Rattle.lq_value.specs.Value.{text_refusal, shown_by};
 
 use crate::refusal::Refusal;
@@ -43,7 +43,7 @@ impl Value {
     /// The value as a borrowed view of the same type. It takes no memory.
     pub fn view(&self) -> View<'_>
         ensures shown { shown_by result ≡ self.now }
-        ensures held { held_of result ≡ held_in self.now }
+        ensures held { plain_value_of result ≡ held_in self.now }
     {
         match self {
             Value::Text(text) => View::Text(text.as_str()),

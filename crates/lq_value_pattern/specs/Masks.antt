@@ -6,7 +6,7 @@ use Rattle.lq_value_pattern.specs.declared.element.Element.{Element}
 use Rattle.lq_value_pattern.specs.declared.element.Element.TheVariants.{Star}
 use Rattle.lq_value_pattern.specs.declared.element.Item.{Item}
 use Rattle.lq_value_pattern.specs.declared.element.Item.TheVariants.{One}
-use Rattle.lq_value_pattern.specs.declared.masks.Entered.{Entered}
+use Rattle.lq_value_pattern.specs.declared.match_masks.Entered.{Entered}
 use Rattle.lq_value_pattern.specs.Element.{takes}
 use Rattle.lq_value_pattern.specs.Seek.{kept, take_front}
 

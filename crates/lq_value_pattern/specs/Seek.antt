@@ -4,8 +4,8 @@ use Rattle.std.specs.Prelude.{◌≡◌, ◌<◌, ◌≤◌, ◌+◌, ℕ, List,
 use Rattle.lq_value_pattern.specs.declared.element.Element.{Element}
 use Rattle.lq_value_pattern.specs.declared.element.Element.TheVariants as element
 use Rattle.lq_value_pattern.specs.declared.element.Item.{Item}
-use Rattle.lq_value_pattern.specs.declared.run.Light.{Light}
-use Rattle.lq_value_pattern.specs.declared.run.Light.TheVariants.{Any, Plain, OneItem}
+use Rattle.lq_value_pattern.specs.declared.element_runs.Light.{Light}
+use Rattle.lq_value_pattern.specs.declared.element_runs.Light.TheVariants.{Any, Plain, OneItem}
 use Rattle.lq_value_pattern.specs.Element.{has, set_has, takes}
 use Rattle.lq_value_pattern.specs.Matching.{AreSingle, IsAtStar}
 

@@ -8,24 +8,24 @@
 //! and `matching`.
 #![tactic(auto)]
 
-mod bits;
+mod build_masks;
 mod copying;
 mod element;
+mod element_chars;
+mod element_runs;
 mod error;
 mod first;
 mod laws;
 mod long;
-mod masks;
+mod match_masks;
 mod matching;
 mod piece;
 mod plain;
-mod run;
-mod seek;
 mod set;
 mod sign;
 mod source;
 mod starred;
-mod taking;
+mod window_search;
 
 pub use copying::copy_elements;
 pub use element::{Element, Item, Items};

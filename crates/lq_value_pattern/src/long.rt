@@ -7,7 +7,7 @@ ghost use Rattle.lq_value_pattern.specs.Seek.{is_large, IsPiece};
 
 use crate::element::Element;
 use crate::first::first_char;
-use crate::seek::{find_place, from_place};
+use crate::window_search::{find_place, from_place};
 
 // From how many bytes on a text is matched at many places at once.
 const LONG_TEXT: usize = 128;

@@ -5,9 +5,9 @@ ghost use Rattle.lq_value_pattern.specs.Matching.{Finds, IsAtStar, IsTaken, Pass
 ghost use Rattle.lq_value_pattern.specs.Pattern.{fits, is_end, some_rest};
 
 use crate::element::Element;
+use crate::element_chars::takes;
 use crate::first::first_char;
 use crate::long::fits_long;
-use crate::taking::takes;
 
 // What is left of a pattern and of a text.
 #[derive(Clone, Copy)]

@@ -8,7 +8,7 @@ use Rattle.lq_value.specs.Refusal.{first_refusal}
 use Rattle.lq_volume.specs.declared.change.Change.{Change}
 use Rattle.lq_volume.specs.declared.change.Change.TheVariants.{Create, Remove, Move, Write, SetAttr, RemoveAttr}
 use Rattle.lq_volume.specs.State.{State, Record, Rises, IsNumbered}
-use Rattle.lq_volume.specs.Change.{refused, refusals, changed, altered, without}
+use Rattle.lq_volume.specs.Change.{refused, refusals, with_records, altered, without}
 use Rattle.lq_volume_entries.specs.Laws.{RecordsAreKept}
 use Rattle.lq_volume.proofs.RecordLemmas.{Entries, All-push, All-weaker, All-filter, All-without, All-kept}
 
@@ -88,7 +88,7 @@ IsNumbered-filter laws s test n more = record {
 pub IsNumbered-altered : RecordsAreKept → (s : State) (other : Option ℕ) (node : ℕ)
     (f : Record → Record)
     → IsNumbered s → s.number < s.limit
-    → IsNumbered (changed s (altered node f (without other s.records)))
+    → IsNumbered (with_records s (altered node f (without other s.records)))
 IsNumbered-altered laws s other node f n more = record {
   limit = n.limit;
   number = omega arith;

@@ -14,7 +14,7 @@ use Rattle.lq_volume_entries.specs.Attributes.{Attributes, HasOwnNames, with_att
 use Rattle.lq_volume_entries.specs.AttributeLaws.{NamesStayApart}
 use Rattle.lq_volume_entries.specs.Kind.{is_folder}
 use Rattle.lq_volume.specs.State.{State, Record, root, record_at, kind_at, is_folder_at, dir_of, reaches, node_in, has_entries, IsTree, IsVolume}
-use Rattle.lq_volume.specs.Change.{refused, refusals, after, node_of, record_left, at_place, written, set_attr, remove_attr, with_attrs, changed, altered, without, other_at, other_than, is_other}
+use Rattle.lq_volume.specs.Change.{refused, refusals, after, node_of, record_left, at_place, rewritten, set_attr, remove_attr, with_attrs, with_records, altered, without, other_at, other_than, is_other}
 use Rattle.lq_volume_entries.specs.PlaceIndex.{CanMove}
 use Rattle.lq_volume.specs.Laws.{ChangesKeepTrees, UntouchedStay, ClobberedGo}
 use Rattle.lq_volume_entries.specs.Laws.{RecordsAreKept}
@@ -214,20 +214,20 @@ keeps-write laws s node size time v h =
     let file = rows.1.1.0 in
     let differs : eqb node root ≡ false = rows.1.0 in
     record {
-      numbered = IsNumbered-altered laws s None node (written size time) v.numbered
+      numbered = IsNumbered-altered laws s None node (rewritten size time) v.numbered
           (accepted_number s (Write node size time) h);
-      tree = IsTree-kept laws s s.limit (s.number + 1) s.next node (written size time) v.tree
+      tree = IsTree-kept laws s s.limit (s.number + 1) s.next node (rewritten size time) v.tree
           (λ r. refl) (λ r. refl) (λ r. refl)
           (λ r is folder. absurd (let clash : is_folder_at s node ≡ true =
           grind (arith, nat_tests) in let no : ⊥ = cc in no));
-      named = All-kept (λ e. HasOwnNames e.1.attrs) node (written size time) s.records
+      named = All-kept (λ e. HasOwnNames e.1.attrs) node (rewritten size time) s.records
           (λ e h. h) v.named;
     }
 
 -- attributes are no part of a tree
 pub keeps-attrs : RecordsAreKept → (s : State) (node : ℕ) (f : Record → Attributes)
     → ((r : Record) → HasOwnNames r.attrs → HasOwnNames (f r)) → IsVolume s → s.number < s.limit
-    → IsVolume (changed s (altered node (λ r. with_attrs (f r) r) s.records))
+    → IsVolume (with_records s (altered node (λ r. with_attrs (f r) r) s.records))
 keeps-attrs laws s node f own v more = record {
   numbered = IsNumbered-altered laws s None node (λ r. with_attrs (f r) r) v.numbered more;
   tree = IsTree-kept laws s s.limit (s.number + 1) s.next node (λ r. with_attrs (f r) r) v.tree
@@ -324,7 +324,7 @@ untouched-all laws s (Move node dir name clobber) n v h off =
     (off-option (other_at s node dir name) n off.1) in
     let differs = off.0 in grind (arith, nat_tests)
 untouched-all laws s (Write node size time) n v h off =
-    let l = laws.found.altered s.records node (written size time) n in
+    let l = laws.found.altered s.records node (rewritten size time) n in
     let differs = off.0 in
     grind (arith, nat_tests)
 untouched-all laws s (SetAttr node attr value) n v h off =
@@ -355,7 +355,7 @@ record-left laws s (Move node dir name clobber) v =
     let j = ap (option_map (at_place dir name)) k in
     grind (arith, nat_tests)
 record-left laws s (Write node size time) v =
-    let l = laws.found.altered s.records node (written size time) node in
+    let l = laws.found.altered s.records node (rewritten size time) node in
     grind (arith, nat_tests)
 record-left laws s (SetAttr node attr value) v =
     let l = laws.found.altered s.records node (set_attr attr value) node in

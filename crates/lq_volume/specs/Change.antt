@@ -10,7 +10,7 @@ use Rattle.lq_volume.specs.declared.change.Change.TheVariants.{Create, Remove, M
 use Rattle.lq_value.specs.declared.value.Value.{Value}
 use Rattle.lq_volume_entries.specs.Attributes.{value_of, is_reserved}
 use Rattle.lq_volume_entries.specs.Kind.{is_folder}
-pub use Rattle.lq_volume_entries.specs.Edits.{other_than, without, altered_at, altered, at_place, written, with_attrs, set_attr, remove_attr}
+pub use Rattle.lq_volume_entries.specs.Edits.{other_than, without, altered_at, altered, at_place, rewritten, with_attrs, set_attr, remove_attr}
 use Rattle.lq_volume.specs.State.{State, Record, root, record_at, kind_at, is_folder_at, has_entries, is_taken, node_in, reaches}
 
 -- whether the node is there and isn't a folder
@@ -125,8 +125,8 @@ abbrev pub IsLawful : State → Change → Type 0
 IsLawful s c = refused s c ≡ None
 
 -- the state with one more change counted, and these records
-abbrev pub changed : State → List (ℕ × Record) → State
-changed s records =
+abbrev pub with_records : State → List (ℕ × Record) → State
+with_records s records =
     record { limit = s.limit; number = s.number + 1; next = s.next; records = records }
 
 -- the state after a change that is not refused
@@ -143,12 +143,12 @@ after s (Create dir name kind size time) =
           )
           ∷ [];
     }
-after s (Remove node) = changed s (filter (λ e. not (e.0 == node)) s.records)
+after s (Remove node) = with_records s (filter (λ e. not (e.0 == node)) s.records)
 after s (Move node dir name clobber) =
-    changed s (altered node (at_place dir name) (without (other_at s node dir name) s.records))
-after s (Write node size time) = changed s (altered node (written size time) s.records)
-after s (SetAttr node attr value) = changed s (altered node (set_attr attr value) s.records)
-after s (RemoveAttr node attr) = changed s (altered node (remove_attr attr) s.records)
+    with_records s (altered node (at_place dir name) (without (other_at s node dir name) s.records))
+after s (Write node size time) = with_records s (altered node (rewritten size time) s.records)
+after s (SetAttr node attr value) = with_records s (altered node (set_attr attr value) s.records)
+after s (RemoveAttr node attr) = with_records s (altered node (remove_attr attr) s.records)
 
 -- the node that a change creates or names
 abbrev pub node_of : State → Change → ℕ
@@ -178,6 +178,6 @@ record_left s (Create dir name kind size time) =
     Some (record { dir = dir; name = name; kind = kind; size = size; time = time; attrs = [] })
 record_left s (Remove node) = None
 record_left s (Move node dir name clobber) = option_map (at_place dir name) (record_at s node)
-record_left s (Write node size time) = option_map (written size time) (record_at s node)
+record_left s (Write node size time) = option_map (rewritten size time) (record_at s node)
 record_left s (SetAttr node attr value) = option_map (set_attr attr value) (record_at s node)
 record_left s (RemoveAttr node attr) = option_map (remove_attr attr) (record_at s node)

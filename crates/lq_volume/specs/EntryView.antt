@@ -6,7 +6,7 @@ use Rattle.std.specs.Str.{bytes_eq}
 use Rattle.lq_value.specs.declared.kind.Kind.TheVariants.{File}
 use Rattle.lq_volume.specs.declared.change.Change.{Change}
 use Rattle.lq_volume.specs.declared.change.Change.TheVariants.{Create, Remove, Move, Write, SetAttr, RemoveAttr}
-use Rattle.lq_volume.specs.Change.{at_place, written, set_attr, remove_attr}
+use Rattle.lq_volume.specs.Change.{at_place, rewritten, set_attr, remove_attr}
 use Rattle.lq_volume.specs.State.{Record}
 
 -- a record as a change to it leaves it; what a creation leaves is in the change alone
@@ -15,7 +15,7 @@ changed_record (Create dir name kind size time) r =
     record { dir = dir; name = name; kind = kind; size = size; time = time; attrs = [] }
 changed_record (Remove node) r = r
 changed_record (Move node dir name clobber) r = at_place dir name r
-changed_record (Write node size time) r = written size time r
+changed_record (Write node size time) r = rewritten size time r
 changed_record (SetAttr node attr value) r = set_attr attr value r
 changed_record (RemoveAttr node attr) r = remove_attr attr r
 

@@ -3,7 +3,7 @@ use Rattle.std.specs.Prelude.{◌≡◌, ℕ, ◌+◌, Option, Some, IfSome}
 use Rattle.std.specs.Option.{option_copied, option_map}
 use Rattle.lq_volume.specs.declared.change.Applied.{Applied}
 use Rattle.lq_volume.specs.declared.change.Change.{Change}
-use Rattle.lq_volume.specs.declared.planned.Found.{Found}
+use Rattle.lq_volume.specs.declared.planned.LookedUp.{LookedUp}
 use Rattle.lq_volume.specs.State.{State, Record, record_at, IsVolume}
 use Rattle.lq_volume.specs.Change.{node_of, record_left, clobbered, IsLawful}
 
@@ -13,7 +13,7 @@ pub record Plan : Type 0 where
   pub change : Change
 
 -- the change is lawful, and each look-up of its check gave what the definitions say
-pub record IsFound (s : State) (c : Change) (found : Found) : Type 0 where
+pub record IsLookedUp (s : State) (c : Change) (found : LookedUp) : Type 0 where
   pub volume : IsVolume s
   pub lawful : IsLawful s c
   -- the record of the change's own node

@@ -9,9 +9,9 @@ ghost use Rattle.lq_volume_entries.specs.Kind.{is_folder};
 ghost use Rattle.lq_volume.specs.State.{root, record_at, kind_at, is_folder_at, has_entries, reaches, IsVolume};
 ghost use Rattle.lq_volume.specs.Change.{create_refusals, refused, other_at};
 ghost use Rattle.lq_volume.specs.Lookup.{children_refusals};
-ghost use Rattle.lq_volume.specs.Plan.{IsFound};
+ghost use Rattle.lq_volume.specs.Plan.{IsLookedUp};
 
-use crate::planned::Found;
+use crate::planned::LookedUp;
 use crate::volume::{ROOT, Volume};
 use lq_value::{AttrName, Kind, Name, Refusal, Value};
 use lq_volume_entries::{StoredRecord, records_are_kept};
@@ -72,12 +72,12 @@ pub fn check_move<'a>(
     dir: u64,
     name: &Name,
     clobber: bool,
-) -> Result<Found<'a>, Refusal>
+) -> Result<LookedUp<'a>, Refusal>
     requires { IsVolume volume.now }
     ensures ok { OnOk result (refused volume.now (Move moved dir name.now clobber) ≡ None) }
     ensures err { IfErr result (λ e.
         refused volume.now (Move moved dir name.now clobber) ≡ Some e) }
-    ensures found { IfOk result (IsFound volume.now (Move moved dir name.now clobber)) }
+    ensures found { IfOk result (IsLookedUp volume.now (Move moved dir name.now clobber)) }
 {
     let record = entry_at(volume, moved)?;
     check_folder(volume, dir)?;
@@ -99,7 +99,7 @@ pub fn check_move<'a>(
     if volume.is_full() {
         return Err(Refusal::Exhausted);
     }
-    Ok(Found {
+    Ok(LookedUp {
         stored: Some(record),
         other,
     })

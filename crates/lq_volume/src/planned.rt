@@ -3,7 +3,7 @@ ghost use Rattle.std.specs.Prelude.{◌≡◌, ◌+◌, Some, None, IfErr, IfOk,
 ghost use Rattle.std.specs.Option.{option_copied, option_map};
 ghost use Rattle.lq_volume.specs.State.{record_at, IsVolume};
 ghost use Rattle.lq_volume.specs.Change.{after, clobbered, node_of, record_left, refused, IsLawful};
-ghost use Rattle.lq_volume.specs.Plan.{IsFound};
+ghost use Rattle.lq_volume.specs.Plan.{IsLookedUp};
 
 use crate::change::{Applied, Change};
 use crate::checks::{
@@ -124,17 +124,17 @@ impl<'a> Planned<'a> {
 // What a check of a change finds: the record of the change's own node, and the other node at the
 // place of a move, with its record.
 #[derive(Drop)]
-pub struct Found<'a> {
+pub struct LookedUp<'a> {
     pub stored: Option<&'a StoredRecord>,
     pub other: Option<(u64, &'a StoredRecord)>,
 }
 
 // Checks a change, and gives what that finds.
 #[inline(always)]
-fn found_by<'a>(volume: &'a Volume, change: &'a Change) -> Result<Found<'a>, Refusal>
+fn found_by<'a>(volume: &'a Volume, change: &'a Change) -> Result<LookedUp<'a>, Refusal>
     ensures ok { OnOk result (refused volume.now change.now ≡ None) }
     ensures err { IfErr result (λ e. refused volume.now change.now ≡ Some e) }
-    ensures found { IfOk result (IsFound volume.now change.now) }
+    ensures found { IfOk result (IsLookedUp volume.now change.now) }
 {
     // For its clause `volume`.
     let _ = volume.changes();
@@ -161,7 +161,7 @@ fn found_by<'a>(volume: &'a Volume, change: &'a Change) -> Result<Found<'a>, Ref
         Change::SetAttr { node, attr, value } => Some(check_set_attr(volume, *node, attr, value)?),
         Change::RemoveAttr { node, attr } => Some(check_remove_attr(volume, *node, attr)?),
     };
-    Ok(Found {
+    Ok(LookedUp {
         stored,
         other: None,
     })

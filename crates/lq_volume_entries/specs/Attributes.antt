@@ -4,7 +4,7 @@ use Rattle.std.specs.List.{AllByRecursion}
 use Rattle.std.specs.Map.{lookup}
 use Rattle.std.specs.Str.{bytes_eq}
 use Rattle.indexmap.specs.IndexMap.{insert_entry}
-use Rattle.lq_value.specs.Held.{Held, Words, Number}
+use Rattle.lq_value.specs.PlainValue.{PlainValue, Words, Number}
 use Rattle.lq_value.specs.declared.value.Value.{Value}
 use Rattle.lq_value.specs.declared.value.Value.TheVariants as value
 
@@ -36,9 +36,9 @@ is_reserved attr =
     || bytes_eq attr (codes "last_modified")
 
 -- what a value holds
-abbrev pub held : Value → Held
-held (value.Text text) = Words text
-held (value.Int32 number) = Number number
-held (value.Int64 number) = Number number
-held (value.UInt32 number) = Number (pos number)
-held (value.UInt64 number) = Number (pos number)
+abbrev pub plain_value : Value → PlainValue
+plain_value (value.Text text) = Words text
+plain_value (value.Int32 number) = Number number
+plain_value (value.Int64 number) = Number number
+plain_value (value.UInt32 number) = Number (pos number)
+plain_value (value.UInt64 number) = Number (pos number)

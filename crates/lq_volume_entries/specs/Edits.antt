@@ -28,8 +28,8 @@ at_place dir name r =
     record { dir = dir; name = name; kind = r.kind; size = r.size; time = r.time; attrs = r.attrs }
 
 -- a record with another size and time
-abbrev pub written : ℕ → ℤ → Record → Record
-written size time r =
+abbrev pub rewritten : ℕ → ℤ → Record → Record
+rewritten size time r =
     record { dir = r.dir; name = r.name; kind = r.kind; size = size; time = time; attrs = r.attrs }
 
 -- a record with other attributes

@@ -4,8 +4,8 @@ use Rattle.std.specs.Int.{w64, from_le_bytes}
 use Rattle.lq_volume_entries.specs.declared.node_hash.NodeHasher.{NodeHasher}
 
 -- the number whose eight bytes these are, the lowest first
-abbrev pub number_of : List ℕ → ℕ
-number_of bytes = if length bytes == 8 then from_le_bytes w64 bytes else 0
+abbrev pub hashed_number : List ℕ → ℕ
+hashed_number bytes = if length bytes == 8 then from_le_bytes w64 bytes else 0
 
 -- a number that differs for most nodes: for 64 k to 64 k + 63 one of sixteen numbers in a row, in
 -- which four nodes differ by two bits far above
@@ -15,4 +15,4 @@ node_hash node = bit_xor
 
 -- the hasher after it was given a node's bytes
 abbrev pub hashed : NodeHasher → List ℕ → NodeHasher
-hashed hasher bytes = record { hash = node_hash (number_of bytes) }
+hashed hasher bytes = record { hash = node_hash (hashed_number bytes) }

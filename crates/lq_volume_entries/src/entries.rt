@@ -51,7 +51,7 @@ impl Model for Entries {
 impl Entries {
     ghost use Rattle.lq_volume_entries.specs.Record.{climbs, dir_of, node_in, root, Rises, entry_of};
     ghost use Rattle.lq_volume_entries.specs.Folder.{AreChildren, CanClimb, Leads};
-    ghost use Rattle.lq_volume_entries.specs.Edits.{without, altered, at_place, written, set_attr, remove_attr};
+    ghost use Rattle.lq_volume_entries.specs.Edits.{without, altered, at_place, rewritten, set_attr, remove_attr};
     ghost use Rattle.lq_volume_entries.specs.PlaceIndex.{IsApart, CanMove};
 
     /// No entries.
@@ -187,7 +187,7 @@ impl Entries {
     /// Sets a node's size and time.
     pub fn write(&mut self, node: u64, size: u64, time: i64)
         requires { size < 2 ^ 63 }
-        ensures { self.new ≡ altered node (written size time) self.old }
+        ensures { self.new ≡ altered node (rewritten size time) self.old }
     {
         self.records.write(node, size, time);
     }

@@ -1,6 +1,6 @@
 //! The hash of a node, by which the map of records finds it.
 ghost use Rattle.std.specs.Prelude.{◌≡◌};
-ghost use Rattle.lq_volume_entries.specs.NodeHash.{hashed, node_hash, number_of};
+ghost use Rattle.lq_volume_entries.specs.NodeHash.{hashed, node_hash, hashed_number};
 
 use std::hash::{BuildHasherDefault, Hasher};
 
@@ -58,7 +58,7 @@ fn hash_of(node: u64) -> u64
 
 // The number whose eight bytes these are, the lowest first.
 fn number_of(bytes: &[u8]) -> u64
-    ensures { result ≡ number_of bytes.now }
+    ensures { result ≡ hashed_number bytes.now }
 {
     if bytes.len() != 8 {
         return 0;

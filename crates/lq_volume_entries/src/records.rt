@@ -41,7 +41,7 @@ impl Records {
     ghost use Rattle.lq_volume_entries.specs.Record.{Rises, climbs, dir_of, root};
     ghost use Rattle.lq_volume_entries.specs.Folder.{Leads, CanClimb, HasNodesIn, entries_in, entry_in, with_entry};
     ghost use Rattle.lq_volume_entries.specs.PlaceIndex.{is_named};
-    ghost use Rattle.lq_volume_entries.specs.Edits.{without, altered, at_place, written, set_attr, remove_attr};
+    ghost use Rattle.lq_volume_entries.specs.Edits.{without, altered, at_place, rewritten, set_attr, remove_attr};
 
     /// No records. It takes no memory.
     pub fn new(alloc: Global) -> Records
@@ -231,7 +231,7 @@ impl Records {
     /// Sets a node's size and time.
     pub fn write(&mut self, node: u64, size: u64, time: i64)
         requires { size < 2 ^ 63 }
-        ensures { self.new ≡ altered node (written size time) self.old }
+        ensures { self.new ≡ altered node (rewritten size time) self.old }
     {
         if let Some(record) = self.stored.get_mut(&node) {
             record.write(size, time);

@@ -54,7 +54,7 @@ impl Model for StoredRecord {
 impl StoredRecord {
     ghost use Rattle.lq_volume_entries.specs.Kind.{is_folder};
     ghost use Rattle.lq_volume_entries.specs.Record.{Record, entry_of};
-    ghost use Rattle.lq_volume_entries.specs.Edits.{at_place, written, set_attr, remove_attr};
+    ghost use Rattle.lq_volume_entries.specs.Edits.{at_place, rewritten, set_attr, remove_attr};
 
     /// A record without attributes.
     pub fn new(
@@ -165,7 +165,7 @@ impl StoredRecord {
     /// Sets the entry's size and time.
     pub fn write(&mut self, size: u64, time: i64)
         requires { size < 2 ^ 63 }
-        ensures { self.new ≡ written size time self.old }
+        ensures { self.new ≡ rewritten size time self.old }
     {
         self.size = size;
         self.time = time;

@@ -17,7 +17,7 @@ impl Engine {
         match event {
             Event::Change(_) => {
                 self.slots.notice_all(number);
-                let reply = self.carry_out(event);
+                let reply = self.answer_event(event);
                 self.slots.fill_all();
                 reply
             }
@@ -27,7 +27,7 @@ impl Engine {
             | Event::Put(_)
             | Event::HangUp(_)
             | Event::Notice(_)
-            | Event::Finish(_) => self.carry_out(event),
+            | Event::Finish(_) => self.answer_event(event),
         }
     }
 

@@ -1,6 +1,6 @@
 use Rattle.std.proofs.Common.{ap, sym}
-use Rattle.lq_embed.specs.State.{holds}
-use Rattle.lq_c.specs.declared.served.Served.{Served}
+use Rattle.lq_embed.specs.SessionState.{holds}
+use Rattle.lq_c.specs.declared.handle_target.Served.{Served}
 use Rattle.lq_c.proofs.LineLemmas.{line-answered}
 use Rattle.lq_c.proofs.handles.lqp_answer.Goals as goal
 

@@ -4,7 +4,7 @@ use Rattle.std.specs.Int.{bit_at}
 use Rattle.std.specs.Str.{bytes_eq}
 use Rattle.std.proofs.lemmas.Slice.Eq.{bytes_eq-Decides}
 use Rattle.std.proofs.lemmas.List.{at_drop_more}
-use Rattle.lq_desk_sub.specs.Passing.{ending_of, is_among}
+use Rattle.lq_desk_sub.specs.Passing.{ending_of, is_name_among}
 use Rattle.lq_desk_sub.proofs.live_query.endings_of.Goals as goal
 
 pub loop-name-preserved : goal.loop-name-preserved
@@ -13,19 +13,19 @@ loop-name-preserved c name among = elim (c.loop-name.invariant name among) [
   | inr rest ↦ by (bytes_eq name c.name-item.result) refl (sym (here name) ∙ rest)
 ]
   where
-    here : (name : _) → is_among (drop c.loop-name.name-index c.args.names.now) name
+    here : (name : _) → is_name_among (drop c.loop-name.name-index c.args.names.now) name
         ≡ (bytes_eq name c.name-item.result
-        || is_among (drop (c.loop-name.name-index + 1) c.args.names.now) name)
+        || is_name_among (drop (c.loop-name.name-index + 1) c.args.names.now) name)
     here name =
-        at_drop_more (λ xs. is_among xs name) c.args.names.now c.loop-name.name-index
+        at_drop_more (λ xs. is_name_among xs name) c.args.names.now c.loop-name.name-index
         c.name-item.result c.loop-name-test.true
-        ∙ ap (λ x. is_among (x ∷ drop (c.loop-name.name-index + 1) c.args.names.now) name)
+        ∙ ap (λ x. is_name_among (x ∷ drop (c.loop-name.name-index + 1) c.args.names.now) name)
         (sym c.name-item.is)
 
     by : (b : Bool) → bytes_eq name c.name-item.result ≡ b
-        → (b || is_among (drop (c.loop-name.name-index + 1) c.args.names.now) name) ≡ true
+        → (b || is_name_among (drop (c.loop-name.name-index + 1) c.args.names.now) name) ≡ true
         → (bit_at c.with_bit-endings.result (ending_of name) ≡ 1)
-        ⊎ (is_among (drop (c.loop-name.name-index + 1) c.args.names.now) name ≡ true)
+        ⊎ (is_name_among (drop (c.loop-name.name-index + 1) c.args.names.now) name ≡ true)
     by true same more =
         let place = c.ending_of.ensures.value ∙ ap ending_of (c.as_str.ensures.value
         ∙ sym ((bytes_eq-Decides name c.name-item.result).0 same)) in

@@ -2,12 +2,12 @@
 use Rattle.std.proofs.Common.{◌≡◌, ℕ, [], ◌∷◌, refl, sym, ap, ◌∙◌, subst, arith}
 use Rattle.std.specs.Prelude.{IfOk}
 use Rattle.lq_volume.specs.Book.{Book, Extends}
-use Rattle.lq_board.specs.declared.views.Author.{Author}
+use Rattle.lq_board.specs.declared.token_views.Author.{Author}
 use Rattle.lq_board.specs.Author.{IsWhole, leader, with_roll}
 use Rattle.lq_board.specs.Token.{SeatToken}
 use Rattle.lq_server_slots.specs.declared.identity.Identity.{Identity}
 use Rattle.lq_model.specs.declared.model.Followed.{Followed}
-use Rattle.lq_model.specs.Followed.{GoesOut, IsFollowed}
+use Rattle.lq_model.specs.Followed.{HasHungUp, IsFollowed}
 use Rattle.lq_model.proofs.FollowLemmas.{Meets, extends_length, none_counted, followed}
 use Rattle.lq_model.proofs.MadeLemmas.{made_all, made_ok}
 use Rattle.lq_model.proofs.model.follow.Goals as goal
@@ -42,7 +42,7 @@ returns-clause-followed g c =
     let begun = c.in_ok-reader.reader in
     let on = c.books_extend_on.ensures in
     let out = subst
-    (λ o. IfOk o (GoesOut begun)) c.in_ok-reader-2.was c.join_over-reader.ensures.first.0 in
+    (λ o. IfOk o (HasHungUp begun)) c.in_ok-reader-2.was c.join_over-reader.ensures.first.0 in
     let m = c.meet-2.ensures in
     let met = subst (λ (s : SeatToken Identity). Meets s c.meet-2.new.one) c.seat-2.ensures.now
     (record { seat = m.one; later = m.first }) in

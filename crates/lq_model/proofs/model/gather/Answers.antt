@@ -1,9 +1,9 @@
 -- The one seat's changes are all changes, so it knew all of them when one was refused.
 use Rattle.std.proofs.Common.{◌≡◌, ◌≤◌, ℕ, List, length, sym, ap, ◌∙◌, arith}
 use Rattle.lq_volume.specs.Book.{Book}
-use Rattle.lq_board.specs.declared.views.Author.{Author}
+use Rattle.lq_board.specs.declared.token_views.Author.{Author}
 use Rattle.lq_board.specs.Author.{with_roll}
-use Rattle.lq_board.specs.Roll.{without, numbers}
+use Rattle.lq_board.specs.Roll.{without_number, numbers}
 use Rattle.lq_board.specs.Token.{SeatToken}
 use Rattle.lq_server_slots.specs.declared.identity.Identity.{Identity}
 use Rattle.lq_model.proofs.FollowLemmas.{alone, extends_length}
@@ -22,8 +22,8 @@ returns g c =
     let now =
     ap author c.latest.ensures.same ∙ ap author d.head
     ∙ ap (λ (n : ℕ). with_roll c.meet.new.two.author
-    (without n c.meet.new.two.author.enlisted) gathered) number
-    ∙ ap (λ (a : Author). with_roll a (without k a.enlisted) gathered) lead in
+    (without_number n c.meet.new.two.author.enlisted) gathered) number
+    ∙ ap (λ (a : Author). with_roll a (without_number k a.enlisted) gathered) lead in
     let whole : gathered ≡ numbers c.latest.result =
     sym (ap (λ (a : Author). a.gathered) (ap author c.latest.ensures.same ∙ ap author d.head))
     ∙ c.latest.ensures.whole (ap (λ (a : Author). a.leads) now)

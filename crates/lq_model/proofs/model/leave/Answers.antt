@@ -1,9 +1,9 @@
 -- The leading seat has gathered what the one enlisted seat made, and no other is enlisted.
 use Rattle.std.proofs.Common.{ℕ, List, sym, ap, ◌∙◌, subst}
 use Rattle.lq_volume.specs.Book.{Book}
-use Rattle.lq_board.specs.declared.views.Author.{Author}
+use Rattle.lq_board.specs.declared.token_views.Author.{Author}
 use Rattle.lq_board.specs.Author.{with_roll}
-use Rattle.lq_board.specs.Roll.{without}
+use Rattle.lq_board.specs.Roll.{without_number}
 use Rattle.lq_board.specs.Token.{SeatToken}
 use Rattle.lq_server_slots.specs.declared.identity.Identity.{Identity}
 use Rattle.lq_server.specs.Retired.{IsRetired}
@@ -26,7 +26,7 @@ returns-clause-all g c =
     let gathered : List ℕ = c.dismiss.new.head.author.gathered in
     let now =
     ap (λ (s : SeatToken Identity). s.author) d.head
-    ∙ ap (λ (a : Author). with_roll a (without k a.enlisted) gathered) lead in
+    ∙ ap (λ (a : Author). with_roll a (without_number k a.enlisted) gathered) lead in
     let whole =
     c.retire-retired.ensures.whole (ap (λ (a : Author). a.leads) now)
     (ap (λ (a : Author). a.enlisted) now ∙ alone k) in

@@ -1,7 +1,7 @@
 use Rattle.std.proofs.Common.{◌≡◌, ◌++◌, map, drop, false}
 use Rattle.serde_json.specs.View.{items_of}
 use Rattle.serde_json.specs.Written.{items_text}
-use Rattle.lq_script_desk.specs.Front.{Extends}
+use Rattle.lq_script_desk.specs.Front.{AppendsTo}
 use Rattle.lq_script_desk.specs.Reply.{entry_data}
 use Rattle.lq_script_desk.proofs.reply.put_entries.Given as goal
 
@@ -11,5 +11,5 @@ invariant-loop-entry l = record {
   whole : l.out.items
       ++ items_text l.later (items_of (map entry_data (drop l.entry-index l.entries)))
       ≡ l.fn.out.items ++ (l.before ++ items_text false (items_of (map entry_data l.entries)));
-  front : Extends l.out.items l.fn.out.items;
+  front : AppendsTo l.out.items l.fn.out.items;
 }

@@ -1,7 +1,7 @@
 use Rattle.std.proofs.Common.{codes, decimal}
 use Rattle.std.proofs.lemmas.Result.{on_ok_weaker}
 use Rattle.json.specs.Print.{escape_byte, quoted}
-use Rattle.lq_value.specs.Refusal.{code_of, name_of}
+use Rattle.lq_value.specs.Refusal.{code_of, refusal_name}
 use Rattle.lq_script_desk.proofs.FrontLemmas.{extends_on}
 use Rattle.lq_script_desk.proofs.PieceLemmas.{piece}
 use Rattle.lq_script_desk.proofs.reply.put_refusal.Goals as goal
@@ -15,7 +15,7 @@ returns-in_ok-put_unsigned-in-Some-clause-ok c =
     on_ok_weaker c.put_bytes-in-Some.result
     (λ last. rw (← c.in-Some.ensures)
     (piece c.args.out.now.items (codes "{\"code\":") (decimal (code_of e)) _ code
-    (piece c.put_unsigned.new.out.items (codes ",\"error\":") (quoted (name_of e)) _ name
+    (piece c.put_unsigned.new.out.items (codes ",\"error\":") (quoted (refusal_name e)) _ name
     (piece c.put_text.new.out.items (codes ",\"place\":")
     (decimal c.in-Some.place) _ c.in_ok-put_unsigned-in-Some.ensures.ok last))))
     c.put_bytes-in-Some.ensures.ok

@@ -1,6 +1,6 @@
 use Rattle.std.proofs.Common.{◌≡◌, List, [], ◌∷◌, sym, ap, ◌∙◌, subst, arith, rules}
 use Rattle.lq_volume.specs.Book.{Book, grown}
-use Rattle.lq_board.specs.declared.views.KnownSlot.{KnownSlot}
+use Rattle.lq_board.specs.declared.token_views.KnownSlot.{KnownSlot}
 use Rattle.lq_board.specs.Token.{KeeperToken}
 use Rattle.lq_server_slots.specs.declared.identity.Identity.{Identity}
 use Rattle.lq_server_slots.specs.Slots.{SlotsAre, IsNoticed}

@@ -6,7 +6,7 @@ use Rattle.lq_board.specs.Book.{IsFullBook}
 use Rattle.lq_board.specs.Token.{KeeperToken}
 use Rattle.lq_server_slots.specs.declared.identity.Identity.{Identity}
 use Rattle.lq_server_slots.specs.Changing.{IsChangeMade}
-use Rattle.lq_server_slots.specs.Slots.{SlotsStand, AllReady}
+use Rattle.lq_server_slots.specs.Slots.{AreConsistent, AllReady}
 use Rattle.lq_server_slots.proofs.SlotLemmas.{before_is, grown_is}
 use Rattle.lq_server_slots.proofs.change.change_in.Goals as goal
 
@@ -26,7 +26,7 @@ commit_all-requires-clause-ready g c =
 pub commit_all-requires-clause-holding : goal.commit_all-requires-clause-holding
 commit_all-requires-clause-holding g c =
     let a = c.in-Ok.ensures in
-    subst (λ (b : Book). SlotsStand c.add.new.slots b) (sym (before_is
+    subst (λ (b : Book). AreConsistent c.add.new.slots b) (sym (before_is
     c.args.slots.now.keeper.book c.add.new.slots.keeper.book c.args.change.now a.made.ok)) a.holding
 
 pub serve_all-requires-clause-number : goal.serve_all-requires-clause-number
@@ -37,7 +37,7 @@ serve_all-requires-clause-number g c =
 pub serve_all-requires-clause-holding : goal.serve_all-requires-clause-holding
 serve_all-requires-clause-holding g c =
     let a = c.in-Err.ensures in
-    subst (λ (b : Book). SlotsStand c.add.new.slots b) (sym a.made.err) a.holding
+    subst (λ (b : Book). AreConsistent c.add.new.slots b) (sym a.made.err) a.holding
 
 pub returns-in-Ok-clause-made : goal.returns-in-Ok-clause-made
 returns-in-Ok-clause-made g c =

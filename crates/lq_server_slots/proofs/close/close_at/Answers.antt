@@ -3,7 +3,7 @@ use Rattle.lq_board.specs.Slot.{slot_at}
 use Rattle.lq_board.specs.Token.{SeatToken}
 use Rattle.lq_server_slots.specs.declared.identity.Identity.{Identity}
 use Rattle.lq_server_slots.specs.declared.identity.FirstClose.TheVariants.{Never}
-use Rattle.lq_server_slots.specs.Slots.{IsTaken, SlotStands}
+use Rattle.lq_server_slots.specs.Slots.{IsTakenSlot, SlotStands}
 use Rattle.lq_server_slots.specs.Opening.{name_or}
 use Rattle.lq_server_slots.proofs.SyncLemmas.{only_then, seat_then, close_then}
 use Rattle.lq_server_slots.proofs.close.close_at.Goals as goal
@@ -21,7 +21,7 @@ returns-then-close_slot-clause-only c =
 pub returns-then-close_slot-clause-fits : goal.returns-then-close_slot-clause-fits
 returns-then-close_slot-clause-fits c =
     let f = c.close_slot.new in
-    subst (λ (k : ℕ). IsTaken f.slot (slot_at f.keeper.slots k) f.keeper.book)
+    subst (λ (k : ℕ). IsTakenSlot f.slot (slot_at f.keeper.slots k) f.keeper.book)
     (ap (λ (s : SeatToken Identity). s.slot) c.meet_same-number.ensures.seat)
     c.close_slot.ensures.taken
 
@@ -61,7 +61,7 @@ returns-else-close_slot-clause-only c =
 pub returns-else-close_slot-clause-fits : goal.returns-else-close_slot-clause-fits
 returns-else-close_slot-clause-fits c =
     let f = c.close_slot.new in
-    subst (λ (k : ℕ). IsTaken f.slot (slot_at f.keeper.slots k) f.keeper.book)
+    subst (λ (k : ℕ). IsTakenSlot f.slot (slot_at f.keeper.slots k) f.keeper.book)
     (ap (λ (s : SeatToken Identity). s.slot) c.meet_same-number.ensures.seat)
     c.close_slot.ensures.taken
 

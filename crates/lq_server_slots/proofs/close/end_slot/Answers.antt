@@ -1,10 +1,10 @@
 use Rattle.std.proofs.Common.{◌≡◌, false, true≢false, Option, Some, None, refl, sym, ap, ◌∙◌, subst}
 use Rattle.std.specs.Prelude.{IsSome, is_none}
 use Rattle.lq_board.specs.Slot.{slot_at}
-use Rattle.lq_board.specs.declared.views.KnownSlot.{KnownSlot}
+use Rattle.lq_board.specs.declared.token_views.KnownSlot.{KnownSlot}
 use Rattle.lq_update.specs.declared.mark.Mark.{Mark}
 use Rattle.lq_server_slots.specs.declared.identity.Identity.{Identity}
-use Rattle.lq_server_slots.specs.Slots.{IsTaken}
+use Rattle.lq_server_slots.specs.Slots.{IsTakenSlot}
 use Rattle.lq_server_slots.proofs.SyncLemmas.{taken_closed}
 use Rattle.lq_server_slots.proofs.close.end_slot.Goals as goal
 
@@ -15,7 +15,7 @@ returns-clause-taken c =
     let keeper = c.args.keeper.now in
     let place = c.args.seat.now.slot in
     let t = c.requires.taken in
-    subst (IsTaken c.close-closed.new.slot (slot_at c.meet_under.new.keeper.slots place))
+    subst (IsTakenSlot c.close-closed.new.slot (slot_at c.meet_under.new.keeper.slots place))
     (sym m.book)
     (taken_closed c.args.slot.now c.close-closed.new.slot (slot_at keeper.slots place)
     (slot_at c.meet_under.new.keeper.slots place) _ keeper.book t

@@ -5,7 +5,7 @@ use Rattle.lq_value.specs.declared.refusal.Refusal.{Refusal}
 use Rattle.lq_value.specs.Refusal.{IsRefusedBy}
 use Rattle.lq_predicate.specs.Query.{Query}
 use Rattle.lq_server_slots.specs.declared.subscription.Subscription.{Subscription}
-use Rattle.lq_server_slots.specs.Slots.{is_full, slot_in}
+use Rattle.lq_server_slots.specs.Slots.{has_no_free, slot_in}
 use Rattle.lq_server_slots.specs.declared.open.Opened.{Opened}
 use Rattle.lq_server_slots.specs.Opening.{IsOpened}
 use Rattle.lq_server_slots.proofs.OpenLemmas.{begun_own, sizes_fit, opening_fits, openings_within}
@@ -41,10 +41,10 @@ returns-clause-answered c =
     let slots = c.args.slots.now in
     let asked = c.args.asked.now in
     let items = slots.subscriptions.items in
-    let free = c.in-Some.ensures.full ∙ ap is_full c.deref.ensures.value in
+    let free = c.in-Some.ensures.full ∙ ap has_no_free c.deref.ensures.value in
     let less = subst (λ (n : ℕ). slots.openings < n) c.limit.ensures c.if-limit-slots.false in
     record {
-      table = subst (IsRefusedBy c.settle.result) (sym (opening_fits (is_full items)
+      table = subst (IsRefusedBy c.settle.result) (sym (opening_fits (has_no_free items)
           slots.openings c.args.volume.now.limit asked.port asked.backlog c.if-asked-eq0.false
           c.if-asked-gt-MAX_PLACES.false c.if-asked-gt-MAX_BACKLOG.false free less))
           c.settle.ensures.refused;

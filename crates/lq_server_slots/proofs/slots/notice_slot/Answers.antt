@@ -3,7 +3,7 @@ use Rattle.std.proofs.lemmas.Bool.{lt-ltb, ltb-true}
 use Rattle.lq_board.specs.Slot.{slot_at}
 use Rattle.lq_board.specs.Token.{KeeperToken}
 use Rattle.lq_server_slots.specs.declared.identity.Identity.{Identity}
-use Rattle.lq_server_slots.specs.Slots.{IsTaken}
+use Rattle.lq_server_slots.specs.Slots.{IsTakenSlot}
 use Rattle.lq_server_slots.proofs.SlotLemmas.{taken_noticed, counted_here}
 use Rattle.lq_server_slots.proofs.CommitLemmas.{noticed_then}
 use Rattle.lq_server_slots.proofs.slots.notice_slot.Goals as goal
@@ -16,7 +16,7 @@ returns-clause-taken c =
     let n = c.notice.ensures in
     let t = c.requires.taken in
     let within = subst (λ (n : ℕ). place < n) (sym c.requires.place.2) c.requires.place.1 in
-    subst (IsTaken c.notice.new.slot (slot_at c.asks-asks.new.keeper.slots place))
+    subst (IsTakenSlot c.notice.new.slot (slot_at c.asks-asks.new.keeper.slots place))
     (sym (ap (λ (k : KeeperToken Identity). k.book) a.keeper))
     (taken_noticed c.args.slot.now c.notice.new.slot (slot_at was.slots place)
     (slot_at c.asks-asks.new.keeper.slots place) c.asks-asks.result _ was.book t

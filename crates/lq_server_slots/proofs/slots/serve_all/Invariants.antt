@@ -1,6 +1,6 @@
 use Rattle.std.proofs.Common.{◌≡◌, ℕ, ◌<◌, length}
 use Rattle.lq_board.specs.Slot.{slot_at}
-use Rattle.lq_server_slots.specs.Slots.{SlotsStand, SlotIs, IsServed, slot_in, place_at}
+use Rattle.lq_server_slots.specs.Slots.{AreConsistent, SlotIs, IsServed, slot_in, taken_slot}
 use Rattle.lq_server_slots.proofs.slots.serve_all.Given as goal
 
 abbrev pub invariant-loop-index : goal.invariant-loop-index
@@ -9,7 +9,7 @@ invariant-loop-index g l =
     × (l.slots.keeper.book ≡ l.fn.slots.keeper.book)
     × (l.slots.openings ≡ l.fn.slots.openings)
     × (length l.slots.taken.items ≡ l.index-end)
-    × SlotsStand l.slots l.slots.keeper.book
+    × AreConsistent l.slots l.slots.keeper.book
     × ((j : ℕ) → j < l.index → j < length l.slots.taken.items
-    → SlotIs IsServed (slot_in l.slots.subscriptions.items (place_at l.slots.taken.items j))
-    (slot_at l.slots.keeper.slots (place_at l.slots.taken.items j)))
+    → SlotIs IsServed (slot_in l.slots.subscriptions.items (taken_slot l.slots.taken.items j))
+    (slot_at l.slots.keeper.slots (taken_slot l.slots.taken.items j)))

@@ -1,7 +1,7 @@
 use Rattle.std.proofs.Common.{◌≡◌, ◌∙◌, ◌+◌, ◌<◌, ◌≤◌, ℕ, arith, length, Option, Some, sym, ap, subst}
 use Rattle.std.specs.Prelude.{IsSome}
 use Rattle.lq_volume.specs.Book.{Book, Extends}
-use Rattle.lq_board.specs.declared.views.KnownSlot.{KnownSlot}
+use Rattle.lq_board.specs.declared.token_views.KnownSlot.{KnownSlot}
 use Rattle.lq_board.specs.Slot.{slot_at}
 use Rattle.lq_board.specs.Token.{SeatToken}
 use Rattle.lq_update.specs.declared.mark.Mark.{Mark}
@@ -9,8 +9,8 @@ use Rattle.lq_server_slots.specs.declared.identity.Identity.{Identity}
 use Rattle.lq_server_slots.specs.declared.subscription.Subscription.{Subscription}
 use Rattle.lq_server_slots.specs.Marking.{hung_mark}
 use Rattle.lq_server_slots.specs.Identity.{identity_of}
-use Rattle.lq_server_slots.specs.Standing.{StandsAt}
-use Rattle.lq_server_slots.specs.Slots.{IsTaken, SlotStands, asks_of}
+use Rattle.lq_server_slots.specs.Standing.{IsConsistentAt}
+use Rattle.lq_server_slots.specs.Slots.{IsTakenSlot, SlotStands, asks_of}
 use Rattle.lq_server_slots.proofs.SlotLemmas.{identity_alike, identity_others}
 use Rattle.lq_server_slots.proofs.SyncLemmas.{only_trans, only_then, same_port, taken_shown}
 use Rattle.lq_server_slots.proofs.sync.sync_at.Goals as goal
@@ -42,9 +42,9 @@ returns-clause-fits g c =
     let u = c.meet_under in
     let t = c.show-progress.new.slot in
     let k = c.meet_same-number.new.seat.slot in
-    subst (λ (k : ℕ). IsTaken t (slot_at u.new.keeper.slots k) u.new.keeper.book)
+    subst (λ (k : ℕ). IsTakenSlot t (slot_at u.new.keeper.slots k) u.new.keeper.book)
     (ap (λ (s : SeatToken Identity). s.slot) c.meet_same-number.ensures.seat)
-    (subst (IsTaken t (slot_at u.new.keeper.slots k)) (sym u.ensures.book)
+    (subst (IsTakenSlot t (slot_at u.new.keeper.slots k)) (sym u.ensures.book)
     (taken_shown n.new.slot t (slot_at n.new.keeper.slots k) (slot_at u.new.keeper.slots k)
     c.meet_same-number.new.seat.asks n.new.keeper.book c.args.reading.now
     c.show-progress.new.reading c.show-progress.result n.ensures.taken c.show-progress.ensures
@@ -87,7 +87,7 @@ returns-clause-progress g c =
     let le = c.meet_under.ensures.asks in (
       m,
       record {
-        stands = subst (StandsAt m) (sym book) b.stands;
+        stands = subst (IsConsistentAt m) (sym book) b.stands;
         drained = shown.drained;
         port = b.port;
         floor = b.floor;

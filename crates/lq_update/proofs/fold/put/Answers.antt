@@ -1,5 +1,5 @@
 use Rattle.std.proofs.Common.{◌∙◌}
-use Rattle.lq_update.specs.Fold.{entry_in}
+use Rattle.lq_update.specs.Fold.{message_entry}
 use Rattle.lq_update.specs.Place.{IsGapFor}
 use Rattle.lq_update.proofs.PlaceLemmas.{insert-gap, rises-insert}
 use Rattle.lq_update.proofs.fold.put.Goals as goal
@@ -9,11 +9,11 @@ returns-clause-ok c =
     let gap : IsGapFor c.args.entries.now.items c.args.message.now.node c.in-Err.place =
     rw (← c.deref.ensures.value) c.in-Err.ensures.absent in
     c.in_ok-insert.ensures.items
-    ∙ rw c.in_ok-entry.ensures.value (insert-gap (entry_in c.args.message.now) _ _ gap)
+    ∙ rw c.in_ok-entry.ensures.value (insert-gap (message_entry c.args.message.now) _ _ gap)
 
 pub returns-clause-rise : goal.returns-clause-rise
 returns-clause-rise c =
     let gap : IsGapFor c.args.entries.now.items c.args.message.now.node c.in-Err.place =
     rw (← c.deref.ensures.value) c.in-Err.ensures.absent in
     rw (c.in_ok-insert.ensures.items, c.in_ok-entry.ensures.value)
-    (rises-insert (entry_in c.args.message.now) _ _ c.requires gap)
+    (rises-insert (message_entry c.args.message.now) _ _ c.requires gap)

@@ -1,5 +1,5 @@
 use Rattle.std.proofs.Common.{refl}
-use Rattle.lq_update.specs.Fold.{entry_in, old_entry}
+use Rattle.lq_update.specs.Fold.{message_entry, old_entry}
 use Rattle.lq_update.specs.Place.{IsTripleAt}
 use Rattle.lq_update.proofs.PlaceLemmas.{set-triple, rises-set}
 use Rattle.lq_update.proofs.fold.replace.Goals as goal
@@ -7,15 +7,15 @@ use Rattle.lq_update.proofs.fold.replace.Goals as goal
 pub returns-clause-ok : goal.returns-clause-ok
 returns-clause-ok c =
     let at : IsTripleAt c.args.entries.now.items
-    (old_entry c.args.dir c.args.name.now (entry_in c.args.message.now)) c.in-Some.place =
+    (old_entry c.args.dir c.args.name.now (message_entry c.args.message.now)) c.in-Some.place =
     rw (← c.deref.ensures.value) c.in-Some.ensures.found in
     rw c.in_ok-entry.ensures.value
-    (set-triple _ _ (entry_in c.args.message.now) _ c.requires at refl)
+    (set-triple _ _ (message_entry c.args.message.now) _ c.requires at refl)
 
 pub returns-clause-rise : goal.returns-clause-rise
 returns-clause-rise c =
     let at : IsTripleAt c.args.entries.now.items
-    (old_entry c.args.dir c.args.name.now (entry_in c.args.message.now)) c.in-Some.place =
+    (old_entry c.args.dir c.args.name.now (message_entry c.args.message.now)) c.in-Some.place =
     rw (← c.deref.ensures.value) c.in-Some.ensures.found in
     rw c.in_ok-entry.ensures.value
-    (rises-set _ _ (entry_in c.args.message.now) _ c.requires at refl)
+    (rises-set _ _ (message_entry c.args.message.now) _ c.requires at refl)

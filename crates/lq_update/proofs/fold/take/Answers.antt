@@ -1,17 +1,19 @@
 use Rattle.std.proofs.Common.{◌∙◌}
-use Rattle.lq_update.specs.Fold.{entry_in}
+use Rattle.lq_update.specs.Fold.{message_entry}
 use Rattle.lq_update.specs.Place.{IsTripleAt}
 use Rattle.lq_update.proofs.PlaceLemmas.{remove-triple, rises-remove}
 use Rattle.lq_update.proofs.fold.take.Goals as goal
 
 pub returns-clause-ok : goal.returns-clause-ok
 returns-clause-ok c =
-    let at : IsTripleAt c.args.entries.now.items (entry_in c.args.message.now) c.in-Some.place =
+    let at : IsTripleAt c.args.entries.now.items (message_entry c.args.message.now)
+    c.in-Some.place =
     rw (← c.deref.ensures.value) c.in-Some.ensures.found in
     c.remove.ensures.items ∙ remove-triple _ _ _ c.requires at
 
 pub returns-clause-rise : goal.returns-clause-rise
 returns-clause-rise c =
-    let at : IsTripleAt c.args.entries.now.items (entry_in c.args.message.now) c.in-Some.place =
+    let at : IsTripleAt c.args.entries.now.items (message_entry c.args.message.now)
+    c.in-Some.place =
     rw (← c.deref.ensures.value) c.in-Some.ensures.found in
     rw c.remove.ensures.items (rises-remove _ _ _ c.requires at)

@@ -1,7 +1,7 @@
 -- A new seat has a number.
 use Rattle.std.proofs.Common.{ℕ, refl, sym, ap, subst, arith}
 use Rattle.atomic_table.specs.Table.{Me}
-use Rattle.lq_board.specs.declared.views.TokenView.{TokenView}
+use Rattle.lq_board.specs.declared.token_views.TokenView.{TokenView}
 use Rattle.lq_board.specs.View.{IsNamed, sitting_of}
 use Rattle.lq_board.proofs.TokenLemmas.{is_sitting}
 use Rattle.lq_board.proofs.board.Board.slot_seat.Goals as goal

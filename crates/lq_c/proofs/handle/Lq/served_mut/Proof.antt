@@ -37,7 +37,7 @@ use Rattle.std_alloc.proofs.VecSteps.Shapes.{after}
 use Rattle.std_alloc.proofs.BoxSteps.Form.{D, B, τ, word, handle}
 use Rattle.std_alloc.proofs.BoxSteps.Steps.{box_out, box_in}
 use Rattle.lq_c.proofs.AsBox.{E}
-use Rattle.lq_c.specs.contracts.served.Served as Served
+use Rattle.lq_c.specs.contracts.handle_target.Served as Served
 use Rattle.lq_c.specs.contracts.handle.Lq as Lq
 use Rattle.lq_c.specs.Lent.{with_served}
 use Rattle.lq_c.specs.contracts.handle.Lq.served_mut as F

@@ -4,12 +4,12 @@ use Rattle.lq_desk.proofs.desk.Desk.event.Goals as goal
 pub invariant_of-self : goal.invariant_of-self
 invariant_of-self c = rw (c.step-self-inside.ensures, c.self.view_is)
     ((moves c.kept_shows_worlds.ensures c.refusals_leave_worlds.ensures _ _ _ _ _
-    c.carry_out-reply.ensures (rw c.self.view_is at c.self.invariant)).1)
+    c.answer_event-reply.ensures (rw c.self.view_is at c.self.invariant)).1)
 
 pub returns-clause-world : goal.returns-clause-world
 returns-clause-world c = rw (c.step-self-inside.ensures, c.self.view_is)
     ((moves c.kept_shows_worlds.ensures c.refusals_leave_worlds.ensures _ _ _ _ _
-    c.carry_out-reply.ensures (rw c.self.view_is at c.self.invariant)).0)
+    c.answer_event-reply.ensures (rw c.self.view_is at c.self.invariant)).0)
 
 pub returns-clause-refused : goal.returns-clause-refused
 returns-clause-refused c = λ refusal is.

@@ -31,8 +31,8 @@ invariant_of-self-in-Close-1 c = IsKept-close _ _ c.in-Close.slot _ _ c.self.inv
 
 pub returns-in-Change : goal.returns-in-Change
 returns-in-Change c =
-    let step = c.carry_out-reply.ensures in
-    rw c.in-Change.is (change-turn c.args.self.now _ c.carry_out-reply.new.self _
+    let step = c.answer_event-reply.ensures in
+    rw c.in-Change.is (change-turn c.args.self.now _ c.answer_event-reply.new.self _
     c.in-Change.field-0 _ (noticed-view _ _ _ _ c.self.view_is c.changes-number.ensures.number
     c.notice_all.ensures) (rw c.in-Change.is at step)
     (filled-view _ _ _ c.self-in-Change.view_is c.fill_all.ensures))
@@ -50,9 +50,9 @@ returns-in-Close c = rw c.in-Close.is (close-step c.args.self.now _ c.in-Close.s
 pub returns-in-Open : goal.returns-in-Open
 returns-in-Open c =
     let k = c.args.self.now in
-    let l = c.carry_out.new.self in
+    let l = c.answer_event.new.self in
     let e = c.args.event.now in
-    let step = c.carry_out.ensures in
+    let step = c.answer_event.ensures in
     elim c.in-Open.is [
       | inl o ↦ alone-like k l e (Open o.0 o.1 o.2 o.3) _ o.4 refl refl step
       | inr p ↦ elim p [

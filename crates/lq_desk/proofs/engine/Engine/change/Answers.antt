@@ -1,6 +1,6 @@
 use Rattle.std.proofs.Common.{ap}
 use Rattle.std.proofs.lemmas.Result.{err_from_is_err_and}
-use Rattle.lq_desk.specs.Kept.{Kept, changed}
+use Rattle.lq_desk.specs.DeskState.{DeskState, changed}
 use Rattle.lq_desk.proofs.Desks.{IsKept-change, few-desk}
 use Rattle.lq_desk.proofs.engine.Engine.change.Goals as goal
 
@@ -49,4 +49,4 @@ returns-clause-ok c =
       c.in_ok-planned.ensures.value,
       c.in_ok-applied.ensures.ok,
     )
-    (ap (λ (k : Kept). changed k c.args.change.now) c.self.view_is)
+    (ap (λ (k : DeskState). changed k c.args.change.now) c.self.view_is)

@@ -1,7 +1,7 @@
 use Rattle.std.proofs.Common.{refl, ◌≡◌, ◌+◌, Some, ap, ◌∙◌, sym, map, subst}
 use Rattle.std.specs.Prelude.{slice_set}
 use Rattle.lq_desk.specs.Slot.{KeptSlot, slot_of, fresh_slot}
-use Rattle.lq_desk.specs.Kept.{Kept, IsKept, first_free, opened}
+use Rattle.lq_desk.specs.DeskState.{DeskState, IsKept, first_free, opened}
 use Rattle.lq_desk.proofs.Desks.{IsKept-open, slots-opened}
 use Rattle.lq_desk.proofs.SlotsLemmas.{kept_slot}
 use Rattle.lq_desk.proofs.engine.Engine.open.Goals as goal
@@ -9,7 +9,7 @@ use Rattle.lq_desk.proofs.engine.Engine.open.Goals as goal
 pub invariant_of-self : goal.invariant_of-self
 invariant_of-self c =
     let xs = c.self.inside.slots in
-    let k : Kept = record {
+    let k : DeskState = record {
       volume = c.self.inside.volume;
       openings = c.self.inside.openings;
       slots = map kept_slot xs;
@@ -28,7 +28,7 @@ invariant_of-self c =
 pub returns-clause-ok : goal.returns-clause-ok
 returns-clause-ok c =
     let xs = c.self.inside.slots in
-    let k : Kept = record {
+    let k : DeskState = record {
       volume = c.self.inside.volume;
       openings = c.self.inside.openings;
       slots = map kept_slot xs;
@@ -41,5 +41,5 @@ returns-clause-ok c =
     slots-opened xs c.open.new.self
     (first_free k.slots) c.in_ok-slot.slot fresh c.open.ensures same refl in
     ap (λ ks. record { volume = k.volume; openings = k.openings + 1; slots = ks }) made
-    ∙ ap (λ (j : Kept). opened j (fresh_slot c.args.predicate.now c.args.moved j.volume.number
+    ∙ ap (λ (j : DeskState). opened j (fresh_slot c.args.predicate.now c.args.moved j.volume.number
     c.args.port c.args.backlog)) c.self.view_is

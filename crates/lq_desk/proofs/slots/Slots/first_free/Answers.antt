@@ -1,5 +1,5 @@
 use Rattle.std.proofs.Common.{ap, ◌∙◌, sym, map}
-use Rattle.lq_desk.specs.Kept.{first_free}
+use Rattle.lq_desk.specs.DeskState.{first_free}
 use Rattle.lq_desk.proofs.SlotsLemmas.{kept_slot}
 use Rattle.lq_desk.proofs.FreeLemmas.{first-free}
 use Rattle.lq_desk.proofs.slots.Slots.first_free.Goals as goal

@@ -1,7 +1,7 @@
 use Rattle.std.proofs.Common.{◌≡◌, ℕ, ◌-◌, ◌<◌, ◌≤◌, ◌^◌, ◌++◌, map, length, take, drop, get_or, Option}
 use Rattle.std.specs.Option.{option_map}
 use Rattle.lq_desk.specs.Slot.{PreparedSlot, noticed, slot_of}
-use Rattle.lq_desk.specs.Kept.{IsFew}
+use Rattle.lq_desk.specs.DeskState.{IsFew}
 use Rattle.lq_desk.proofs.slots.Slots.notice_all.Given as goal
 
 abbrev pub invariant-loop-slot : goal.invariant-loop-slot

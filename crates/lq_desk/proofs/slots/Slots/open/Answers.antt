@@ -2,7 +2,7 @@ use Rattle.std.proofs.Common.{◌≡◌, ◌<◌, ap, ◌∙◌, sym, subst, map
 use Rattle.std.specs.Prelude.{slice_set}
 use Rattle.std.proofs.lemmas.List.{length-map, map-append, map-set}
 use Rattle.lq_desk.specs.Slot.{PreparedSlot, slot_of, with_free}
-use Rattle.lq_desk.specs.Kept.{first_free}
+use Rattle.lq_desk.specs.DeskState.{first_free}
 use Rattle.lq_desk.proofs.SlotsLemmas.{kept_slot, first_free-front}
 use Rattle.lq_desk.proofs.FreeLemmas.{first-free, free-place, set-stored, set-pushed}
 use Rattle.lq_desk.specs.Words.{SetsBit}

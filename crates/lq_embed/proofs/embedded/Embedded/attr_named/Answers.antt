@@ -2,7 +2,7 @@ use Rattle.std.proofs.Common.{◌≡◌, ◌∙◌, List, ℕ, None, subst, refl
 use Rattle.std.specs.Prelude.{unwrap_or}
 use Rattle.lq_value.specs.declared.refusal.Refusal.TheVariants.{NoMemory, NotUtf8}
 use Rattle.lq_embed.specs.Attrs.{attr_out, attr_status, attr_with_name}
-use Rattle.lq_embed.specs.State.{holds, volume_in}
+use Rattle.lq_embed.specs.SessionState.{holds, volume_in}
 use Rattle.lq_embed.proofs.CallLemmas.{if-not_utf8}
 use Rattle.lq_embed.proofs.AttrLemmas.{name_fault, named-read, shows-as, shows-barred, shows-unread}
 use Rattle.lq_embed.proofs.embedded.Embedded.attr_named.Goals as goal

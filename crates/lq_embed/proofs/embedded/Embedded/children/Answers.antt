@@ -1,7 +1,7 @@
 use Rattle.std.proofs.Common.{refl, ap, List, rules}
 use Rattle.std.specs.Prelude.{Ok, Err}
 use Rattle.lq_value.specs.declared.entry.Entry.{Entry}
-use Rattle.lq_embed.specs.State.{holds, with_entries}
+use Rattle.lq_embed.specs.SessionState.{holds, with_entries}
 use Rattle.lq_embed.proofs.FolderLemmas.{lists-made}
 use Rattle.lq_embed.proofs.embedded.Embedded.children.Goals as goal
 

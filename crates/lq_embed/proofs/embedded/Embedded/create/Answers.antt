@@ -29,8 +29,8 @@ returns c =
     ∙ ap (λ (time : ℤ). question_for (asks_create c.args.dir c.in-Ok.name.now c.in-Some.kind
     c.args.size time)) (sym (to_z-of_z c.ranges.time))) (record {
       answer = _;
-      asks = c.carry_out-reply.ensures.asks;
+      asks = c.answer_request-reply.ensures.asks;
       code = c.applied.ensures.status;
       out = c.applied.ensures.out;
-      beside = c.carry_out-reply.ensures.beside;
+      beside = c.answer_request-reply.ensures.beside;
     })

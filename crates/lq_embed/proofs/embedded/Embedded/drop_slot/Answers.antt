@@ -1,5 +1,5 @@
 use Rattle.std.proofs.Common.{add-one}
-use Rattle.lq_embed.specs.State.{holds}
+use Rattle.lq_embed.specs.SessionState.{holds}
 use Rattle.lq_embed.proofs.embedded.Embedded.drop_slot.Goals as goal
 
 pub loop-preserved : goal.loop-preserved

@@ -1,5 +1,5 @@
 use Rattle.lq_embed.specs.Reads.{SkipsEach}
-use Rattle.lq_embed.specs.State.{holds}
+use Rattle.lq_embed.specs.SessionState.{holds}
 use Rattle.lq_embed.proofs.embedded.Embedded.drop_slot.Given as goal
 
 -- each read so far gave a message

@@ -1,7 +1,7 @@
 use Rattle.std.proofs.Common.{ap, refl}
 use Rattle.lq_predicate.specs.Stack.{only_part}
 use Rattle.lq_predicate.specs.Stacked.{Stacked}
-use Rattle.lq_embed.specs.State.{holds, with_pushed}
+use Rattle.lq_embed.specs.SessionState.{holds, with_pushed}
 use Rattle.lq_embed.proofs.CallLemmas.{fetches-made}
 use Rattle.lq_embed.proofs.PushedLemmas.{fetches-alone, fetches-none}
 use Rattle.lq_embed.proofs.embedded.Embedded.fetch_pushed.Goals as goal

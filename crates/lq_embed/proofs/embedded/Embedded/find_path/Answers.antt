@@ -1,8 +1,8 @@
 use Rattle.std.proofs.Common.{◌≡◌, ◌∙◌, ◌+◌, ℕ, ap, arith, refl, sym, subst, take, drop, inr, Some}
 use Rattle.lq_volume.specs.State.{node_in}
-use Rattle.lq_embed.specs.Calls.{Finds}
+use Rattle.lq_embed.specs.Calls.{FindsNode}
 use Rattle.lq_embed.specs.PathNames.{names_in, named_question}
-use Rattle.lq_embed.specs.State.{State, holds, volume_in}
+use Rattle.lq_embed.specs.SessionState.{SessionState, holds, volume_in}
 use Rattle.lq_embed.proofs.PathLemmas.{IsOnWay, found-node, way-next, way-past, way-split}
 use Rattle.lq_embed.proofs.embedded.Embedded.find_path.Goals.{then-size-gt0+else-found-ne0, else-size-gt0}
 use Rattle.lq_embed.proofs.embedded.Embedded.find_path.Goals as goal
@@ -22,7 +22,7 @@ returns-then-found-ne0 c =
       folder = c.loop-rest.at;
       leads = way.leads;
       found = found.new.node;
-      finds = subst (λ (s : State). Finds s (holds found.new.self)
+      finds = subst (λ (s : SessionState). FindsNode s (holds found.new.self)
           (named_question c.loop-rest.at (take size rest)) found.result 0 found.new.node)
           c.loop-rest.invariant.stays found.ensures;
       code = c.if-found-ne0.true;
@@ -48,7 +48,7 @@ loop-rest-preserved c =
         way = gone c.if-size-gt0.at (subst (λ at. IsOnWay es dir path after at) (sym w.at-is)
             (way-next size way c.count_name-size.ensures.value w.if-size-gt0.true
             c.count_name-size.ensures.bound
-            (subst (λ (s : State). node_in (volume_in s).records l.at name
+            (subst (λ (s : SessionState). node_in (volume_in s).records l.at name
             ≡ Some w.find_named-found.new.node) l.invariant.stays
             (found-node l.at name w.find_named-found.ensures w.if-found-ne0.false))));
       }

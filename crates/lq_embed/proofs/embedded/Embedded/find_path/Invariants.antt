@@ -1,5 +1,5 @@
 use Rattle.std.proofs.Common.{◌≡◌, length}
-use Rattle.lq_embed.specs.State.{holds, volume_in}
+use Rattle.lq_embed.specs.SessionState.{holds, volume_in}
 use Rattle.lq_embed.proofs.PathLemmas.{IsOnWay}
 use Rattle.lq_embed.proofs.embedded.Embedded.find_path.Given as goal
 

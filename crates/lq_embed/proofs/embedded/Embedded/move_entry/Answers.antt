@@ -15,8 +15,8 @@ returns c =
     ∙ ap (λ (name : List ℕ). question_for (asks_move c.args.node c.args.dir name
     c.args.clobber)) (sym text.0)) (record {
       answer = _;
-      asks = c.carry_out-reply.ensures.asks;
+      asks = c.answer_request-reply.ensures.asks;
       code = c.applied.ensures.status;
       out = c.applied.ensures.out;
-      beside = c.carry_out-reply.ensures.beside;
+      beside = c.answer_request-reply.ensures.beside;
     })

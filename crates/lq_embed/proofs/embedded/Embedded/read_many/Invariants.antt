@@ -1,5 +1,5 @@
 use Rattle.std.proofs.Common.{◌≡◌}
-use Rattle.lq_embed.specs.State.{holds}
+use Rattle.lq_embed.specs.SessionState.{holds}
 use Rattle.lq_embed.proofs.ReadLemmas.{AreRead}
 use Rattle.lq_embed.proofs.embedded.Embedded.read_many.Given as goal
 

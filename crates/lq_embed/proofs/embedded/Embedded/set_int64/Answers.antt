@@ -18,8 +18,8 @@ returns c =
     ∙ ap (λ (n : ℤ). question_for (asks_set c.args.node c.in-Ok.attr.now (given_number (Int64 n))))
     (sym (to_z-of_z c.ranges.value))) (record {
       answer = _;
-      asks = c.carry_out.ensures.asks;
+      asks = c.answer_request.ensures.asks;
       code = c.applied.ensures.status;
       out = c.applied.ensures.out;
-      beside = c.carry_out.ensures.beside;
+      beside = c.answer_request.ensures.beside;
     })

@@ -24,8 +24,8 @@ returns c =
     ∙ ap (λ (value : List ℕ). question_for (asks_set c.args.node c.in-Ok.attr.now
     (given_text value))) (sym text.0)) (record {
       answer = _;
-      asks = c.carry_out.ensures.asks;
+      asks = c.answer_request.ensures.asks;
       code = c.applied.ensures.status;
       out = c.applied.ensures.out;
-      beside = c.carry_out.ensures.beside;
+      beside = c.answer_request.ensures.beside;
     })

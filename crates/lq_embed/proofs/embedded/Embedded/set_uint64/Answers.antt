@@ -16,8 +16,8 @@ returns c =
     ∙ ap (λ (attr : List ℕ). question_for (asks_set c.args.node attr
     (given_number (UInt64 c.args.value)))) (sym text.0)) (record {
       answer = _;
-      asks = c.carry_out.ensures.asks;
+      asks = c.answer_request.ensures.asks;
       code = c.applied.ensures.status;
       out = c.applied.ensures.out;
-      beside = c.carry_out.ensures.beside;
+      beside = c.answer_request.ensures.beside;
     })

@@ -13,6 +13,6 @@ returns c =
     let text = c.in-Ok.ensures.cases in
     opens-as (if-utf8 c.args.formula.now _ _ text.1
     ∙ ap (λ (formula : List ℕ). question_for (asks_open formula c.args.port c.args.backlog
-    c.args.moved)) (sym text.0)) (opens-made (answer_of c.carry_out-reply.result)
-    c.carry_out-reply.ensures.asks c.carry_out-reply.ensures.beside
+    c.args.moved)) (sym text.0)) (opens-made (answer_of c.answer_request-reply.result)
+    c.answer_request-reply.ensures.asks c.answer_request-reply.ensures.beside
     c.opened.ensures.status c.opened.ensures.out c.opened.ensures.after)

@@ -14,8 +14,8 @@ returns c =
     changes-as (if-utf8 c.args.attr.now _ _ text.1
     ∙ ap (λ (attr : List ℕ). question_for (asks_unset c.args.node attr)) (sym text.0)) (record {
       answer = _;
-      asks = c.carry_out.ensures.asks;
+      asks = c.answer_request.ensures.asks;
       code = c.applied.ensures.status;
       out = c.applied.ensures.out;
-      beside = c.carry_out.ensures.beside;
+      beside = c.answer_request.ensures.beside;
     })

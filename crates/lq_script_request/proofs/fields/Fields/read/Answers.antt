@@ -8,8 +8,8 @@ use Rattle.serde_json.specs.Data.{Data, null, object}
 use Rattle.serde_json.specs.Find.{get}
 use Rattle.serde_json.specs.Read.{converted, of_json, read}
 use Rattle.lq_script_request.specs.declared.fields.Fields.{Fields}
-use Rattle.lq_script_request.specs.Fields.{Holds, Show, name_of}
-use Rattle.lq_script_request.specs.Shown.{data_in, shown}
+use Rattle.lq_script_request.specs.Fields.{Holds, Show, key_text}
+use Rattle.lq_script_request.specs.Shown.{data_in, json_outline}
 use Rattle.lq_script_request.proofs.ReadingLemmas.{converted-object, whole_refused, whole_read, whole_and_more}
 use Rattle.lq_script_request.proofs.WalkLemmas.{none-read, on-is_ok}
 use Rattle.lq_script_request.proofs.fields.Fields.read.Goals.{Joined-token, in-BeginObject, in_default-token, then-not-passed-via-then-not-passed, then-not-passed-via-else-not-passed+then-is_some}
@@ -46,7 +46,7 @@ walked c =
             shows.0,
             begins ∙ shows.1,
             λ key. ap data_in (c.requires key)
-                ∙ sym (ap (option_map shown) (none-read (name_of key) 127 c.in-Some.token ts
+                ∙ sym (ap (option_map json_outline) (none-read (key_text key) 127 c.in-Some.token ts
                 shows.0 w.field_from.new.reader w.in_default-token.not-BeginObject shows.1)),
           ))
           (λ _ none. begins ∙ none)
@@ -97,4 +97,4 @@ returns-clause-found c =
     let none : c.match-token.reader ≡ [] = grind arith in
     let all = ended (goal.at.returns-clause-found c).Joined-token c.if-not-passed.false none in
     λ key. all.2 key
-    ∙ ap (λ o. option_map shown (get (name_of key) (unwrap_or o null))) (sym all.1)
+    ∙ ap (λ o. option_map json_outline (get (key_text key) (unwrap_or o null))) (sym all.1)

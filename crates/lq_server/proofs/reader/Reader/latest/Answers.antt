@@ -2,7 +2,7 @@ use Rattle.std.proofs.Common.{sym, ap, ◌∙◌, subst}
 use Rattle.lq_board.specs.Token.{SeatToken}
 use Rattle.lq_server_slots.specs.declared.identity.Identity.{Identity}
 use Rattle.lq_server.specs.Hold.{ReaderHold}
-use Rattle.lq_server.specs.Lending.{with_seat}
+use Rattle.lq_server.specs.Lending.{reader_with_seat}
 use Rattle.lq_server.specs.Own.{IsOwn}
 use Rattle.lq_server.proofs.OwnLemmas.{hold, own_knows}
 use Rattle.lq_server.proofs.reader.Reader.latest.Goals as goal
@@ -22,4 +22,4 @@ returns-clause-seat g c =
 
 pub returns-clause-rest : goal.returns-clause-rest
 returns-clause-rest g c =
-    ap (λ (r : ReaderHold). with_seat r c.latest.new.seat) c.self.view_is
+    ap (λ (r : ReaderHold). reader_with_seat r c.latest.new.seat) c.self.view_is

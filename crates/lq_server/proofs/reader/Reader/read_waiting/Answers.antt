@@ -4,7 +4,7 @@ use mathlib.Core.List.{IsPrefix}
 use Rattle.lq_volume.specs.Book.{Book, Extends}
 use Rattle.lq_port.specs.End.{IsSamePort}
 use Rattle.lq_desk_sub.specs.declared.read.Read.TheVariants.{Ended}
-use Rattle.lq_server_slots.specs.Rule.{whole}
+use Rattle.lq_server_slots.specs.Rule.{all_updates}
 use Rattle.lq_server_slots.specs.Reading.{Gives, Fails, known, received, is_marked}
 use Rattle.lq_server.specs.Hold.{ReaderHold}
 use Rattle.lq_server.specs.Own.{IsOwn}
@@ -20,7 +20,7 @@ returns-then-is_ended g c = record {
   rest = refl;
   port = search rules;
   received = subst (λ (r : ReaderHold). IsPrefix (received r.reading)
-      (whole r.reading.port.floor (known r.reading))) c.self.view_is
+      (all_updates r.reading.port.floor (known r.reading))) c.self.view_is
       (received_front c.self.inside.reading c.update_facts.ensures);
   known = search rules;
   refused = search rules;

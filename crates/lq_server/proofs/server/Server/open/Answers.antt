@@ -1,6 +1,6 @@
 use Rattle.std.proofs.Common.{Option, Some, None, Ok, false, rules}
 use Rattle.std.specs.Prelude.{IfNone}
-use Rattle.lq_server_slots.specs.Opening.{opening_refusal}
+use Rattle.lq_server_slots.specs.Opening.{size_refusal}
 use Rattle.lq_server.proofs.OwnLemmas.{hold, new_reader, answered_over, stays_own}
 use Rattle.lq_server.proofs.server.Server.open.Goals as goal
 
@@ -17,7 +17,7 @@ returns-clause-opened g c =
 
 pub returns-clause-others : goal.returns-clause-others
 returns-clause-others g c =
-    where_none (opening_refusal c.args.port c.args.backlog) _ tt
+    where_none (size_refusal c.args.port c.args.backlog) _ tt
 
 pub returns-in_err-opened-clause-table : goal.returns-in_err-opened-clause-table
 returns-in_err-opened-clause-table g c =

@@ -4,7 +4,7 @@ use Rattle.std.specs.Prelude.{is_some}
 use Rattle.lq_server_slots.specs.Reading.{mark_read}
 use Rattle.lq_server.specs.Hold.{ReaderHold}
 use Rattle.lq_server.specs.Own.{IsOwn}
-use Rattle.lq_server.specs.Syncing.{IsSynced, bit, in_port}
+use Rattle.lq_server.specs.Syncing.{IsSynced, bit, is_mark_in_port}
 use Rattle.lq_server.specs.declared.server.Synced.{Synced}
 use Rattle.lq_server.proofs.SyncLemmas.{ahead_few, marks_few, w_is, synced}
 use Rattle.lq_server.proofs.server.Server.sync.Goals as goal
@@ -34,7 +34,7 @@ waiting-waiting-requires-clause-marks g c =
       seat = c.sync-progress.new.seat;
     } in
     let own : IsOwn old = subst IsOwn (sym c.reader.view_is) c.requires.own in
-    subst (λ (z : Bool × Bool × Bool × ℕ). bit (in_port z.0 z.1) ≤ z.3 + bit z.2)
+    subst (λ (z : Bool × Bool × Bool × ℕ). bit (is_mark_in_port z.0 z.1) ≤ z.3 + bit z.2)
     (λ i. (sym v.1.out i, sym c.is_ended.ensures i, sym c.has_hand.ensures i, sym v.1.waiting i))
     (marks_few v.0 old new c.sync-progress.result v.1 (refl, refl) c.update_facts.ensures own)
 
@@ -55,9 +55,11 @@ returns g c =
       held = c.sync-progress.result.held;
       mark = c.sync-progress.result.mark;
     } in
-    let waits : x.waiting + bit (in_port v.0.sub.held.mark_out (is_some (mark_read new.reading)))
+    let waits : x.waiting + bit (is_mark_in_port v.0.sub.held.mark_out
+    (is_some (mark_read new.reading)))
     ≡ length new.reading.port.ahead + bit (is_some new.reading.hand) =
-    subst (λ (z : Bool × Bool × Bool × ℕ). x.waiting + bit (in_port z.0 z.1) ≡ z.3 + bit z.2)
+    subst (λ (z : Bool × Bool × Bool × ℕ). x.waiting + bit (is_mark_in_port z.0 z.1)
+    ≡ z.3 + bit z.2)
     (λ i. (v.1.out i, c.is_ended.ensures i, c.has_hand.ensures i, v.1.waiting i))
     c.waiting-waiting.ensures in
     subst (λ (z : ReaderHold). IsSynced z new x) c.reader.view_is

@@ -5,7 +5,7 @@ use Rattle.lq_port.specs.End.{End}
 use Rattle.lq_server_slots.specs.declared.delivery.Delivery.{Delivery}
 use Rattle.lq_server_slots.specs.declared.delivery.Opening.{Opening}
 use Rattle.lq_server_slots.specs.LegalList.{known_by}
-use Rattle.lq_server_slots.specs.Reading.{ReadingHold, Reads, Gives, Fails, known, mark_read}
+use Rattle.lq_server_slots.specs.Reading.{ReadingHold, ReadsPort, Gives, Fails, known, mark_read}
 use Rattle.lq_desk_sub.specs.declared.read.Read.TheVariants.{Update, Fin}
 use Rattle.lq_server_slots.proofs.Books.{extends_self}
 use Rattle.lq_server_slots.proofs.PortLemmas.{none-of}
@@ -38,7 +38,7 @@ invariant_of-self-in-Update g c =
     let a = c.in-Some.ensures in
     let k = c.keep in
     let none = none-of i.hand (sym c.is_some.ensures ∙ c.if-is_some.false) in (
-      either k.result _ _ (Reads c.take_one.new.output k.new.rebuild k.new.hand i.ended)
+      either k.result _ _ (ReadsPort c.take_one.new.output k.new.rebuild k.new.hand i.ended)
           k.ensures.ok k.ensures.err
           (took i.output c.take_one.new.output c.in-Some.item a.port a.some a.follows
           i.rebuild i.hand i.ended none c.if-self.false c.self.invariant.0 c.in-Update.message
@@ -93,7 +93,8 @@ returns-in-Update-clause-received g c =
     let k = c.keep in
     let none = none-of i.hand (sym c.is_some.ensures ∙ c.if-is_some.false) in
     received_front c.take_one.new.output k.new.hand k.new.rebuild i.ended
-    (either k.result _ _ (Reads c.take_one.new.output k.new.rebuild k.new.hand i.ended) k.ensures.ok
+    (either k.result _ _ (ReadsPort c.take_one.new.output k.new.rebuild k.new.hand i.ended)
+    k.ensures.ok
     k.ensures.err
     (took i.output c.take_one.new.output c.in-Some.item a.port a.some a.follows i.rebuild
     i.hand i.ended none c.if-self.false c.self.invariant.0 c.in-Update.message c.in-Update.is

@@ -3,7 +3,7 @@ use Rattle.std.specs.Prelude.{IsSome}
 use Rattle.lq_volume.specs.Book.{Extends}
 use Rattle.lq_update.specs.declared.message.Message.{Message}
 use Rattle.lq_server_slots.specs.LegalList.{known_by}
-use Rattle.lq_server_slots.specs.Reading.{ReadingHold, Reads, Fails, known, mark_read}
+use Rattle.lq_server_slots.specs.Reading.{ReadingHold, ReadsPort, Fails, known, mark_read}
 use Rattle.lq_server_slots.proofs.Books.{extends_self}
 use Rattle.lq_server_slots.proofs.ReadLemmas.{hold, received_front, hand_fits, kept_hand, stays_hand, fails_hand, hand_first, on_err, either}
 use Rattle.lq_server_slots.proofs.reading.Reading.read_hand.Goals as goal
@@ -13,7 +13,7 @@ keep-requires-clause-fits c =
     let i = c.self.inside in
     let there : i.hand ≡ Some c.in-Some.message = cc in
     hand_fits c.rebuilds_take_all.ensures i.output i.rebuild c.in-Some.message i.ended
-    (subst (λ (z : Option Message). Reads i.output i.rebuild z i.ended) there
+    (subst (λ (z : Option Message). ReadsPort i.output i.rebuild z i.ended) there
     c.self.invariant.0)
 
 pub invariant_of-self : goal.invariant_of-self
@@ -21,9 +21,9 @@ invariant_of-self c =
     let i = c.self.inside in
     let k = c.keep in
     let there : i.hand ≡ Some c.in-Some.message = cc in
-    let r = subst (λ (z : Option Message). Reads i.output i.rebuild z i.ended) there
+    let r = subst (λ (z : Option Message). ReadsPort i.output i.rebuild z i.ended) there
     c.self.invariant.0 in (
-      either k.result _ _ (Reads i.output k.new.rebuild k.new.hand i.ended) k.ensures.ok
+      either k.result _ _ (ReadsPort i.output k.new.rebuild k.new.hand i.ended) k.ensures.ok
           k.ensures.err
           (kept_hand c.rebuilds_take_all.ensures i.output i.rebuild c.in-Some.message i.ended r
           k.new.rebuild k.new.hand)
@@ -37,10 +37,10 @@ returns-clause-received c =
     let i = c.self.inside in
     let k = c.keep in
     let there : i.hand ≡ Some c.in-Some.message = cc in
-    let r = subst (λ (z : Option Message). Reads i.output i.rebuild z i.ended) there
+    let r = subst (λ (z : Option Message). ReadsPort i.output i.rebuild z i.ended) there
     c.self.invariant.0 in
     received_front i.output k.new.hand k.new.rebuild i.ended
-    (either k.result _ _ (Reads i.output k.new.rebuild k.new.hand i.ended) k.ensures.ok
+    (either k.result _ _ (ReadsPort i.output k.new.rebuild k.new.hand i.ended) k.ensures.ok
     k.ensures.err
     (kept_hand c.rebuilds_take_all.ensures i.output i.rebuild c.in-Some.message i.ended r
     k.new.rebuild k.new.hand)
@@ -52,7 +52,7 @@ returns-clause-fails c =
     let i = c.self.inside in
     let k = c.keep in
     let there : i.hand ≡ Some c.in-Some.message = cc in
-    let r = subst (λ (z : Option Message). Reads i.output i.rebuild z i.ended) there
+    let r = subst (λ (z : Option Message). ReadsPort i.output i.rebuild z i.ended) there
     c.self.invariant.0 in
     on_err k.result _ _ k.ensures.err
     (λ f. subst (λ (z : ReadingHold). Fails z (hold i.output k.new.hand k.new.rebuild))

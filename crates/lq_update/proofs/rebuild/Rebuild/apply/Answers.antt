@@ -2,7 +2,7 @@ use Rattle.std.proofs.Common.{◌≡◌, ◌∙◌, sym, ap, rules, Err}
 use Rattle.std.specs.Prelude.{if◌then◌else◌, unwrap_or, Some, None}
 use Rattle.lq_value.specs.declared.refusal.Refusal.TheVariants.{Mismatch, NoMemory}
 use Rattle.lq_update.specs.Fold.{Folding, fits_in}
-use Rattle.lq_update.specs.Latest.{may_follow}
+use Rattle.lq_update.specs.FoldProgress.{may_follow}
 use Rattle.lq_update.proofs.FollowLemmas.{refusal-following}
 use Rattle.lq_update.proofs.rebuild.Rebuild.apply.Goals as goal
 

@@ -1,0 +1,179 @@
+//! Calls in which a seat meets the keeper, or another seat.
+ghost use Rattle.std.specs.Prelude.{◌≡◌, ◌≢◌, ◌+◌, ◌<◌, [], ◌∷◌, length, Some, true, false};
+ghost use Rattle.lq_volume.specs.Book.{grown, state_of, Extends};
+ghost use Rattle.lq_volume.specs.Change.{after, IsLawful};
+ghost use Rattle.lq_board.specs.Author.{AreDisjoint, with_seat, with_author, with_signs, with_roll};
+ghost use Rattle.lq_board.specs.Book.{IsFullBook};
+ghost use Rattle.lq_board.specs.Meeting.{HasAdded, HasMet};
+ghost use Rattle.lq_board.specs.Roll.{IsMerged, without_number};
+
+use crate::board::Board;
+use crate::tokens::{Keeper, Seat};
+use lq_volume::Change;
+use std::marker::Brand;
+
+impl<M> Board<M> {
+    /// Adds a lawful change to the book, and answers the number of changes that it then has.
+    ///
+    /// Its author is a new seat, which then makes no other; so no seat may lead. The state after
+    /// the new book is the state after the change. A lawful change has room: a volume takes at most
+    /// 1,000,000,000,000 changes. It takes no memory.
+    pub fn add(&self, keeper: &mut Keeper<M>, change: &Change) -> u64
+        requires board { keeper.old.board ≡ self.now }
+        requires free { keeper.old.register.free ≡ true }
+        requires lawful { IsLawful (state_of keeper.old.book) change.now }
+        ensures number { result ≡ length keeper.new.book.changes }
+        ensures full { IsFullBook keeper.new.book }
+        ensures state { state_of keeper.new.book ≡ after (state_of keeper.old.book) change.now }
+        ensures keeper { keeper.new ≡ record {
+          board = keeper.old.board;
+          book = grown keeper.old.book (change.now ∷ []);
+          slots = keeper.old.slots;
+          register = with_author (with_seat keeper.old.register) (keeper.old.register.seats + 1);
+        } }
+    {
+        let mut seat = self.seat(keeper);
+        let number = self.add_by(keeper, &mut seat, change);
+        self.join(keeper, seat);
+        number
+    }
+
+    /// As `add`, for a change whose author is this seat, which then knows the keeper's book.
+    ///
+    /// The seat has to be one that may make changes: any where no seat leads, else an enlisted one.
+    /// The number that it answers is then among the seat's own changes. The rest is as in `meet` or
+    /// `meet_slot`, and the seat keeps its name. It takes no memory.
+    pub fn add_by(&self, keeper: &mut Keeper<M>, seat: &mut Seat<M>, change: &Change) -> u64
+        requires board { (keeper.old.board ≡ self.now) × (seat.old.board ≡ self.now) }
+        requires signs { seat.old.author.signs ≡ true }
+        requires lawful { IsLawful (state_of keeper.old.book) change.now }
+        ensures number { result ≡ length keeper.new.book.changes }
+        ensures added { HasAdded change.now result keeper.old keeper.new seat.old seat.new }
+    {
+        let Some(token) = seat.token.take() else {
+            unreachable!()
+        };
+        let (number, again) = self.added::<Brand>(keeper, token, change);
+        seat.token = Some(again);
+        number
+    }
+
+    /// The number of changes in the keeper's book, which a seat of no slot then knows.
+    ///
+    /// It takes no memory.
+    pub fn meet(&self, keeper: &mut Keeper<M>, seat: &mut Seat<M>) -> u64
+        requires board { (keeper.old.board ≡ self.now) × (seat.old.board ≡ self.now) }
+        requires slot { seat.old.slot ≡ 0 }
+        ensures number { result ≡ length seat.new.book.changes }
+        ensures later { Extends seat.new.book seat.old.book }
+        ensures full { IsFullBook seat.new.book }
+        ensures seat { seat.new ≡ record seat.old { book = keeper.old.book } }
+        ensures keeper { keeper.new ≡ keeper.old }
+    {
+        let Some(token) = seat.token.take() else {
+            unreachable!()
+        };
+        let (number, again) = self.met::<Brand>(keeper, token);
+        seat.token = Some(again);
+        number
+    }
+
+    /// The number of changes in the keeper's book, which a slot's seat then knows.
+    ///
+    /// The keeper then knows how often the seat has asked, and both have the name that the caller
+    /// gives for contracts alone. The seat was out under the name that the keeper knew, and had
+    /// asked at least as often as the keeper knew. It takes no memory.
+    pub fn meet_slot(&self, keeper: &mut Keeper<M>, seat: &mut Seat<M>) -> u64
+        ghost name: { M }
+        requires board { (keeper.old.board ≡ self.now) × (seat.old.board ≡ self.now) }
+        requires slot { 0 < seat.old.slot }
+        ensures number { result ≡ length seat.new.book.changes }
+        ensures met { HasMet keeper.old keeper.new seat.old seat.new (Some name) }
+    {
+        let Some(token) = seat.token.take() else {
+            unreachable!()
+        };
+        let (number, again) = self.met::<Brand>(keeper, token);
+        seat.token = Some(again);
+        number
+    }
+
+    /// Compares two seats, for contracts alone: they are two authors. The first is of no slot.
+    ///
+    /// It needs no keeper, neither waits nor takes memory, and leaves both seats as they were.
+    pub fn compare(&self, one: &mut Seat<M>, two: &mut Seat<M>)
+        requires board { (one.old.board ≡ self.now) × (two.old.board ≡ self.now) }
+        requires slot { one.old.slot ≡ 0 }
+        ensures numbers { one.new.author.number ≢ two.new.author.number }
+        ensures changes { AreDisjoint one.new.author.changes two.new.author.changes }
+        ensures one { one.new ≡ one.old }
+        ensures two { two.new ≡ two.old }
+    {
+        let Some(first) = one.token.take() else {
+            unreachable!()
+        };
+        let Some(second) = two.token.take() else {
+            unreachable!()
+        };
+        let (first, second) = self.compared(first, second);
+        one.token = Some(first);
+        two.token = Some(second);
+    }
+
+    /// The leading seat enlists another, which made no change and may make changes from then on.
+    ///
+    /// For contracts alone. It needs no keeper, and neither waits nor takes memory.
+    pub fn enlist(&self, head: &mut Seat<M>, other: &mut Seat<M>)
+        requires board { (head.old.board ≡ self.now) × (other.old.board ≡ self.now) }
+        requires slot { head.old.slot ≡ 0 }
+        requires leads { head.old.author.leads ≡ true }
+        requires fresh { other.old.author.changes ≡ [] }
+        ensures head { head.new ≡ record head.old {
+          author = with_roll head.old.author
+              (other.old.author.number ∷ head.old.author.enlisted) head.old.author.gathered;
+        } }
+        ensures other { other.new ≡ record other.old {
+          author = with_signs other.old.author true;
+        } }
+    {
+        let Some(first) = head.token.take() else {
+            unreachable!()
+        };
+        let Some(second) = other.token.take() else {
+            unreachable!()
+        };
+        let (first, second) = self.enlisted(first, second);
+        head.token = Some(first);
+        other.token = Some(second);
+    }
+
+    /// The leading seat gathers the changes of an enlisted seat, which may then make no more.
+    ///
+    /// For contracts alone. It needs no keeper, and neither waits nor takes memory.
+    pub fn dismiss(&self, head: &mut Seat<M>, other: &mut Seat<M>)
+        requires board { (head.old.board ≡ self.now) × (other.old.board ≡ self.now) }
+        requires slot { head.old.slot ≡ 0 }
+        requires leads { head.old.author.leads ≡ true }
+        requires signs { other.old.author.signs ≡ true }
+        ensures merged { IsMerged head.old.author.gathered other.old.author.changes
+            head.new.author.gathered }
+        ensures head { head.new ≡ record head.old {
+          author = with_roll head.old.author
+              (without_number other.old.author.number head.old.author.enlisted)
+              head.new.author.gathered;
+        } }
+        ensures other { other.new ≡ record other.old {
+          author = with_signs other.old.author false;
+        } }
+    {
+        let Some(first) = head.token.take() else {
+            unreachable!()
+        };
+        let Some(second) = other.token.take() else {
+            unreachable!()
+        };
+        let (first, second) = self.dismissed(first, second);
+        head.token = Some(first);
+        other.token = Some(second);
+    }
+}

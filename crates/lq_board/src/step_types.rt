@@ -1,0 +1,184 @@
+//! The steps on the words, and what each one proves. No value of these types exists.
+use crate::token_views::TokenView;
+use atomic_table::{Join, Play, Split};
+use lq_volume::Change;
+use std::marker::{Brand, PhantomData};
+
+/// What a call chooses for its step: a slot, a name and a change.
+pub trait Chosen<M> {
+    ghost use Rattle.std.specs.Prelude.{ℕ, Option};
+    ghost use Rattle.lq_volume.specs.declared.change.Change.{Change};
+
+    ghost slot: { ℕ };
+
+    ghost name: { Option M };
+
+    ghost change: { Option Change };
+}
+
+impl<M> Chosen<M> for Brand {
+    ghost use Rattle.std.specs.Prelude.{None};
+
+    ghost slot = { 0 };
+
+    ghost name = { None };
+
+    ghost change = { None };
+}
+
+// Adds a change by the latest seat that came back.
+pub(crate) struct Add<W> {
+    said: PhantomData<W>,
+}
+
+impl<M, W: Chosen<M>> Play<u8, TokenView<M>> for Add<W> {
+    ghost use Rattle.lq_board.specs.Step.{AddsChange};
+
+    ghost then = { AddsChange W.change };
+}
+
+// A seat reads the number.
+pub(crate) struct See;
+
+impl<M> Play<u8, TokenView<M>> for See {
+    ghost use Rattle.lq_board.specs.Step.{Sees};
+
+    ghost then = { Sees };
+}
+
+// The keeper reads the number and checks the seat that came back.
+pub(crate) struct Check;
+
+impl<M> Play<u8, TokenView<M>> for Check {
+    ghost use Rattle.lq_board.specs.Step.{Checks};
+
+    ghost then = { Checks };
+}
+
+// The keeper reads a slot's word.
+pub(crate) struct Count;
+
+impl<M> Play<u8, TokenView<M>> for Count {
+    ghost use Rattle.lq_board.specs.Step.{Counts};
+
+    ghost then = { Counts };
+}
+
+// A slot's seat asks.
+pub(crate) struct Ask;
+
+impl<M> Play<u8, TokenView<M>> for Ask {
+    ghost use Rattle.lq_board.specs.Step.{AsksAgain};
+
+    ghost then = { AsksAgain };
+}
+
+// Makes a new seat of no slot.
+pub(crate) struct Plain;
+
+impl<M> Split<TokenView<M>> for Plain {
+    ghost use Rattle.lq_board.specs.View.{with_new_seat, copy_of};
+
+    ghost left = { with_new_seat };
+
+    ghost right = { copy_of };
+}
+
+// Makes the leading seat of a board.
+pub(crate) struct Lead;
+
+impl<M> Split<TokenView<M>> for Lead {
+    ghost use Rattle.lq_board.specs.View.{led, lead_of};
+
+    ghost left = { led };
+
+    ghost right = { lead_of };
+}
+
+// Makes a new seat of a slot.
+pub(crate) struct Open<W> {
+    said: PhantomData<W>,
+}
+
+impl<M, W: Chosen<M>> Split<TokenView<M>> for Open<W> {
+    ghost use Rattle.lq_board.specs.View.{with_slot_seat, seated};
+
+    ghost left = { with_slot_seat W.slot W.name };
+
+    ghost right = { seated W.slot W.name };
+}
+
+// Gives the latest seat that came back out again.
+pub(crate) struct Again<W> {
+    said: PhantomData<W>,
+}
+
+impl<M, W: Chosen<M>> Split<TokenView<M>> for Again<W> {
+    ghost use Rattle.lq_board.specs.View.{parted, again_of};
+
+    ghost left = { parted W.name };
+
+    ghost right = { again_of W.name };
+}
+
+// Joins a seat to the keeper.
+pub(crate) struct Back;
+
+impl<M> Join<TokenView<M>> for Back {
+    ghost use Rattle.lq_board.specs.declared.token_views.TokenView.TheVariants.{Spent};
+    ghost use Rattle.lq_board.specs.View.{taken};
+
+    ghost both = { taken };
+
+    ghost spent = { Spent };
+}
+
+// Joins two seats, the first of no slot.
+pub(crate) struct Together;
+
+impl<M> Join<TokenView<M>> for Together {
+    ghost use Rattle.lq_board.specs.declared.token_views.TokenView.TheVariants.{Spent};
+    ghost use Rattle.lq_board.specs.View.{paired};
+
+    ghost both = { paired };
+
+    ghost spent = { Spent };
+}
+
+// Compares the two.
+pub(crate) struct Compare;
+
+impl<M> Play<u8, TokenView<M>> for Compare {
+    ghost use Rattle.lq_board.specs.Step.{Compares};
+
+    ghost then = { Compares };
+}
+
+// The first of the two enlists the second.
+pub(crate) struct Enlist;
+
+impl<M> Play<u8, TokenView<M>> for Enlist {
+    ghost use Rattle.lq_board.specs.Step.{Enlists};
+
+    ghost then = { Enlists };
+}
+
+// The first of the two dismisses the second.
+pub(crate) struct Dismiss;
+
+impl<M> Play<u8, TokenView<M>> for Dismiss {
+    ghost use Rattle.lq_board.specs.Step.{Dismisses};
+
+    ghost then = { Dismisses };
+}
+
+// Parts the two.
+pub(crate) struct Part;
+
+impl<M> Split<TokenView<M>> for Part {
+    ghost use Rattle.lq_board.specs.View.{first_seat, second_seat};
+
+    ghost left = { first_seat };
+
+    ghost right = { second_seat };
+}

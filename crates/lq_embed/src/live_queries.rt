@@ -1,0 +1,304 @@
+//! Live queries.
+ghost use Rattle.std.specs.Prelude.{◌≡◌, [], length};
+ghost use Rattle.lq_value.specs.Refusal.{code_of};
+ghost use Rattle.lq_desk.specs.Reply.{answer_of};
+ghost use Rattle.lq_desk_world.specs.declared.event.Event.TheVariants.{Close, Finish, HangUp, Take};
+ghost use Rattle.lq_embed.specs.Calls.{Acts, Ends, GivesRow, ReadsSlot, Opens, TellsSlots, forgotten};
+ghost use Rattle.lq_embed.specs.Outs.{bare_after, change_after, entries_after, fault_after, fault_by, from_dir_of, from_name_of, message_after, number_of_cause, number_of_op, opening_after, read_after, row_after, text_put};
+ghost use Rattle.lq_embed.specs.Questions.{open_question};
+ghost use Rattle.lq_embed.specs.SessionState.{holds};
+ghost use Rattle.lq_embed.specs.Status.{status_of};
+
+use crate::embedded::Embedded;
+use crate::numbers::number_of_kind;
+use crate::out_structs::{MessageOut, OpeningOut, RowOut};
+use crate::out_text::put_text;
+use crate::statuses::status;
+use lq_desk::{Event, Read, Reply};
+use lq_script_request::Request;
+use lq_update::{Cause, Mark, Message, Opcode};
+use lq_value::{Entry, Refusal};
+use lq_volume::Volume;
+
+impl Embedded {
+    /// Opens a live query in the lowest free slot; its result is to be given. `port` is the number
+    /// of places of its port, and at most `backlog` messages are held before it.
+    ///
+    /// Refused, the first that fits: `NotUtf8`, `BadQuery`, then as by `Desk::event`; `NoMemory`.
+    pub fn subscribe(
+        &mut self,
+        formula: &[u8],
+        port: u64,
+        backlog: u64,
+        moved: bool,
+        out: &mut OpeningOut,
+    ) -> u32
+        ensures { Opens (holds self.old) (holds self.new) (holds self.old).pushed
+            (open_question formula.now port backlog moved) result out.old out.new }
+    {
+        let Ok(query) = str::from_utf8(formula) else {
+            return status(Refusal::NotUtf8);
+        };
+        let reply = self.answer_request(&Request::Open {
+            query,
+            port,
+            backlog,
+            moved,
+        });
+        self.opened(reply, out)
+    }
+
+    // Writes what was opened, keeps its result to be given, and answers the status.
+    pub(crate) fn opened(&mut self, reply: Reply, out: &mut OpeningOut) -> u32
+        ensures status { result ≡ status_of (answer_of reply) }
+        ensures out { out.new ≡ opening_after (answer_of reply) out.old }
+        ensures after { holds self.new ≡ record (holds self.old) {
+          entries = entries_after (answer_of reply) (holds self.old).entries;
+          fault = fault_after (answer_of reply) (holds self.old).fault;
+        } }
+    {
+        match reply {
+            Reply::Opened {
+                slot,
+                at,
+                result: entries,
+            } => {
+                *out = OpeningOut {
+                    slot,
+                    at,
+                    count: entries.len(),
+                };
+                self.entries = entries.into_iter();
+                0
+            }
+            Reply::Refused(refusal) => self.refused(refusal),
+            _ => 0,
+        }
+    }
+
+    // The status of a refusal, whose place is kept if it has one.
+    pub(crate) fn refused(&mut self, refusal: Refusal) -> u32
+        ensures status { result ≡ code_of refusal }
+        ensures after { holds self.new
+            ≡ record (holds self.old) { fault = fault_by refusal (holds self.old).fault } }
+    {
+        if let Refusal::BadQuery { place } = refusal {
+            self.fault = place;
+        }
+        status(refusal)
+    }
+
+    /// Takes the oldest parcel from a slot's port, after the turn's notice and puts. It never
+    /// answers `NoMemory`: where memory runs out for the slot's rebuilt result, the slot is left
+    /// without one.
+    ///
+    /// Refused: `NotOpen` where the slot is free.
+    pub fn read(&mut self, slot: u64, out: &mut MessageOut) -> u32
+        ensures { ReadsSlot (holds self.old) (holds self.new) (Take slot) result out.old out.new }
+    {
+        taken(&self.session.turn(&Event::Take(slot)), out)
+    }
+
+    /// Asks for the end of a slot's subscription. It takes no memory.
+    ///
+    /// Refused: `NotOpen` where the slot is free.
+    pub fn hang_up(&mut self, slot: u64) -> u32
+        ensures { Acts (holds self.old) (holds self.new) (HangUp slot) result }
+    {
+        acted(&self.session.turn(&Event::HangUp(slot)))
+    }
+
+    /// Ends a slot's subscription, and writes the last change that its messages cover. It takes no
+    /// memory.
+    ///
+    /// Refused: `NotOpen` where the slot is free, or its subscription has ended.
+    pub fn end(&mut self, slot: u64, change: &mut u64) -> u32
+        ensures { Ends (holds self.old) (holds self.new) (Close slot) result change.old change.new }
+    {
+        ended(&self.session.turn(&Event::Close(slot)), change)
+    }
+
+    /// Frees a slot whose mark was read. It takes no memory.
+    ///
+    /// Refused: `NotOpen` where the slot is free, `StillOpen` where the mark wasn't read.
+    pub fn finish(&mut self, slot: u64) -> u32
+        ensures { Acts (holds self.old) (holds self.new) (Finish slot) result }
+    {
+        acted(&self.session.turn(&Event::Finish(slot)))
+    }
+
+    /// Writes the next entry of the last result; false, and nothing is written, where there is
+    /// none. It takes no memory.
+    pub fn next_entry(&mut self, out: &mut RowOut) -> bool
+        ensures { GivesRow (holds self.old) (holds self.new) result out.old out.new
+            (holds self.old).entries }
+    {
+        let Some(entry) = self.entries.next() else {
+            return false;
+        };
+        put_row(self.session.volume(), &entry, out);
+        true
+    }
+
+    /// Which slots have something to read: a word with a bit for each slot, for slot k the one at
+    /// k - 1. A bit is set just where `read` would write a message or the mark. It takes no memory.
+    pub fn ready(&self) -> u64
+        ensures { TellsSlots (holds self.now) result }
+    {
+        self.session.ready()
+    }
+
+    /// Leaves a slot without its rebuilt result. It takes no memory.
+    pub fn forget(&mut self, slot: u64)
+        ensures { holds self.new ≡ forgotten (holds self.old) slot }
+    {
+        self.session.forget(slot);
+    }
+}
+
+// Writes an entry of a result.
+fn put_row(volume: &Volume, entry: &Entry, out: &mut RowOut)
+    ensures { out.new ≡ row_after volume.now entry.now out.old }
+{
+    out.dir = entry.dir;
+    out.node = entry.node;
+    out.name_size = put_text(&mut out.name, entry.name.as_str().as_bytes());
+    match volume.entry(entry.node) {
+        Ok(there) => {
+            out.size = there.size();
+            out.time = there.time();
+            out.kind = number_of_kind(there.kind());
+        }
+        Err(_) => {
+            out.size = 0;
+            out.time = 0;
+            out.kind = 2;
+        }
+    }
+}
+
+// Writes what was taken, and answers the status.
+pub(crate) fn taken(reply: &Reply, out: &mut MessageOut) -> u32
+    ensures status { result ≡ status_of (answer_of reply.now) }
+    ensures out { out.new ≡ read_after (answer_of reply.now) out.old }
+{
+    match reply {
+        Reply::Took(Read::Update(message)) => put_message(message, out),
+        Reply::Took(Read::Fin(mark)) => put_mark(mark, out),
+        Reply::Took(Read::Empty) => put_bare(0, out),
+        Reply::Took(Read::Ended) => put_bare(3, out),
+        Reply::Refused(refusal) => return status(*refusal),
+        _ => {}
+    }
+    0
+}
+
+// Writes a message.
+fn put_message(message: &Message, out: &mut MessageOut)
+    ensures { out.new ≡ message_after message.now out.old }
+{
+    out.seq = message.seq;
+    out.change = message.change;
+    out.dir = message.dir;
+    out.node = message.node;
+    out.what = 1;
+    out.cause = 0;
+    out.last = message.last;
+    out.name_size = put_text(&mut out.name, message.name.as_str().as_bytes());
+    put_opcode(&message.op, out);
+}
+
+// Writes what a message says of its entry.
+fn put_opcode(op: &Opcode, out: &mut MessageOut)
+    ensures { out.new ≡ record out.old {
+      op = number_of_op op.now;
+      from_dir = from_dir_of op.now;
+      from_name_size = length (from_name_of op.now);
+      from_name = text_put (from_name_of op.now) out.old.from_name;
+    } }
+{
+    match op {
+        Opcode::Created => put_no_place(1, out),
+        Opcode::Removed => put_no_place(2, out),
+        Opcode::Moved {
+            from_dir,
+            from_name,
+        } => {
+            out.op = 3;
+            out.from_dir = *from_dir;
+            let name = from_name.as_str().as_bytes();
+            out.from_name_size = put_text(&mut out.from_name, name);
+        }
+    }
+}
+
+// Writes that an entry has come from no place, or has gone.
+fn put_no_place(op: u32, out: &mut MessageOut)
+    ensures { out.new ≡ record out.old {
+      op = op;
+      from_dir = 0;
+      from_name_size = 0;
+      from_name = text_put [] out.old.from_name;
+    } }
+{
+    out.op = op;
+    out.from_dir = 0;
+    out.from_name_size = put_text(&mut out.from_name, b"");
+}
+
+// Writes the mark of a subscription.
+fn put_mark(mark: &Mark, out: &mut MessageOut)
+    ensures { out.new ≡ bare_after 2 mark.now.seq mark.now.change
+        (number_of_cause mark.now.cause) out.old }
+{
+    put_bare(2, out);
+    out.seq = mark.seq;
+    out.change = mark.change;
+    out.cause = match mark.cause {
+        Cause::Closed => 1,
+        Cause::HungUp => 2,
+        Cause::Overrun => 3,
+    };
+}
+
+// Writes nothing but what was read.
+fn put_bare(what: u32, out: &mut MessageOut)
+    ensures { out.new ≡ bare_after what 0 0 0 out.old }
+{
+    out.seq = 0;
+    out.change = 0;
+    out.dir = 0;
+    out.node = 0;
+    out.from_dir = 0;
+    out.what = what;
+    out.op = 0;
+    out.cause = 0;
+    out.last = false;
+    out.name_size = put_text(&mut out.name, b"");
+    out.from_name_size = put_text(&mut out.from_name, b"");
+}
+
+// Writes the last change of a subscription that was ended, and answers the status.
+fn ended(reply: &Reply, change: &mut u64) -> u32
+    ensures status { result ≡ status_of (answer_of reply.now) }
+    ensures change { change.new ≡ change_after (answer_of reply.now) change.old }
+{
+    match reply {
+        Reply::Shut(covered) => {
+            *change = *covered;
+            0
+        }
+        Reply::Refused(refusal) => status(*refusal),
+        _ => 0,
+    }
+}
+
+// The status of an act.
+fn acted(reply: &Reply) -> u32
+    ensures { result ≡ status_of (answer_of reply.now) }
+{
+    match reply {
+        Reply::Refused(refusal) => status(*refusal),
+        _ => 0,
+    }
+}

@@ -1,0 +1,223 @@
+//! Looks at the volume, which change nothing in it.
+ghost use Rattle.std.specs.Prelude.{◌≡◌, ◌⊎◌, Ok};
+ghost use Rattle.std.specs.Option.{option_map};
+ghost use Rattle.lq_value.specs.declared.refusal.Refusal.TheVariants.{NoMemory};
+ghost use Rattle.lq_volume.specs.Result.{result_of};
+ghost use Rattle.lq_script_request.specs.Asked.{asked};
+ghost use Rattle.lq_script_request.specs.Request.{question_for};
+ghost use Rattle.lq_script_request.specs.declared.question.Question.TheVariants.{Entry, Rebuilt};
+ghost use Rattle.lq_script_desk.specs.Answer.{response_of};
+ghost use Rattle.lq_script_desk.specs.Response.{Fetched, Refuses};
+ghost use Rattle.lq_script_desk.specs.Answered.{found_in, rebuilt};
+ghost use Rattle.lq_script_desk.specs.Keeps.{keeps};
+ghost use Rattle.lq_embed.specs.Calls.{Fetches, FindsNode, Rebuilds, Responds, ShowsEntry};
+ghost use Rattle.lq_embed.specs.Outs.{fetched_after, fetched_entries, looked_fault, node_after, rebuilt_after, rebuilt_entries};
+ghost use Rattle.lq_embed.specs.Questions.{fetch_question, find_question};
+ghost use Rattle.lq_embed.specs.SessionState.{holds, with_entries};
+ghost use Rattle.lq_embed.specs.Status.{response_status};
+
+use crate::embedded::Embedded;
+use crate::numbers::number_of_kind;
+use crate::out_structs::{FetchedOut, InfoOut, RebuiltOut};
+use crate::out_text::put_text;
+use crate::statuses::status;
+use lq_predicate::Predicate;
+use lq_script_desk::Response;
+use lq_script_request::{Question, Request, read_request};
+use lq_update::IndexedRebuild;
+use lq_value::{Name, Refusal};
+use lq_volume::Volume;
+
+impl Embedded {
+    /// Fetches the entries that match a formula; they are then to be given.
+    ///
+    /// Refused, the first that fits: `NotUtf8`, `BadQuery`; `NoMemory`.
+    pub fn fetch(&mut self, formula: &[u8], out: &mut FetchedOut) -> u32
+        ensures { Fetches (holds self.old) (holds self.new) (holds self.old).pushed
+            (fetch_question formula.now) result out.old out.new }
+    {
+        let Ok(query) = str::from_utf8(formula) else {
+            return status(Refusal::NotUtf8);
+        };
+        let response = self.look(&Request::Fetch { query });
+        self.fetched(response, out)
+    }
+
+    /// Finds the node at a place.
+    ///
+    /// Refused, the first that fits: `NotUtf8`, `BadName`, then as by `Volume::find`; `NoMemory`.
+    pub fn find(&mut self, dir: u64, name: &[u8], node: &mut u64) -> u32
+        ensures { FindsNode (holds self.old) (holds self.new) (find_question dir name.now)
+            result node.old node.new }
+    {
+        let Ok(name) = str::from_utf8(name) else {
+            return status(Refusal::NotUtf8);
+        };
+        put_node(&self.look(&Request::Find { dir, name }), node)
+    }
+
+    /// The rebuilt result of a slot, which is then to be given.
+    ///
+    /// Refused: `NotOpen` where the slot is free or was left without one, `NoMemory`.
+    pub fn rebuilt(&mut self, slot: u64, out: &mut RebuiltOut) -> u32
+        ensures { Rebuilds (holds self.old) (holds self.new) (Ok (Rebuilt slot))
+            result out.old out.new }
+    {
+        let response = self.respond(&Question::Rebuilt { slot });
+        self.given(response, out)
+    }
+
+    // Writes what a rebuilt result is, keeps it to be given, and answers the status.
+    fn given(&mut self, response: Response, out: &mut RebuiltOut) -> u32
+        ensures status { result ≡ response_status (response_of response) }
+        ensures out { out.new ≡ rebuilt_after (response_of response) out.old }
+        ensures after { holds self.new ≡ with_entries (holds self.old)
+            (rebuilt_entries (response_of response) (holds self.old).entries) }
+    {
+        match response {
+            Response::Rebuilt {
+                change,
+                result: entries,
+                settled,
+            } => {
+                *out = RebuiltOut {
+                    change,
+                    count: entries.len(),
+                    settled,
+                };
+                self.entries = entries.into_iter();
+                0
+            }
+            Response::Refused(refusal) => status(refusal),
+            _ => 0,
+        }
+    }
+
+    // Writes what was fetched, keeps it to be given, and answers the status.
+    pub(crate) fn fetched(&mut self, response: Response, out: &mut FetchedOut) -> u32
+        ensures status { result ≡ response_status (response_of response) }
+        ensures out { out.new ≡ fetched_after (response_of response) out.old }
+        ensures after { holds self.new ≡ record (holds self.old) {
+          entries = fetched_entries (response_of response) (holds self.old).entries;
+          fault = looked_fault (response_of response) (holds self.old).fault;
+        } }
+    {
+        match response {
+            Response::Fetched {
+                at,
+                result: entries,
+            } => {
+                *out = FetchedOut {
+                    at,
+                    count: entries.len(),
+                };
+                self.entries = entries.into_iter();
+                0
+            }
+            Response::Refused(refusal) => self.refused(refusal),
+            _ => 0,
+        }
+    }
+
+    // The response to a request for a look.
+    fn look(&mut self, request: &Request<'_>) -> Response
+        ensures responds { Responds (keeps self.old.session) (question_for (asked request.now))
+            (response_of result) }
+        ensures stays { holds self.new ≡ holds self.old }
+    {
+        match read_request(self.alloc, &mut self.scratch, request) {
+            Ok(question) => self.respond(&question),
+            Err(refusal) => Response::Refused(refusal),
+        }
+    }
+
+    // The response to a question for a look, or that memory ran out. No look is an event.
+    pub(crate) fn respond(&self, question: &Question) -> Response
+        ensures { Responds (keeps self.now.session) (Ok question.now) (response_of result) }
+    {
+        let volume = self.session.volume();
+        match question {
+            Question::Find { dir, name } => found(volume, *dir, name),
+            Question::Fetch { predicate } => matching(volume, predicate),
+            Question::Rebuilt { slot } => rebuilt(self.session.rebuild(*slot)),
+            Question::Event(_) | Question::Entry { .. } => Response::Refused(Refusal::NoMemory),
+        }
+    }
+
+    /// Writes the entry of a node. It takes no memory.
+    ///
+    /// Refused: `NoNode` where there is no such node, `NoEntry` for the root.
+    pub fn entry(&mut self, node: u64, out: &mut InfoOut) -> u32
+        ensures { ShowsEntry (holds self.old) (holds self.new) (Ok (Entry node))
+            result out.old out.new }
+    {
+        match self.session.volume().entry(node) {
+            Err(refusal) => status(refusal),
+            Ok(entry) => {
+                out.dir = entry.dir();
+                out.node = node;
+                out.size = entry.size();
+                out.time = entry.time();
+                out.kind = number_of_kind(entry.kind());
+                out.attr_count = entry.attr_count();
+                out.name_size = put_text(&mut out.name, entry.name().as_str().as_bytes());
+                0
+            }
+        }
+    }
+}
+
+// The node at a place.
+fn found(volume: &Volume, dir: u64, name: &Name) -> Response
+    ensures { response_of result ≡ found_in volume.now dir name.now }
+{
+    match volume.find(dir, name) {
+        Ok(node) => Response::Found { node },
+        Err(refusal) => Response::Refused(refusal),
+    }
+}
+
+// The entries that match a predicate.
+fn matching(volume: &Volume, predicate: &Predicate) -> Response
+    ensures { (response_of result ≡ Refuses NoMemory) ⊎ (response_of result
+        ≡ Fetched volume.now.number (result_of predicate.now volume.now)) }
+{
+    let at = volume.changes();
+    match volume.fetch(predicate) {
+        Ok(result) => Response::Fetched { at, result },
+        Err(refusal) => Response::Refused(refusal),
+    }
+}
+
+// The rebuilt result of a slot, if it has one.
+fn rebuilt(rebuild: Option<&IndexedRebuild>) -> Response
+    ensures { (response_of result ≡ Refuses NoMemory)
+        ⊎ (response_of result ≡ rebuilt (option_map (λ r. r.now) rebuild.entry)) }
+{
+    let Some(rebuild) = rebuild else {
+        return Response::Refused(Refusal::NotOpen);
+    };
+    match rebuild.entries() {
+        Err(refusal) => Response::Refused(refusal),
+        Ok(result) => Response::Rebuilt {
+            change: rebuild.last_change(),
+            result,
+            settled: rebuild.is_settled(),
+        },
+    }
+}
+
+// Writes the node that was found, and answers the status.
+fn put_node(response: &Response, node: &mut u64) -> u32
+    ensures status { result ≡ response_status (response_of response.now) }
+    ensures out { node.new ≡ node_after (response_of response.now) node.old }
+{
+    match response {
+        Response::Found { node: found } => {
+            *node = *found;
+            0
+        }
+        Response::Refused(refusal) => status(*refusal),
+        _ => 0,
+    }
+}

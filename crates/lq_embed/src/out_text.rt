@@ -1,0 +1,27 @@
+//! A text in a caller's memory.
+ghost use Rattle.std.specs.Prelude.{◌≡◌, length};
+ghost use Rattle.lq_embed.specs.Outs.{ended, text_put};
+
+/// Copies a text to the front of `out`, and answers its size. Where there is room behind it, a NUL
+/// comes there; where `out` is smaller nothing is copied. It takes no memory.
+pub fn put_text(out: &mut [u8], text: &[u8]) -> usize
+    ensures size { result ≡ length text.now }
+    ensures text { out.new ≡ text_put text.now out.old }
+{
+    let size = text.len();
+    if size <= out.len() {
+        let (front, behind) = out.split_at_mut(size);
+        front.copy_from_slice(text);
+        put_nul(behind);
+    }
+    size
+}
+
+// Puts a NUL at the front of `out`, where there is room.
+fn put_nul(out: &mut [u8])
+    ensures { out.new ≡ ended out.old }
+{
+    if !out.is_empty() {
+        out[0] = 0;
+    }
+}

@@ -1,0 +1,58 @@
+//! The program's arguments, with `threads` among them.
+ghost use Rattle.std.specs.Prelude.{◌≡◌, ◌↔◌, false, true};
+ghost use Rattle.lq_script_lines.specs.Outcome.{reader_log, writer_log};
+ghost use Rattle.lq_script.specs.Outcome.{IsOutcome, transcript};
+ghost use Rattle.lq_script.specs.Words.{IsThreads, texts_of};
+
+use crate::commands::{plain_program, report_fault};
+use crate::gate::OpenGate;
+use crate::threads::run_threads;
+use lq_script_lines::{Sink, Source};
+use std::alloc::Global;
+use std::sync::Wait;
+use std::thread::Threads;
+
+/// Does what the program's arguments, `words`, ask for, and answers the exit status.
+///
+/// `threads` alone carries out the reader's script by `run_threads` with an open gate, `run` by one
+/// thread. `check FORMULA` writes the formula's canonical text and LF; a formula that begins with
+/// `-` has to follow `--`. Status 0: done. 1: a `RunFault`, a fault of the writer in `check`, or no
+/// memory, with one line on `faults`. 2: a refused formula, with `lq: BadQuery at P` there, or any
+/// other arguments, with `lq: usage`. A fault of `faults` is ignored.
+pub fn program<T: Threads + Wait + Sync, R: Source, W: Sink, F: Sink>(
+    rt: &T,
+    alloc: Global,
+    words: &[String],
+    reader: &mut R,
+    writer: &mut W,
+    faults: &mut F,
+) -> u8
+    requires reader_works { R.failed reader.old ≡ false }
+    requires writer_works { W.failed writer.old ≡ false }
+    requires writer_moves { W.stalled writer.old ≡ false }
+    ensures outcome { IsOutcome (texts_of words.now) result (transcript
+        reader.old reader.new writer.old writer.new faults.old faults.new
+        (reader_log (R.left reader.old) (R.left reader.new) (R.failed reader.new))
+        (writer_log (W.written writer.old) (W.written writer.new)
+        (W.failed writer.new) (W.stalled writer.new) (W.flushed writer.new))
+        (writer_log (F.written faults.old) (F.written faults.new)
+        (F.failed faults.new) (F.stalled faults.new) (F.flushed faults.new))) }
+{
+    if !asks_threads(words) {
+        return plain_program(alloc, words, reader, writer, faults);
+    }
+    match run_threads(rt, alloc, reader, writer, &OpenGate) {
+        Ok(()) => 0,
+        Err(fault) => report_fault(fault, faults),
+    }
+}
+
+// Whether the arguments are `threads` alone.
+fn asks_threads(words: &[String]) -> bool
+    ensures { (result ≡ true) ↔ IsThreads (texts_of words.now) }
+{
+    match words {
+        [word] => word.as_str() == "threads",
+        _ => false,
+    }
+}

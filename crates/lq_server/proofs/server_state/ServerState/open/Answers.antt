@@ -1,0 +1,24 @@
+use Rattle.std.proofs.Common.{◌≡◌, rules, subst}
+use Rattle.std.specs.Prelude.{IfOk}
+use Rattle.lq_server_slots.specs.declared.open.Opened.{Opened}
+use Rattle.lq_server_slots.specs.Slots.{AreConsistent}
+use Rattle.lq_server.specs.Hold.{LockHold}
+use Rattle.lq_server.proofs.server_state.ServerState.open.Goals as goal
+
+pub returns-clause-over : goal.returns-clause-over
+returns-clause-over g c = (
+  c.meet.new.self.slots,
+  c.meet.ensures.same,
+  subst (λ (z : LockHold). AreConsistent z.slots z.slots.keeper.book) c.self.view_is
+      c.self.invariant.6,
+  subst (λ (z : LockHold). IfOk c.open_in.result (λ (o : Opened).
+      o.reading.port.floor.book.value ≡ z.slots.keeper)) c.self.view_is c.open_in.ensures.keeper,
+)
+
+pub returns-clause-answered : goal.returns-clause-answered
+returns-clause-answered g c = record {
+  table = search rules;
+  lowest = search rules;
+  refused = c.open_in.ensures.answered.refused;
+  others = c.open_in.ensures.answered.others;
+}

@@ -1,0 +1,8 @@
+-- It owns nothing, so any thread may share it.
+use denote.RattleType.{RattleType}
+use denote.Param.Send.{IsSync, part_keyless}
+use Rattle.lq_server_slots.specs.contracts.ghost_copy.GhostCopy.{the_row}
+use Rattle.lq_server_slots.proofs.ghost_copy.GhostCopy.TheSendSync.Send.{send}
+
+pub sync : (T : RattleType) → IsSync (the_row T)
+sync T = record { shared = λ d b o κ q. part_keyless (the_row T) (send T) q d b o }

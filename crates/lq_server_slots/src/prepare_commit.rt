@@ -1,0 +1,150 @@
+//! The two passes of a change over the slots: its messages are prepared, and then committed.
+ghost use Rattle.std.specs.Prelude.{◌≡◌, ◌<◌, ◌≤◌, ℕ, length, Some, is_some, OnOk};
+ghost use Rattle.lq_value.specs.Refusal.{FailsOnlyForMemory};
+ghost use Rattle.lq_volume.specs.Book.{state_of};
+ghost use Rattle.lq_board.specs.Slot.{slot_at};
+ghost use Rattle.lq_server_slots.specs.Slots.{IsTakenSlot, IsToFill, SlotStands, asks_of, AreConsistent, OnlyAt, IsReadyAt, AllReady, before_of, IsGrown, IsNoticed, IsServed, SlotIs, SlotsAre};
+
+use crate::identity::Identity;
+use crate::slots::{ServerSlots, fill_slot, notice_slot, place_of};
+use crate::subscription::{Subscription, commit, ready};
+use lq_board::{Board, Keeper};
+use lq_value::Refusal;
+use lq_volume::{Change, Planned};
+use std::sync::Wait;
+
+// For a slot that may be free: ends the subscription where its reader asked, then prepares its
+// messages of a change if it is live.
+fn ready_at(
+    board: &Board<Identity>,
+    keeper: &mut Keeper<Identity>,
+    slot: &mut Option<Subscription>,
+    place: usize,
+    planned: &Planned<'_>,
+) -> Result<(), Refusal>
+    requires board { keeper.old.board ≡ board.now }
+    requires place { (0 < place) × (place < 65) × (length keeper.old.slots ≡ 65) }
+    requires state { planned.now.before ≡ state_of keeper.old.book }
+    requires fits { SlotStands slot.old (slot_at keeper.old.slots place) keeper.old.book }
+    ensures refused { FailsOnlyForMemory result }
+    ensures board { keeper.new.board ≡ keeper.old.board }
+    ensures book { keeper.new.book ≡ keeper.old.book }
+    ensures only { OnlyAt keeper.old.slots keeper.new.slots place }
+    ensures fits { SlotStands slot.new (slot_at keeper.new.slots place) keeper.new.book }
+    ensures asks { asks_of slot.new (slot_at keeper.new.slots place)
+        ≤ asks_of slot.old (slot_at keeper.old.slots place) }
+    ensures rises { (slot_at keeper.old.slots place).asks ≤ (slot_at keeper.new.slots place).asks }
+    ensures kept { is_some slot.new ≡ is_some slot.old }
+    ensures ready { OnOk result
+        (IsReadyAt slot.new planned.now.before planned.now.change) }
+    ensures noticed { SlotIs IsNoticed slot.new (slot_at keeper.new.slots place) }
+{
+    let Some(taken) = slot else {
+        return Ok(());
+    };
+    let number = planned.applied().change - 1;
+    notice_slot(board, keeper, taken, place, number);
+    ready(taken, planned)
+}
+
+/// Ends each subscription whose reader asked, and prepares the messages of a change for the live
+/// ones.
+pub(crate) fn ready_all(
+    board: &Board<Identity>,
+    slots: &mut ServerSlots,
+    planned: &Planned<'_>,
+) -> Result<(), Refusal>
+    requires board { slots.old.keeper.board ≡ board.now }
+    requires state { planned.now.before ≡ state_of slots.old.keeper.book }
+    requires holding { AreConsistent slots.old slots.old.keeper.book }
+    ensures refused { FailsOnlyForMemory result }
+    ensures board { slots.new.keeper.board ≡ slots.old.keeper.board }
+    ensures book { slots.new.keeper.book ≡ slots.old.keeper.book }
+    ensures openings { slots.new.openings ≡ slots.old.openings }
+    ensures holding { AreConsistent slots.new slots.new.keeper.book }
+    ensures rises { (k : ℕ) → (slot_at slots.old.keeper.slots k).asks
+        ≤ (slot_at slots.new.keeper.slots k).asks }
+    ensures ready { OnOk result (AllReady slots.new.subscriptions.items
+        planned.now.before planned.now.change) }
+    ensures noticed { OnOk result
+        (SlotsAre IsNoticed slots.new.subscriptions.items slots.new.keeper.slots) }
+{
+    for index in 0..slots.taken.len() {
+        let place = place_of(slots, index);
+        let keeper = &mut slots.keeper;
+        ready_at(
+            board,
+            keeper,
+            &mut slots.subscriptions[place],
+            place,
+            planned,
+        )?;
+    }
+    Ok(())
+}
+
+// For a slot that may be free: commits the change that was just added, and fills the port.
+fn commit_at<R: Wait>(
+    rt: &R,
+    keeper: &Keeper<Identity>,
+    slot: &mut Option<Subscription>,
+    place: usize,
+    change: &Change,
+)
+    requires grown { IsGrown keeper.now.book change.now }
+    requires ready { IsReadyAt slot.old (state_of (before_of keeper.now.book)) change.now }
+    requires fits { SlotStands slot.old (slot_at keeper.now.slots place)
+        (before_of keeper.now.book) }
+    requires noticed { SlotIs IsNoticed slot.old (slot_at keeper.now.slots place) }
+    ensures fits { SlotStands slot.new (slot_at keeper.now.slots place) keeper.now.book }
+    ensures asks { asks_of slot.new (slot_at keeper.now.slots place)
+        ≤ asks_of slot.old (slot_at keeper.now.slots place) }
+    ensures kept { is_some slot.new ≡ is_some slot.old }
+    ensures served { SlotIs IsServed slot.new (slot_at keeper.now.slots place) }
+{
+    if let Some(taken) = slot {
+        commit_slot(keeper, taken, place, change);
+        fill_slot(rt, keeper, taken, place);
+    }
+}
+
+// Commits the change that was just added. The port is still to be filled.
+fn commit_slot(keeper: &Keeper<Identity>, slot: &mut Subscription, place: usize, change: &Change)
+    requires grown { IsGrown keeper.now.book change.now }
+    requires ready { IsReadyAt (Some slot.old) (state_of (before_of keeper.now.book)) change.now }
+    requires taken { IsTakenSlot slot.old (slot_at keeper.now.slots place)
+        (before_of keeper.now.book) }
+    requires noticed { IsNoticed slot.old (slot_at keeper.now.slots place) }
+    ensures taken { IsToFill slot.new (slot_at keeper.now.slots place) keeper.now.book }
+    ensures asks { slot.new.asks ≡ slot.old.asks }
+    ensures noticed { IsNoticed slot.new (slot_at keeper.now.slots place) }
+{
+    // For the contract alone, which names the book and the slot.
+    let _ = keeper;
+    let _ = place;
+    commit(slot, change);
+}
+
+/// Commits the change that was just added in each subscription, and fills each port.
+pub(crate) fn commit_all<R: Wait>(rt: &R, slots: &mut ServerSlots, change: &Change)
+    requires grown { IsGrown slots.old.keeper.book change.now }
+    requires ready { AllReady slots.old.subscriptions.items
+        (state_of (before_of slots.old.keeper.book)) change.now }
+    requires holding { AreConsistent slots.old (before_of slots.old.keeper.book) }
+    requires noticed { SlotsAre IsNoticed slots.old.subscriptions.items slots.old.keeper.slots }
+    ensures keeper { slots.new.keeper ≡ slots.old.keeper }
+    ensures openings { slots.new.openings ≡ slots.old.openings }
+    ensures holding { AreConsistent slots.new slots.new.keeper.book }
+    ensures served { SlotsAre IsServed slots.new.subscriptions.items slots.new.keeper.slots }
+{
+    for index in 0..slots.taken.len() {
+        let place = place_of(slots, index);
+        commit_at(
+            rt,
+            &slots.keeper,
+            &mut slots.subscriptions[place],
+            place,
+            change,
+        );
+    }
+}

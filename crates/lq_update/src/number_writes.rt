@@ -1,0 +1,32 @@
+//! Writes that stay on one side of all numbers of a query.
+ghost use Rattle.std.specs.Prelude.{◌≡◌, ℕ, Bool, true, []};
+ghost use Rattle.lq_predicate.specs.Query.{Query};
+ghost use Rattle.lq_predicate.specs.Spans.{spans_of};
+ghost use Rattle.lq_update.specs.Updates.{step_of};
+
+use crate::difference::changes_touch_few;
+use lq_predicate::{Spans, truth_stays_beside_spans};
+use lq_volume::{Change, Planned};
+
+/// Whether a planned change is a write that crosses none of the numbers with which a query compares
+/// sizes and times: old and new size are on the same side of each, and old and new time. If true,
+/// `step_planned` gives no message.
+///
+/// It reads the predicate's `Spans`, not the predicate. It takes no memory.
+#[inline(always)]
+pub fn writes_cross_no_number(spans: &Spans, planned: &Planned<'_>) -> bool
+    ensures { (q : Query) → (moved : Bool) → (seq : ℕ) → result ≡ true → spans.now ≡ spans_of q
+        → step_of q moved planned.now.before planned.now.change seq ≡ [] }
+{
+    truth_stays_beside_spans();
+    changes_touch_few();
+    // For its clauses `lawful` and `volume`.
+    let _ = planned.applied();
+    let Change::Write { size, time, .. } = planned.change() else {
+        return false;
+    };
+    let Some(view) = planned.entry_before() else {
+        return false;
+    };
+    spans.is_beside_sizes(view.size(), *size) && spans.is_beside_times(view.time(), *time)
+}

@@ -1,5 +1,0 @@
-use Rattle.lq_value_pattern.proofs.MaskLemmas.{flip_is}
-use Rattle.lq_value_pattern.proofs.bits.flip_bit.Goals as goal
-
-pub returns : goal.returns
-returns c = flip_is c.args.j c.args.mask c.requires
