@@ -285,13 +285,13 @@ lq_status lq_fetch(lq *handle, const char *formula, size_t formula_size, lq_fetc
     return lqp_fetch(in(handle), &handle->result, formula, formula_size, out);
 }
 
-lq_status lq_find(lq *handle, uint64_t dir, const char *name, size_t name_size, uint64_t *node)
+lq_status lq_find(const lq *handle, uint64_t dir, const char *name, size_t name_size, uint64_t *node)
 {
     if (!is_open(handle) || !node || !is_text(&name, &name_size, LQ_NAME_SIZE)) return LQ_MISUSE;
     return lqp_find(in(handle), dir, name, name_size, node);
 }
 
-lq_status lq_find_path(lq *handle, uint64_t dir, const char *path, size_t path_size, uint64_t *node)
+lq_status lq_find_path(const lq *handle, uint64_t dir, const char *path, size_t path_size, uint64_t *node)
 {
     if (!is_open(handle) || !node || !is_text(&path, &path_size, SIZE_MAX)) return LQ_MISUSE;
     return lqp_find_path(in(handle), dir, path, path_size, node);

@@ -225,8 +225,8 @@ typedef struct lq_row {
 /* Takes the next entries of a result, `room` at most, and writes how many there were: fewer than
  * `room`, once none is left. A handle has one result at a time, whose number the call that made it
  * has written as `result` (lq_open, lq_open_pushed, lq_fetch, lq_fetch_pushed, lq_result,
- * lq_children); it doesn't change with the volume. LQ_MISUSE: another result was made since. Who
- * wants two at once takes all of the first, whose `count` is known, before the second is made. */
+ * lq_children); it doesn't change with the volume. LQ_MISUSE: another result was made since. To use
+ * two at once, take all of the first, whose `count` is known, before the second is made. */
 lq_status lq_take(lq *handle, uint64_t result, lq_row *out, size_t room, size_t *got);
 
 /* Takes the next entry alone. LQ_NO_ENTRY: none is left. LQ_MISUSE: as lq_take. */
@@ -359,12 +359,14 @@ lq_status lq_fetch(lq *handle, const char *formula, size_t formula_size, lq_fetc
 
 /* The node of the entry with this name in a folder. LQ_BAD_NAME, LQ_NO_NODE, LQ_NOT_FOLDER,
  * LQ_NO_ENTRY. LQ_NO_MEMORY. */
-lq_status lq_find(lq *handle, uint64_t dir, const char *name, size_t name_size, uint64_t *node);
+lq_status lq_find(const lq *handle, uint64_t dir, const char *name, size_t name_size,
+                  uint64_t *node);
 
 /* The node at the end of a path from a folder: names with one `/` or more between them, before them
- * or after them; a path without a name is the folder itself. It is refused as lq_find refuses the
- * first of its names that doesn't lead on; for a path without a name it isn't refused. */
-lq_status lq_find_path(lq *handle, uint64_t dir, const char *path, size_t path_size,
+ * or after them; a path without a name is the folder itself. A path has no largest size. It is
+ * refused as lq_find refuses the first of its names that doesn't lead on; for a path without a name
+ * it isn't refused. */
+lq_status lq_find_path(const lq *handle, uint64_t dir, const char *path, size_t path_size,
                        uint64_t *node);
 
 /* An entry: its place, its kind, its size and last_modified, and how many attributes it has. */

@@ -14,18 +14,16 @@ typedef struct window {
 } window;
 static lq volume = LQ_INIT;
 
-#define MUST(call) must((call), #call)
-static void must(lq_status status, const char *call) {
-    if (status != LQ_OK) exit(fprintf(stderr, "%s: %s\n", call, lq_status_name(status)));
+static void must(lq_status status) {
+    if (status != LQ_OK) exit(fprintf(stderr, "%s\n", lq_status_name(status)));
 }
 
 static void show(window *it) {
     lq_opening opened;
-    lq_row row;
-    MUST(lq_open(&volume, it->formula, strlen(it->formula), &it->options, &opened));
+    must(lq_open(&volume, it->formula, strlen(it->formula), &it->options, &opened));
     it->slot = opened.slot;
     memset(it->shown, 0, sizeof it->shown);
-    while (lq_next(&volume, opened.result, &row) == LQ_OK) it->shown[row.node] = true;
+    for (lq_row row; lq_next(&volume, opened.result, &row) == LQ_OK;) it->shown[row.node] = true;
     printf("%s: slot %d at change %d, %d entries\n", it->formula, (int)it->slot, (int)opened.at, (int)opened.count);
 }
 
@@ -33,14 +31,14 @@ static void follow(window *it) {
     lq_message all[MANY];
     size_t got;
     do {
-        MUST(lq_read_many(&volume, it->slot, all, MANY, &got));
+        must(lq_read_many(&volume, it->slot, all, MANY, &got));
         for (size_t at = 0; at < got; at++) {
             if (all[at].what == LQ_UPDATE) it->shown[all[at].node] = all[at].op != LQ_ENTRY_REMOVED;
             else printf("%s: overrun, covered to change %d\n", it->formula, (int)all[at].change);
         }
     } while (got > 0 && all[got - 1].what == LQ_UPDATE);
     if (got == 0) return;
-    MUST(lq_finish(&volume, it->slot)); /* the mark was read: the window begins anew */
+    must(lq_finish(&volume, it->slot)); /* the mark was read: the window begins anew */
     show(it);
 }
 
@@ -48,8 +46,8 @@ static void check(const window *it) {
     lq_row rows[FILES];
     lq_fetched now;
     size_t got, shown = 0, same = 0;
-    MUST(lq_fetch(&volume, it->formula, strlen(it->formula), &now));
-    MUST(lq_take(&volume, now.result, rows, FILES, &got));
+    must(lq_fetch(&volume, it->formula, strlen(it->formula), &now));
+    must(lq_take(&volume, now.result, rows, FILES, &got));
     for (size_t at = 0; at < got; at++) same += it->shown[rows[at].node];
     for (int node = 0; node < FILES + 2; node++) shown += it->shown[node];
     printf("%s: %d shown, %d fetched, %d in both\n", it->formula, (int)shown, (int)got, (int)same);
@@ -59,13 +57,13 @@ int main(void) {
     static window windows[WINDOWS] = {{"size>500", {0, false, true}, 0, {false}},
                                       {"size<=500", {150, false, true}, 0, {false}},
                                       {"name==*7.txt", {0, true, true}, 0, {false}}};
-    MUST(lq_volume_open(&volume));
+    must(lq_volume_open(&volume));
     for (int at = 0; at < WINDOWS; at++) show(&windows[at]);
     for (int change = 0; change < CHANGES; change++) {
         char name[16];
         int size = sprintf(name, "%d.txt", change);
-        if (change < FILES) MUST(lq_create(&volume, LQ_ROOT, name, (size_t)size, LQ_FILE, (uint64_t)change, 0, NULL));
-        else MUST(lq_write(&volume, (uint64_t)(2 + change * 7 % FILES), (uint64_t)(change * 13 % 1000), 0, NULL));
+        if (change < FILES) must(lq_create(&volume, LQ_ROOT, name, (size_t)size, LQ_FILE, (uint64_t)change, 0, NULL));
+        else must(lq_write(&volume, (uint64_t)(2 + change * 7 % FILES), (uint64_t)(change * 13 % 1000), 0, NULL));
         uint64_t ready = lq_ready(&volume);
         for (int at = 0; at < WINDOWS; at++)
             if ((ready >> (windows[at].slot - 1) & 1) && (at != 1 || change % 250 == 249)) follow(&windows[at]);

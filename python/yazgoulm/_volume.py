@@ -38,7 +38,8 @@ class Volume:
 
     def close(self) -> None:
         """Frees the volume and its queries. It may be called again."""
-        self._handle.free()
+        with self._lock:
+            self._handle.free()
         self._turned()
 
     def __enter__(self) -> "Volume":
@@ -50,9 +51,10 @@ class Volume:
     __reduce_ex__ = _no_copy
 
     def __repr__(self) -> str:
-        if not self._handle.is_open():
-            return "<Volume, closed>"
-        return f"<Volume with {self.changes} changes and {len(self._queries)} queries>"
+        with self._lock:
+            if not self._handle.is_open():
+                return "<Volume, closed>"
+            return f"<Volume with {self.changes} changes and {len(self._queries)} queries>"
 
     @property
     def wake(self) -> Optional[Callable[[], Any]]:
@@ -149,8 +151,8 @@ class Volume:
         self, formula: Formula, backlog: int = 65_536, moved: bool = False, on_overrun: str = "raise"
     ) -> "Query":
         """Opens a live query: see Query. At most `backlog` messages, 1 to 65,536, wait beside the oldest. With `moved`
-        an entry that moves within the result has one message for it, and not two. A query of which more messages come
-        ends, and reading it then raises Overrun; with `on_overrun="mark"` its `mark` alone says so."""
+        an entry that moves within the result has one message for it, and not two. Where more messages come the
+        query ends, and reading it then raises Overrun; with `on_overrun="mark"` its `mark` alone says so."""
         return Query(self, formula, backlog, moved, on_overrun)
 
     def ready(self) -> List["Query"]:
@@ -208,7 +210,7 @@ def _place(it: _Placed) -> Place:
 class Row:
     """An entry of a query's result, at the place that the messages read so far give it.
 
-    `info` is what it shows beside: a change inside a result has no message, so who makes the change calls `refresh`."""
+    `info` is what it shows beside: a change inside a result has no message, so call `refresh` after making one."""
 
     __slots__ = "node", "_rows", "_placed", "_info"
 
@@ -230,7 +232,7 @@ class Row:
     @property
     def info(self) -> Optional[Info]:
         """The entry with all that it has, as it was at the latest `refresh`, or when this was first asked for. None
-        where the entry had gone from the volume by then, of which a message that waits says so."""
+        where the entry had gone from the volume by then, as a message that waits says."""
         if self._info is None:
             self.refresh()
         return self._info

@@ -62,6 +62,60 @@ static lq_status attr_named(lq *handle, text *to) {
     return status;
 }
 
+static lq_status find_path(lq *handle, text *to) {
+    uint64_t node;
+    lq_status status = lq_find_path(handle, 1, TEXT("/folder//a.txt"), &node);
+    if (status == LQ_OK) add(to, (const char *)&node, sizeof node);
+    return status;
+}
+
+static lq_status fetch_and_take(lq *handle, text *to) {
+    lq_fetched fetched;
+    lq_row rows[8];
+    size_t got;
+    lq_status status = lq_fetch(handle, TEXT("size>=0"), &fetched);
+    if (status != LQ_OK) return status;
+    OK(lq_take(handle, fetched.result, rows, 8, &got));
+    WANT(got, fetched.count);
+    for (size_t at = 0; at < got; at++) add(to, rows[at].name, rows[at].name_size);
+    return status;
+}
+
+static lq_status open_all(lq *handle, text *to) {
+    lq_opening opening;
+    lq_status status = lq_open(handle, TEXT("size>=0"), NULL, &opening);
+    if (status == LQ_OK) say_result(to, handle, opening.result, opening.count);
+    return status;
+}
+
+static lq_status open_without_result(lq *handle, text *to) {
+    const lq_options options = {0, false, true};
+    lq_opening opening;
+    lq_status status = lq_open(handle, TEXT("size>=0"), &options, &opening);
+    if (status == LQ_OK) say_result(to, handle, opening.result, opening.count);
+    return status;
+}
+
+static lq_status create_late(lq *handle, text *to) {
+    lq_applied applied;
+    lq_status status = lq_create(handle, 1, TEXT("late"), LQ_FILE, 1, 1, &applied);
+    if (status == LQ_OK) add(to, (const char *)&applied.node, sizeof applied.node);
+    return status;
+}
+
+static lq_status read_many(lq *handle, text *to) {
+    lq_message all[4];
+    size_t got;
+    lq_status status = lq_read_many(handle, 2, all, 4, &got);
+    for (size_t at = 0; status == LQ_OK && at < got; at++) add(to, all[at].name, all[at].name_size);
+    return status;
+}
+
+static lq_status drop(lq *handle, text *to) {
+    (void)to;
+    return lq_drop(handle, 2);
+}
+
 /* A push, which gives nothing. */
 #define PUSH(name, call) \
     static lq_status name(lq *handle, text *to) { \
@@ -181,10 +235,11 @@ static const act values[] = {FOLDER_AT(1, "folder"),
                              OF(ENTRY, 3)};
 
 static step *const steps[] = {
-    children,         path,          attr_named,   push_attr,   push_text,  push_ne, push_attr,
-    push_text,        push_contains, push_and,     push_attr,   push_int32, push_gt, push_or,
-    push_not,         fetch_pushed,  fetch_pushed, push_attr,   push_int64, push_gt, push_not,
-    open_pushed, push_attr,     push_uint32,  push_uint64, push_and};
+    children,     path,         attr_named,  push_attr,    push_text,      push_ne,   push_attr,
+    push_text,    push_contains, push_and,   push_attr,    push_int32,     push_gt,   push_or,
+    push_not,     fetch_pushed, fetch_pushed, push_attr,   push_int64,     push_gt,   push_not,
+    open_pushed,  find_path,    fetch_and_take, open_all,  create_late,    read_many, drop,
+    open_without_result, push_attr, push_uint32, push_uint64, push_and};
 
 enum {
     ACTS = sizeof acts / sizeof *acts,
@@ -219,10 +274,16 @@ static uint64_t lacking(size_t number) {
     return acts[number].word == READ ? acts[number].node : number == 3 ? 1 : number == 4 ? 2 : 1;
 }
 
+/* Whether a call may lose the rebuilt result of its slot. */
+static bool loses_result(step *one) {
+    return one == open_pushed || one == open_all || one == open_without_result || one == read_many ||
+           one == drop;
+}
+
 /* Whether a call may go without memory: it does so without the rebuilt result of its slot. */
 static bool is_frugal(int script, size_t number) {
     return script == 0 ? acts[number].word == READ || acts[number].word == OPEN
-                       : number >= VALUES && steps[number - VALUES] == open_pushed;
+                       : number >= VALUES && loses_result(steps[number - VALUES]);
 }
 
 /* A script on a handle of its own, in which growth `which` of call `refused` is refused; that call is made again where
