@@ -150,7 +150,8 @@ uint64_t lq_fault_place(const lq *handle);
  * below act on the same volume and slots. `*size` is the size of the reply, which lq_text copies
  * until another lq_answer or lq_path; 0 for an empty line, which has none. A refused line is
  * answered with LQ_OK, and says so in its reply. LQ_NO_MEMORY: there is no reply, and nothing is
- * said of whether the line was carried out; a message that it read is lost. */
+ * said of whether the line was carried out; a message that it read is lost, to lq_result too, which
+ * from then on may answer an old result of that slot. */
 lq_status lq_answer(lq *handle, const char *line, size_t line_size, size_t *size);
 
 /* Copies the text of the last lq_answer or lq_path, and answers its size. Where `room` is smaller
