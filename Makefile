@@ -6,7 +6,7 @@
 #   make edits C=lq_desk    tries the must-fail edits of one crate
 #   make scenario N=clobber one scenario through the built program
 #   make scenarios          all of them, and the table of formulas
-#   make gate               the merge gate, about an hour
+#   make gate               the merge gate, over an hour from nothing
 #   make fmt                lays out the sources: of one crate with C=, else of all
 #   make bench              what five scripts cost
 #   make docs               draws the tables, links and pictures that scripts draw

@@ -62,9 +62,12 @@ static lq_status attr_named(lq *handle, text *to) {
     return status;
 }
 
+#define LONG_NAME "a name that has more bytes than stand in their place"
+
+/* A path to a name that isn't there, which takes memory to be read. */
 static lq_status find_path(lq *handle, text *to) {
     uint64_t node;
-    lq_status status = lq_find_path(handle, 1, TEXT("/folder//a.txt"), &node);
+    lq_status status = lq_find_path(handle, 1, TEXT("/folder//" LONG_NAME "/b"), &node);
     if (status == LQ_OK) add(to, (const char *)&node, sizeof node);
     return status;
 }
@@ -107,13 +110,18 @@ static lq_status read_many(lq *handle, text *to) {
     lq_message all[4];
     size_t got;
     lq_status status = lq_read_many(handle, 2, all, 4, &got);
-    for (size_t at = 0; status == LQ_OK && at < got; at++) add(to, all[at].name, all[at].name_size);
+    if (status != LQ_OK) return status;
+    WANT(got, 1);
+    if (got == 1) add(to, all[0].name, all[0].name_size);
     return status;
 }
 
 static lq_status drop(lq *handle, text *to) {
+    lq_message message;
+    lq_status status = lq_drop(handle, 2);
     (void)to;
-    return lq_drop(handle, 2);
+    if (status == LQ_OK) WANT(lq_read(handle, 2, &message), LQ_NOT_OPEN);
+    return status;
 }
 
 /* A push, which gives nothing. */
@@ -151,7 +159,6 @@ static lq_status open_pushed(lq *handle, text *to) {
     return status;
 }
 
-#define LONG_NAME "a name that has more bytes than stand in their place"
 #define LONG_TEXT "a text of more bytes than stand in their place"
 #define NAME(text) .name = text, .name_size = sizeof(text) - 1
 #define FILE_AT(folder, text) \
