@@ -139,7 +139,7 @@ impl<M> Board<M> {
     ///
     /// The keeper's book extends the seat's. A slot's seat was out under the name that the keeper
     /// knew, and had asked at least as often as the keeper knew. Where it leads and no seat is
-    /// enlisted, it has gathered all changes. From then on the seat's number is nobody's.
+    /// enlisted, it has gathered all changes. The seat's number is not given out again.
     pub fn join(&self, keeper: &mut Keeper<M>, seat: Seat<M>)
         requires board { (keeper.old.board ≡ self.now) × (seat.board ≡ self.now) }
         ensures keeper { keeper.new ≡ record {

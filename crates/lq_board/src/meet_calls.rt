@@ -15,7 +15,7 @@ use std::marker::Brand;
 impl<M> Board<M> {
     /// Adds a lawful change to the book, and answers the number of changes that it then has.
     ///
-    /// Its author is a new seat, which then makes no other; so no seat may lead. The state after
+    /// Its author is a new seat that makes no other change; so no seat may lead. The state after
     /// the new book is the state after the change. A lawful change has room: a volume takes at most
     /// 1,000,000,000,000 changes. It takes no memory.
     pub fn add(&self, keeper: &mut Keeper<M>, change: &Change) -> u64

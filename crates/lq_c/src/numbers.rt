@@ -22,7 +22,7 @@ pub fn number_result(made: &mut u64, status: u32, shown: &mut u64)
     }
 }
 
-/// Whether a number is that of the latest result; 0 is none.
+/// Whether the latest result has this number. No result has the number 0.
 pub fn is_latest(made: u64, number: u64) -> bool
     ensures { result ≡ is_latest made number }
 {

@@ -1,5 +1,5 @@
-//! What calls that make a result write, in C's layout: the same as in lq_embed, and the result's
-//! number.
+//! What calls that make a result write, in C's layout: the structs of lq_embed, each with the
+//! result's number.
 use lq_embed::{FetchedOut, OpeningOut, RebuiltOut};
 
 /// An opened query.

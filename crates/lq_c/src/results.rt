@@ -9,8 +9,8 @@ use lq_embed::RowOut;
 /// No entry is left.
 const NO_ENTRY: u32 = 4;
 
-/// As `Embedded::take_entries`, and writes how many there were: 0, or 40 where `number` isn't that
-/// of the latest result, of which `made` is the number.
+/// As `Embedded::take_entries`, and writes how many there were: 0, or 40 where `number` isn't
+/// `made`, the number of the latest result.
 #[unsafe(no_mangle)]
 pub extern "C" fn lqp_take(
     handle: &mut Lq,

@@ -41,7 +41,7 @@ fn is_reply(reply: &Reply, wanted: &str, numbers: (u64, u64)) -> bool {
     told == wanted && one == numbers.0 && two == numbers.1
 }
 
-// Whether a desk answers an event so.
+// Whether a desk answers an event with this reply.
 fn does(desk: &mut Desk, event: Event, wanted: &str, numbers: (u64, u64)) -> bool {
     let reply = desk.event(&event);
     is_reply(&reply, wanted, numbers)

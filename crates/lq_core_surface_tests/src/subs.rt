@@ -17,8 +17,8 @@ fn number(parcel: &Option<Parcel>) -> u64 {
     }
 }
 
-// What a subscription to every entry gives after a file came: a message, the same once more after
-// it was put back, and none.
+// The parcels of a subscription to every entry after a file was created: a message, that message
+// again after it was put back, and none.
 fn given(alloc: Global) -> Result<[u64; 3], Refusal> {
     let volume = Volume::new(alloc, 9);
     let change = lawful(alloc, &volume, "a")?;

@@ -37,7 +37,7 @@ fn is_told(message: &Message, seq: u64, last: bool, name: &str) -> bool {
         && message.node == 2
 }
 
-// What that tells `name=*`.
+// The messages of that change for `name=*`.
 fn told(alloc: Global, moved: bool) -> Result<Vec<Message>, Refusal> {
     let predicate = read(alloc, "name=*")?;
     let before = volume(alloc)?;

@@ -7,7 +7,7 @@ use lq_value::Refusal;
 use std::alloc::{AllocError, Global};
 use std::test::Fail;
 
-// texts, of which scenarios/json-borders says which are JSON within the limits
+// texts; scenarios/json-borders says which of them are JSON within the limits
 const TEXTS: [&str; 40] = [
     // equal keys, and keys that an escape makes equal
     r#"{"size":1,"size":2}"#,

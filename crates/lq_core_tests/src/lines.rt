@@ -8,7 +8,7 @@ use std::alloc::{AllocError, Global};
 use std::cell::Cell;
 use std::test::Fail;
 
-/// Answers a line by the line.
+/// Answers each line with the line itself.
 #[derive(Drop)]
 struct Echo;
 
@@ -179,7 +179,7 @@ const RUNS: [Run; 10] = [
     ("ab\n", 9, false, 99, 3, Err(RunFault::Write), "ab\n", 3_03),
 ];
 
-/// Whether a run goes as it has to.
+/// Whether a run answers and writes what its row says, by these calls.
 fn is_met(alloc: Global, run: &Run) -> Result<bool, AllocError> {
     let (input, step, fails, takes, room, wanted, output, digits) = *run;
     let calls = Cell::new(0);

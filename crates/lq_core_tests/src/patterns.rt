@@ -1,5 +1,5 @@
 //! Of lq_value: sources that a formula can't have, since a `\` ends them, and drawn patterns over
-//! long texts, of which a plain body tells the same.
+//! long texts, with the answers of a plain body.
 use lq_value::{Element, Elements, Item, Pattern, Refusal};
 use lq_value_pattern::{Starred, read_elements};
 use std::alloc::{AllocError, Global};
@@ -26,7 +26,7 @@ fn a_source_has_its_leftmost_fault(rt: HostRuntime) -> Result<(), Fail> {
     Ok(())
 }
 
-// sources that are plain text and stars, with whether a star stands before the text and behind it
+// sources that are plain text and stars, with whether a star stands before the text and after it
 const STARRED: [(&str, bool, bool); 4] = [
     ("*.txt", true, false),
     ("draft*", false, true),
@@ -48,7 +48,7 @@ fn a_text_with_stars_is_kept_as_text(rt: HostRuntime) -> Result<(), Fail> {
     Ok(())
 }
 
-// what a drawn pattern and a drawn text are made of
+// the pieces of a drawn pattern, and those of a drawn text
 const PIECES: [&str; 16] = [
     "a", "b", "é", "?", "?", "ab", "a?", "?b", "[ab]", "[^b]", "[a-c]", "[^é-ü]", "???????", "*",
     "*", "*?",
@@ -59,7 +59,8 @@ const TEXTS: [&str; 16] = [
     "abababab",
 ];
 
-// the same where most elements are sets: of few items and of many, of ASCII and others
+// the pieces of a drawn pattern whose elements are mostly sets: of few items and of many, of ASCII
+// characters and of others
 const SETS: [&str; 16] = [
     "[abc]",
     "[^x]",
@@ -167,7 +168,7 @@ fn fits_plainly(alloc: Global, elements: &[Element], text: &str) -> Result<bool,
     Ok(ends.last() == Some(&true))
 }
 
-// Whether the pattern fits the text, if the plain body tells the same.
+// Whether the pattern fits the text; an error where the plain body answers otherwise.
 fn fits_as_plainly(alloc: Global, source: String, text: &str) -> Result<bool, Fail> {
     let Ok(pattern) = Pattern::read(alloc, source.as_str()) else {
         return Err(Fail::from(source));

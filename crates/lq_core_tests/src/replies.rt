@@ -57,8 +57,8 @@ fn entries(alloc: Global) -> Result<Vec<Entry>, Refusal> {
     Ok(entries)
 }
 
-// Whether a response by pieces is what it is in the plain way, after what stood before, and so is
-// what answers an event without a response.
+// Whether a response by pieces, after bytes that stood before, equals the one in the plain way, and
+// so does the reply to an event that is written without a response.
 fn is_alike(alloc: Global, response: &Response) -> Result<bool, Refusal> {
     let mut plain = Vec::from_slice(alloc, b"before")?;
     put_plainly(alloc, &mut plain, response)?;
@@ -110,7 +110,7 @@ fn test_mark(alloc: Global, row: &'static str, cause: Cause) -> Result<(), Fail>
     test_reply(alloc, row, Reply::Took(Read::Fin(mark)))
 }
 
-// What a slot is read.
+// The replies to reads of a slot.
 fn test_reads(alloc: Global) -> Result<(), Fail> {
     test_message(alloc, "created", true, Opcode::Created)?;
     test_message(alloc, "removed", false, Opcode::Removed)?;
@@ -127,7 +127,7 @@ fn test_reads(alloc: Global) -> Result<(), Fail> {
     test_reply(alloc, "ended", Reply::Took(Read::Ended))
 }
 
-// What an event is answered beside.
+// The other replies to events.
 fn test_replies(alloc: Global) -> Result<(), Fail> {
     let opened = Reply::Opened {
         slot: 1,

@@ -1,4 +1,4 @@
-//! A subscription is told a change that is checked, not planned: so one does with a volume alone.
+//! A caller with only a volume notifies a subscription of changes that are checked, not planned.
 ghost use Rattle.std.specs.Prelude.{◌≡◌, ◌<◌, ◌≤◌, ◌+◌, IsTrue, OnOk};
 ghost use Rattle.lq_desk_sub.specs.Held.{is_live};
 
@@ -20,7 +20,7 @@ fn number(parcel: &Option<Parcel>) -> u64 {
     }
 }
 
-// Tells it of a file that comes into the volume. `NotOpen` where that ended it.
+// Creates a file in the volume and notifies the subscription. `NotOpen` where that ended it.
 fn tell(alloc: Global, sub: &mut Sub, volume: &mut Volume, name: &str) -> Result<(), Refusal>
     requires few { sub.old.held.sent < 100 }
     requires live { IsTrue (is_live sub.old.held) }
@@ -41,7 +41,7 @@ fn tell(alloc: Global, sub: &mut Sub, volume: &mut Volume, name: &str) -> Result
     }
 }
 
-// The number of its next parcel, and of the same once more after it was put back.
+// The number of its next parcel, and the number again after the parcel was put back.
 fn lent(sub: &mut Sub) -> (u64, u64)
     ensures sent { sub.new.held.sent ≡ sub.old.held.sent }
     ensures mark { sub.new.held.mark ≡ sub.old.held.mark }
@@ -54,8 +54,9 @@ fn lent(sub: &mut Sub) -> (u64, u64)
     (given, number(&sub.next()))
 }
 
-// What a subscription to every entry, `name=*`, gives of two files that come: the first message,
-// which is put back, twice, the second and none; then it ends, and gives its mark and none.
+// The parcels of a subscription to every entry, `name=*`, after two files were created: the first
+// message twice, since it is put back, the second and none; then it ends, and gives its mark and
+// none.
 fn given(alloc: Global) -> Result<[u64; 6], Refusal> {
     let mut volume = Volume::new(alloc, 9);
     let mut sub = Sub::new(alloc, &read(alloc, "name=*")?, 0, 2, false)?;

@@ -156,7 +156,7 @@ impl Slots {
         self.movable |= told;
     }
 
-    /// Ends each live subscription whose end was asked for.
+    /// Ends each live subscription whose reader has hung up.
     pub fn notice_all(&mut self, number: u64)
         requires { AllByRecursion (IsFew (2 ^ 63 - 1)) (map (option_map slot_of) self.old) }
         ensures { map (option_map slot_of) self.new ≡

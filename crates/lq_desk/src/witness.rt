@@ -34,7 +34,7 @@ impl Witness {
         Witness {}
     }
 
-    /// The world after an event that was answered so.
+    /// The world after an event that got this answer.
     #[inline(always)]
     pub fn step(_before: &Witness, _event: &Event, _reply: &Reply) -> Witness
         ensures { result.world ≡ stepped _before.now.world _event.now (answer_of _reply.now) }
@@ -42,7 +42,7 @@ impl Witness {
         Witness {}
     }
 
-    /// The world after a turn whose event was answered so.
+    /// The world after a turn whose event got this answer.
     #[inline(always)]
     pub fn turn(_before: &Witness, _event: &Event, _reply: &Reply) -> Witness
         ensures { result.world ≡ turned _before.now.world _event.now (answer_of _reply.now) }

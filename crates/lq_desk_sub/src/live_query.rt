@@ -1,4 +1,4 @@
-//! The query of a subscription, and what is found of it once.
+//! The query of a subscription, with its names and number spans, which are looked up once.
 ghost use Rattle.std.specs.Prelude.{◌≡◌, ◌<◌, ℕ, Bool, [], not, IfNone, IfOk, IfSome};
 ghost use Rattle.lq_value.specs.Refusal.{FailsOnlyForMemory};
 ghost use Rattle.lq_predicate.specs.Names.{names_of};

@@ -1,4 +1,4 @@
-//! The messages of a subscription: those held, and behind them those made ready.
+//! The messages of a subscription: those held, and after them those made ready.
 ghost use Rattle.std.specs.Prelude.{◌≡◌, ◌+◌, ◌<◌, ◌≤◌, ◌^◌, [], ◌∷◌, ◌++◌, length, take, vec_len, Some, true, false, OnOk, OnErr, MatchOption};
 ghost use Rattle.std.specs.VecDeque.{deque_len, deque_capacity};
 ghost use Rattle.lq_value.specs.Refusal.{FailsOnlyForMemory};

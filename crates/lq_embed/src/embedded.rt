@@ -16,7 +16,7 @@ use lq_value::{Entry, Refusal};
 use std::alloc::Global;
 use std::vec::IntoIter;
 
-/// A session, and what its calls gave that wasn't fetched yet.
+/// A session, and the entries and the text that its calls gave and the caller hasn't taken yet.
 ///
 /// Contracts see it as the `SessionState` that it holds.
 pub struct Embedded {

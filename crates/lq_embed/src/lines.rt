@@ -20,7 +20,7 @@ impl Embedded {
     /// Answers a line of a script, without its LF, as `run` answers it: the text of the reply is
     /// kept. An empty line has none.
     ///
-    /// Refused: `NoMemory`, and then nothing is said of the text and of what the line did.
+    /// Refused: `NoMemory`; no clause says then what the text is and what the line did.
     pub fn answer(&mut self, line: &[u8]) -> Result<(), Refusal>
         ensures text { OnOk result ((holds self.new).text
             ≡ reply_to world_rules (holds self.old).session (line_of line.now)) }

@@ -2,7 +2,7 @@
 ghost use Rattle.std.specs.Prelude.{◌≡◌, length};
 ghost use Rattle.lq_embed.specs.Outs.{ended, text_put};
 
-/// Copies a text to the front of `out`, and answers its size. Where there is room behind it, a NUL
+/// Copies a text to the start of `out`, and answers its size. Where there is room after it, a NUL
 /// comes there; where `out` is smaller nothing is copied. It takes no memory.
 pub fn put_text(out: &mut [u8], text: &[u8]) -> usize
     ensures size { result ≡ length text.now }

@@ -45,7 +45,7 @@ impl<T, F> Split<Known<T, F>> for Apart {
     ghost right = { λ v. taker v.room v.floor v };
 }
 
-// The same for a new port, for which the call picks the room and the floor.
+// Splits the pass of a new port into its two ends. The call picks the room and the floor.
 impl<T, F> Split<Known<T, F>> for Brand {
     ghost use Rattle.lq_port.specs.Port.{putter, taker};
 

@@ -31,7 +31,7 @@ pub(crate) fn fault_place(formula: &str) -> Option<u64>
     fault_within(formula)
 }
 
-// The same for a text that isn't too long.
+// The byte offset of the leftmost fault of a text that isn't too long; none where it has no fault.
 fn fault_within(text: &str) -> Option<u64>
     requires { length text.now ≤ 4096 }
     ensures { result ≡ fault_of (reading_of text.now) }

@@ -34,7 +34,8 @@ impl Spans {
         self.sizes.is_beside(from as i128, to as i128)
     }
 
-    /// The same for two times.
+    /// Whether two times are both below all numbers that the predicate compares `last_modified`
+    /// with, or both above them.
     pub fn is_beside_times(&self, from: i64, to: i64) -> bool
         ensures { result ≡ is_beside self.now.times from to }
     {

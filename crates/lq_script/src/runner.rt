@@ -40,7 +40,7 @@ impl<
     G: Gate + Sync + 's,
     W: Sink,
 > Runner<'s, 'w, E, N, R, G, W> {
-    /// A runner of a session's lines, which was given none.
+    /// A runner of a session's lines, before the first line.
     pub fn new(
         alloc: Global,
         session: ServerSession<'s, E, N, R, G>,

@@ -1,4 +1,4 @@
-//! What the lines of a script are answered, by the public calls of a server.
+//! The replies to the lines of a script, by the public calls of a server.
 use crate::batch::{Turn, read_beside};
 use crate::gate::Gate;
 use crate::readers::Readers;
@@ -74,7 +74,7 @@ impl<
         self.workers.end_all();
     }
 
-    /// What a question is answered that is no read. Refused as that is; after `NoMemory` the
+    /// The answer to a question that is no read. Refused as the question is; after `NoMemory` the
     /// session is of no more use.
     pub fn answer(&mut self, question: &Question) -> Result<Response, Refusal> {
         match question {

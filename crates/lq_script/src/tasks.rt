@@ -2,7 +2,7 @@
 use std::alloc::AllocError;
 use std::sync::Wait;
 
-/// What the thread of a slot is given, does and gives back.
+/// A task, which the thread of its slot is given, carries out and gives back.
 pub trait Task {
     /// The slot whose thread it is for, 1 to 64.
     fn slot(&self) -> u64;

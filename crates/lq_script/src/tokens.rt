@@ -1,4 +1,4 @@
-//! The tokens of one server, a seat of no slot and readers, and what is answered by them.
+//! The tokens of one server, a seat of no slot and readers, and the answers of calls with them.
 ghost use Rattle.std.specs.Prelude.{◌≡◌, true};
 
 use lq_board::Seat;
@@ -126,7 +126,7 @@ impl<N: Named> OwnSeat<N> {
     }
 }
 
-/// A reader of N's board, whose seat is that of its slot.
+/// A reader of N's board, with the seat of its own slot.
 pub struct OwnReader<N: Named> {
     reader: Reader,
     of: PhantomData<N>,
@@ -157,7 +157,7 @@ impl<N: Named> OwnReader<N> {
         self.reader.slot()
     }
 
-    /// What its opening is answered, with the result then. Refused: `NoMemory`.
+    /// The reply to its opening, with the result then. Refused: `NoMemory`.
     pub fn opened(&self, alloc: Global) -> Result<Response, Refusal> {
         let slot = self.reader.slot();
         let reply = Reply::Opened {
@@ -168,7 +168,7 @@ impl<N: Named> OwnReader<N> {
         Ok(Response::Reply { slot, reply })
     }
 
-    /// Fills its port, and takes the next of what was told. Refused as `Reader::read` is.
+    /// Fills its port, and reads the next message or the mark. Refused as `Reader::read` is.
     pub fn read<R: Wait>(&mut self, rt: &R, server: &Server<N>) -> Result<Response, Refusal> {
         server.pump(rt, &mut self.reader);
         let reply = Reply::Took(self.reader.read(rt)?);
@@ -219,7 +219,7 @@ impl<N: Named> OwnReader<N> {
     }
 }
 
-// The same entries once more. Refused: `NoMemory`.
+// A copy of the entries. Refused: `NoMemory`.
 fn copied(alloc: Global, entries: &[Entry]) -> Result<Vec<Entry>, Refusal> {
     let mut copy = Vec::with_capacity(alloc, entries.len())?;
     for entry in entries {

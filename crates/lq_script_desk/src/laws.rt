@@ -25,8 +25,8 @@ pub fn scripts_tell_readers()
 
 /// The first session has the empty history, and of every history of a session the headline is true.
 ///
-/// Each call of a session goes on from its history (`specs/SessionHistory`), lines and typed calls
-/// alike. So what was read of a slot since its opening is as the headline says, at every moment.
+/// Each call of a session goes on from its history (`specs/SessionHistory`): a line, and a typed
+/// call too. So what was read of a slot since its opening is as the headline says, at every moment.
 pub fn sessions_tell_readers()
     ensures { SessionsTell script_world }
 {

@@ -51,7 +51,7 @@ pub fn put_reply(out: &mut Vec<u8>, response: &Response) -> Result<(), Refusal>
 /// Appends the text of the reply to an event of this slot, and LF, to `out`. The slot is 0 where
 /// the event names none.
 ///
-/// The text is that of `Response::Reply`, but the reply needn't be moved into a `Response`.
+/// It writes the text of `Response::Reply` without moving the reply into a `Response`.
 /// Refused: `NoMemory`.
 pub fn put_event_reply(out: &mut Vec<u8>, slot: u64, reply: &Reply) -> Result<(), Refusal>
     ensures refused { FailsOnlyForMemory result }

@@ -77,7 +77,7 @@ impl Intake {
 
     /// Appends the reply to the line in progress to `out`, after these last bytes of it.
     ///
-    /// A line of which nothing came before is answered where it stands, without a copy. Refused:
+    /// A line that stands in `bytes` whole is answered from there, without a copy. Refused:
     /// `Memory`; `out` is then unchanged.
     pub(crate) fn answer_with<S: Responder>(
         &mut self,

@@ -6,8 +6,8 @@ use lq_value::Refusal;
 
 /// A responder to lines, one after another.
 ///
-/// It gets lines without their LF and CR. It gets no empty line, and of a line that is too long not
-/// the bytes.
+/// It gets lines without their LF and CR. It gets no empty line, and no bytes of a line that is too
+/// long.
 pub trait Responder {
     /// The state that the replies depend on.
     ghost State: { Type 0 };

@@ -39,7 +39,8 @@ pub fn first_closes_are_refused_late()
     ensures { FirstClosesAreRefusedLate }
 {}
 
-/// Each change of a book is that of one call, where the calls were answered its numbers, each once.
+/// Each change of a book was made by exactly one call, where the calls were answered the numbers of
+/// the book, each once.
 ///
 /// The leading seat of a counted server knows that they were, from `dismiss` and `retire`.
 pub fn calls_make_the_book()

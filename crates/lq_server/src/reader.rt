@@ -194,7 +194,7 @@ impl Reader {
     /// What it has received is a prefix of its query's update list, each message once and in order.
     /// Its mark comes after the whole list up to the change that it names. Its result is the
     /// query's wherever that is settled, and after the mark. The call does nothing.
-    /// `answers_are_told` says the same of the answers of its reads.
+    /// `answers_are_told` says this of the answers of its reads.
     pub fn headline(&self)
         ensures { ReaderIsTold self.now }
     {

@@ -175,7 +175,7 @@ impl<N: Named> Server<N> {
     /// A seat of no slot, which made no change. Its book begins with the volume of the base.
     ///
     /// It may make changes where each seat of the server may, else once it is enlisted. It knows
-    /// the changes so far, which no clause of this call says. Refused: `NoSeat`, just where 16
+    /// the changes so far, but no clause of this call says so. Refused: `NoSeat`, just where 16
     /// seats are out: a clause of the call under the lock says so, since this call is given no seat
     /// that could know it. A dropped seat still counts as out. It takes no memory.
     pub fn seat<R: Wait>(&self, rt: &R) -> Result<Seat, Refusal>

@@ -79,7 +79,8 @@ fn end_slot(
     closed
 }
 
-// The same for an optional subscription. The slot is never free here.
+// Closes an optional subscription, and gives its seat the name that says so. The slot is never free
+// here.
 fn close_at(
     board: &Board<Identity>,
     keeper: &mut Keeper<Identity>,

@@ -133,8 +133,8 @@ pub(crate) fn notice_by(
     notice_slot(board, keeper, slot, place, number);
 }
 
-// The rest of a sync, after the subscription has ended where its reader asked for that: its port is
-// filled, and its progress told.
+// The rest of a sync, after the subscription has ended where its reader asked for that: fills its
+// port, and answers its progress.
 fn show<R: Wait>(
     rt: &R,
     keeper: &Keeper<Identity>,
@@ -159,7 +159,8 @@ fn show<R: Wait>(
     }
 }
 
-// What a reader is told after this many changes, where it has taken this many parcels.
+// What a sync answers its reader after this many changes, where this many parcels were taken: that
+// the subscription is live, or how it ended.
 fn told_after(change: u64, seen: u64, mark: Option<Mark>) -> Told
     ensures { result ≡ told_by change seen mark }
 {

@@ -1,4 +1,4 @@
-//! What the tables of the scenarios ask of a server, and what they are told.
+//! The calls in the tables of the scenarios, and the answers that are wanted.
 use crate::random_changes::{Draws, numbered};
 use lq_update::Cause;
 use lq_value::{AttrName, Entry, Kind, Name, Refusal, Value};
@@ -27,9 +27,9 @@ pub enum Act {
     OpenMoved(&'static str, u64, u64),
     /// An opening that is drawn.
     OpenDrawn,
-    /// Right after an opening: what its reader is told is kept, and compared in the end.
+    /// Right after an opening: what its reader reads is kept, and compared in the end.
     Keep,
-    /// A query, and what it has to find.
+    /// A query, and the entries that it has to find.
     Fetch(&'static str, &'static [Row]),
     Find(&'static str),
     /// A node and a name that it has to have.
@@ -74,7 +74,7 @@ pub enum Told {
     Update(u64, u64, u64),
     /// seq, change, cause.
     End(u64, u64, Cause),
-    /// Why a subscription ended that was read out.
+    /// Why a subscription ended whose parcels were all read.
     Over(Cause),
     Empty,
     Ended,
@@ -85,7 +85,7 @@ pub enum Told {
     Refused(Refusal),
 }
 
-/// A call, and what it is wanted to answer.
+/// A call, and the answer that is wanted.
 pub type Call = (Act, Told);
 
 /// Returns whether these are just the entries of the rows, in order.

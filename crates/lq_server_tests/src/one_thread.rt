@@ -107,7 +107,7 @@ pub static SLOT_AFTER_HANG_UP: Scenario = Scenario {
     turns: &[&[USED_AFTER_HANG_UP]],
 };
 
-/// And after one that was closed and then hung up.
+/// The first slot is used again after a reader that was closed and then hung up.
 const USED_AFTER_CLOSE: Table = (
     1,
     &[
@@ -160,7 +160,7 @@ pub static READERS_DROPPED: Scenario = Scenario {
     turns: &[&[DROPS]],
 };
 
-/// Where each number refuses an opening, the first that fits.
+/// Openings with a bad port, a bad backlog or both: the port is refused first.
 const NUMBERS: Table = (
     1,
     &[
@@ -180,7 +180,7 @@ const NUMBERS: Table = (
     ],
 );
 
-/// With the 64 that stay, as many openings as the volume takes changes.
+/// Openings that end. With the 64 that stay they are as many as the volume takes changes.
 const ENDED: Table = (
     1936,
     &[
@@ -226,7 +226,7 @@ pub static SLOTS: Scenario = Scenario {
     ],
 };
 
-/// Calls that hold the lock and take no seat for good.
+/// Calls that hold the lock, after which no more seats are out than before.
 const SEATS_USED: Table = (
     1,
     &[
@@ -236,7 +236,7 @@ const SEATS_USED: Table = (
     ],
 );
 
-/// With one that the thread has, and one that retires the server.
+/// Seats that are dropped. With the thread's own, and one that retires the server, they are all.
 const SEATS_DROPPED: Table = (13, &[(Act::Seat, Told::Number(0))]);
 
 const SEATS_RUN_OUT: Table = (

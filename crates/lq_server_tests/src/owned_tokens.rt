@@ -38,7 +38,7 @@ impl<N: Named> Model for SeatOf<N> {
         × (s.seat.author.signs ≡ true) };
 }
 
-/// A reader of N's server, whose seat is its own, and what it was told.
+/// A reader of N's server, with the seat of its own slot, and what it has read.
 pub struct ReaderOf<N: Named> {
     reader: Reader,
     log: Log,
@@ -206,7 +206,7 @@ impl<N: Named> ReaderOf<N> {
         })
     }
 
-    /// As `Server::finish`; what it was told, where it could be finished.
+    /// As `Server::finish`; the answer is what it has read, where it could be finished.
     pub fn finish<R: Wait>(
         self,
         rt: &R,

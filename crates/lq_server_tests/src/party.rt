@@ -1,4 +1,4 @@
-//! What one thread has, and what it does with it beside others.
+//! One thread of a scenario: its tokens, and the calls that it makes beside other threads.
 use crate::acts::{Act, Call, Told, change};
 use crate::owned_tokens::{ReaderOf, SeatOf};
 use crate::random_changes::{DrawnOpening, Draws};
@@ -9,11 +9,11 @@ use lq_volume::Change;
 use std::alloc::Global;
 use std::sync::Wait;
 
-/// How often a thread gives calls, and these calls.
+/// How often a thread makes a list of calls, and the calls.
 pub type Table = (usize, &'static [Call]);
 
-/// The changes that were accepted, what was told that was kept, and the row that was answered
-/// otherwise than is wanted, counted from 0.
+/// The changes that were accepted, what the kept readers have read, and the row whose answer isn't
+/// the wanted one, counted from 0.
 #[derive(Drop)]
 pub struct Acted {
     pub taken: Vec<Taken>,
@@ -21,8 +21,8 @@ pub struct Acted {
     pub stop: Option<usize>,
 }
 
-/// A seat, the reader that was opened last, what is drawn, the table that is next, how often a call
-/// is given that is answered `NoMemory`, and what was done.
+/// A seat, the reader that was opened last, the draws, the next table, how often a call is made
+/// that is answered `NoMemory`, and what was done.
 pub struct Party<N: Named> {
     pub seat: SeatOf<N>,
     pub reader: Option<ReaderOf<N>>,
@@ -47,7 +47,7 @@ impl<N: Named> Drop for Party<N> {
 }
 
 impl<N: Named> Party<N> {
-    /// Gives the calls of its table, up to one that isn't answered as is wanted.
+    /// Makes the calls of its table, up to one whose answer isn't the wanted one.
     pub fn play<R: Wait>(&mut self, rt: &R, alloc: Global, server: &Server<N>) {
         let Some(table) = self.table else {
             return;
@@ -62,7 +62,7 @@ impl<N: Named> Party<N> {
         }
     }
 
-    /// Whether a call is answered as is wanted.
+    /// Whether a call has the wanted answer.
     fn is_answered<R: Wait>(
         &mut self,
         rt: &R,

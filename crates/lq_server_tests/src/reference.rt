@@ -1,4 +1,5 @@
-//! What readers have to be told of accepted changes: for each, the difference of two whole results.
+//! The messages that readers have to read: for each accepted change, the difference of two whole
+//! results.
 use crate::acts::Told;
 use crate::random_changes::DrawnOpening;
 use lq_desk_sub::Read;
@@ -23,7 +24,7 @@ pub struct Taken {
 /// The results of a query after each number of changes, none first.
 pub type Results = Vec<Vec<Entry>>;
 
-/// What is told of an entry.
+/// How an entry is reported.
 #[derive(Clone, Copy)]
 enum Line {
     Removed,
@@ -34,8 +35,8 @@ enum Line {
 /// One subscription: what was asked, its slot, the numbers of changes known before its opening, at
 /// it and after it, and its mark.
 ///
-/// Where it is kept also the result that it began with, what it was told up to its end, and the
-/// result then.
+/// Where its reader is kept, also the result that it began with, what it read up to its end, and
+/// the result then.
 #[derive(Drop)]
 pub struct Log {
     pub query: &'static str,
@@ -75,7 +76,8 @@ fn are_answered(volume: &mut Volume, taken: &[Taken]) -> bool {
     true
 }
 
-/// Whether the volume that is left is the one after these changes, each answered alike.
+/// Whether a plain volume answers these changes as the server did, and the volume that is left is
+/// equal to it then.
 pub fn is_left(alloc: Global, left: &Volume, taken: &[Taken]) -> Result<bool, Refusal> {
     let mut volume = Volume::new(alloc, LIMIT);
     let answered = are_answered(&mut volume, taken);
@@ -117,7 +119,7 @@ fn other<'a>(entries: &'a [Entry], entry: &Entry) -> Option<&'a Entry> {
     entries.get(place)
 }
 
-/// Whether this line tells of the entry, where the other result has `other` for its node.
+/// Whether the entry has a message of this kind, where the other result has `other` for its node.
 fn is_line(line: Line, moved: bool, entry: &Entry, other: Option<&Entry>) -> bool {
     match (line, other) {
         (Line::Moved, None) => false,
@@ -128,7 +130,7 @@ fn is_line(line: Line, moved: bool, entry: &Entry, other: Option<&Entry>) -> boo
     }
 }
 
-/// Whether a message tells a line of an entry.
+/// Whether a message is the one of this kind for an entry.
 fn tells(message: &Message, line: Line, entry: &Entry, other: Option<&Entry>) -> bool {
     let is_of = match (line, &message.op, other) {
         (Line::Removed, Opcode::Removed, _) | (Line::Created, Opcode::Created, _) => true,
@@ -181,7 +183,7 @@ impl Log {
         })
     }
 
-    /// Whether it began with the result at its opening, was told what it had to be up to its mark,
+    /// Whether it began with the result at its opening, read exactly the messages up to its mark,
     /// and ended with the result there.
     pub fn is_told(&self, alloc: Global, results: &[Vec<Entry>]) -> Result<bool, Refusal> {
         let Some(mark) = self.mark else {
@@ -196,7 +198,7 @@ impl Log {
         )
     }
 
-    /// Whether just the messages of all changes between its opening and its mark were told.
+    /// Whether it read exactly the messages of all changes between its opening and its mark.
     fn are_told(&self, results: &[Vec<Entry>], mark: Mark) -> bool {
         let mut told = 0;
         for before in self.opened..mark.change {
@@ -209,7 +211,7 @@ impl Log {
     }
 
     /// How many messages there were with those of the change after this one: what left, what moved
-    /// where that was asked, and what came, by rising node. `None` where one wasn't told.
+    /// where that was asked, and what came, by rising node. `None` where one is missing.
     fn count(&self, results: &[Vec<Entry>], before: u64, told: usize) -> Option<usize> {
         let change = before.saturating_add(1);
         let old = results.get(before as usize)?;

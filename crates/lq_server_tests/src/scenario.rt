@@ -31,9 +31,9 @@ pub struct Done {
 }
 
 impl Done {
-    /// Whether the accepted changes have the numbers from 1 on, each once; a plain volume answers
-    /// them alike and ends as the server's did; and each reader that was kept was told what they
-    /// tell. Refused as `Volume::apply` is, or `NoMemory`.
+    /// Whether the accepted changes have the numbers from 1 on, each once; a plain volume gives the
+    /// same answers to them and ends as the server's did; and each reader that was kept read
+    /// exactly their messages. Refused as `Volume::apply` is, or `NoMemory`.
     pub fn is_told(&mut self, alloc: Global) -> Result<bool, Refusal> {
         let acted = &mut self.acted;
         acted.taken.sort_by_key(|one| one.accepted.change)?;
@@ -50,7 +50,7 @@ impl Done {
 }
 
 impl Acted {
-    /// Whether each reader of this query that was kept was told what the changes tell it.
+    /// Whether each reader of this query that was kept read exactly the messages of the changes.
     fn are_told(&self, alloc: Global, query: &str) -> Result<bool, Refusal> {
         let mut results = Vec::new(alloc);
         find_results(alloc, query, &self.taken, &mut results)?;

@@ -79,7 +79,7 @@ impl<'a> Work for Writes<'a> {
     }
 }
 
-/// How many messages come in their order, each by one read that waits, up to so many.
+/// How many messages come in their order, each by one read that waits, `messages` at most.
 fn count_waiting<N: Named, R: Wait>(
     rt: &R,
     server: &Server<N>,

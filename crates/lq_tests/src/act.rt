@@ -16,7 +16,7 @@ pub enum Act {
     Remove(u64),
     /// A node, a folder's node and a name.
     Move(u64, u64, &'static str),
-    /// The same, and the node that has the place goes.
+    /// A node, a folder's node and a name. The node that has the place is removed.
     Clobber(u64, u64, &'static str),
     /// A node and a size.
     Write(u64, u64),

@@ -1,5 +1,5 @@
-//! With any one growth refused all is as without: calls that are given again where memory ran out,
-//! and the places of faults.
+//! Whichever growth is refused, the answers stay the same: calls that are repeated where memory ran
+//! out, and the places of faults.
 use crate::act::Act;
 use crate::plain::is_same;
 use lq_predicate::{Predicate, read};
@@ -56,7 +56,7 @@ none|a=[\^]
 none|((name=="*[fF]oo*")&&(size>10))
 none|!(a=1||b=2&&!c=3)&&(('a b'>=c\ d))"#;
 
-/// Tells a result that is kept of one act, and makes it; the number of the next message.
+/// Folds the messages of an act into a kept result and makes the act; the next message's number.
 fn follow(
     alloc: Global,
     predicate: &Predicate,

@@ -5,9 +5,9 @@ use lq_predicate::read;
 use lq_value::{Refusal, Value, View};
 use std::alloc::Global;
 
-/// What an event is made of, of node 2 where it sets an attribute.
+/// An event of a table. One that sets an attribute sets it at node 2.
 pub enum Ask {
-    /// A live query: formula, port, backlog, whether moves are told.
+    /// A live query: formula, port, backlog, `moved`.
     Open(&'static str, u64, u64, bool),
     Change(Act),
     /// An attribute's name and its value.

@@ -77,7 +77,7 @@ fn is_foreseen(predicate: &Predicate, planned: &Planned<'_>, plain: &[Message]) 
     matches_of(predicate, planned).may_have_messages() != is_quiet
 }
 
-/// How many messages a change tells a predicate, by both bodies the same.
+/// How many messages a change has for a predicate; an error where the two bodies differ.
 fn compare(
     alloc: Global,
     predicate: &Predicate,
@@ -96,8 +96,8 @@ fn compare(
     Ok(step(alloc, predicate, volume, change, 7, moved)?.len() as u64)
 }
 
-/// How many messages an act tells a predicate, with moved messages and without, if it is accepted;
-/// then it is made.
+/// How many messages an act has for a predicate, with moved messages and without, if it is
+/// accepted; then it is made.
 fn make(alloc: Global, predicate: &Predicate, volume: &mut Volume, act: &Act) -> Result<u64, Fail> {
     let change = act.change(alloc)?;
     if volume.check(&change).is_err() {
@@ -123,7 +123,7 @@ fn over_examples(alloc: Global, predicate: &Predicate) -> Result<(), Fail> {
     Ok(())
 }
 
-/// How many messages 40 drawn acts tell, made in each of 100 new volumes.
+/// How many messages 40 drawn acts have, made in each of 100 new volumes.
 fn over_draws(alloc: Global, predicate: &Predicate) -> Result<u64, Fail> {
     let mut draws = Draws { state: 1 };
     let mut messages: u64 = 0;

@@ -1,4 +1,4 @@
-//! Creations, of which a query that needs an attribute has no message.
+//! Creations that send no message to a query that needs an attribute.
 use crate::act::creation;
 use lq_predicate::{needs_attribute, read};
 use lq_update::step_planned;

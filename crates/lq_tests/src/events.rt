@@ -1,6 +1,6 @@
-//! Worked examples as lists of events of one desk, each with what it is answered: with memory, and
-//! with one growth refused, where the event that ran out of it is given again; and the limits of
-//! changes and openings.
+//! Worked examples as lists of events of one desk, each with its answer: with memory, and with one
+//! growth refused, where the event that ran out of memory is repeated; and the limits of changes
+//! and openings.
 use crate::act::Act;
 use crate::again::again;
 use crate::ask::{Ask, event};
@@ -13,9 +13,9 @@ use lq_volume::Volume;
 use std::alloc::Global;
 use std::test::Fail;
 
-/// An event and what it is answered, with its numbers. Of a change: its own and the node; of an
-/// opening: the slot, the changes before it, the entries; of a message, which is told as `U+` or
-/// `U-`, its entry's name and, where it isn't the last of its change, `..`: `seq`, change and node;
+/// An event and its answer, with the answer's numbers. Of a change: its own and the node; of an
+/// opening: the slot, the changes before it, the entries; of a message, written as `U+` or `U-`,
+/// its entry's name and, where it isn't the last of its change, `..`: `seq`, change and node;
 /// of a mark: `seq` and change; of a close: its change.
 type Row = (Ask, &'static str, (u64, u64, u64));
 
@@ -77,7 +77,7 @@ static HANG_UP_DOES_NOT_CARRY_OVER: [Row; 8] = [
     (Ask::At(1, Notice), "Unasked", (0, 0, 0)),
 ];
 
-// A move onto another entry: refused without `clobber`, told as three with it.
+// A move onto another entry: refused without `clobber`, three messages with it.
 static CLOBBER: [Row; 11] = [
     (A, "Changed", (1, 2, 0)),
     (Ask::Change(Act::File(1, "b", 0)), "Changed", (2, 3, 0)),
@@ -122,7 +122,7 @@ const FETCHES: [(&str, bool, bool); 4] = [
     ("x!=abc", true, false),
 ];
 
-/// Whether a message in the root is told so: its operation, its name, and whether more follow.
+/// Whether a message in the root is as wanted: its operation, its name, and whether more follow.
 fn is_message(message: &Message, wanted: &str) -> bool {
     let wanted = match message.op {
         Opcode::Created => wanted.strip_prefix("U+ "),
@@ -137,7 +137,7 @@ fn is_message(message: &Message, wanted: &str) -> bool {
     name == Some(message.name.as_str()) && message.dir == 1
 }
 
-/// Whether an event is answered so.
+/// Whether an event has this answer.
 fn is_told(reply: &Reply, wanted: &str, numbers: (u64, u64, u64)) -> bool {
     let (told, one, two, three) = match reply {
         Reply::Changed(applied) => ("Changed", applied.change, applied.node, 0),
@@ -167,7 +167,7 @@ fn is_told(reply: &Reply, wanted: &str, numbers: (u64, u64, u64)) -> bool {
     told == wanted && one == numbers.0 && two == numbers.1 && three == numbers.2
 }
 
-/// Whether a new desk, whose volume takes two changes, answers these events so.
+/// Whether a new desk, whose volume takes two changes, gives these answers to these events.
 fn are_told(alloc: Global, rows: &[Row]) -> Result<bool, Refusal> {
     let mut events = Vec::new(alloc);
     for (ask, _, _) in rows {
@@ -183,7 +183,7 @@ fn are_told(alloc: Global, rows: &[Row]) -> Result<bool, Refusal> {
     Ok(replies.len() == rows.len())
 }
 
-/// Whether a desk answers these events so, one by one, each given again where memory ran out.
+/// Whether a desk gives these answers, event by event, each repeated where memory ran out.
 fn are_told_again(alloc: Global, rows: &[Row]) -> Result<bool, Refusal> {
     let mut desk = again!(Desk::new(alloc, Volume::new(alloc, 99)))?;
     for (ask, wanted, numbers) in rows {

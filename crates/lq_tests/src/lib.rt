@@ -1,7 +1,7 @@
 //! Tests that cross crates: worked examples as lists of events (`events`), each call that may give
 //! up with memory for each variant of its arguments (`variants`), listings and paths (`folders`),
 //! calls that are given again where memory ran out (`again`), the plain body of `step` beside the
-//! fast one (`plain`, `bodies`), and changes that tell nothing (`skipped_writes`, `creates`).
+//! fast one (`plain`, `bodies`), and changes without a message (`skipped_writes`, `creates`).
 //! Nothing here waits.
 #![tactic(auto)]
 

@@ -14,7 +14,7 @@ use lq_value::{Entry, Refusal};
 use lq_volume::{Change, Volume};
 use std::alloc::Global;
 
-/// What an accepted change tells a query, as `lq_update::step` answers it.
+/// The messages of an accepted change for a query, as `lq_update::step` answers them.
 ///
 /// It makes the change on a copy of the volume, fetches from both and takes the difference of the
 /// two results, so it costs time and memory in the number of entries. Refused: `NoMemory`. It
@@ -58,7 +58,7 @@ fn fetch_after(
     Ok(volume.fetch(predicate)?)
 }
 
-// What is told of the difference of two results.
+// The messages for the difference of two results.
 fn told_between(
     alloc: Global,
     moved: bool,
@@ -118,7 +118,7 @@ fn copy_of(alloc: Global, entry: &Entry) -> Result<Entry, Refusal>
     })
 }
 
-// What is told of the entries that left and of those that came.
+// The messages for the entries that left and those that came.
 fn told(
     alloc: Global,
     moved: bool,

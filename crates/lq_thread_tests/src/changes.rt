@@ -17,7 +17,7 @@ pub fn create(alloc: Global, name: &str) -> Result<Change, Refusal> {
     })
 }
 
-/// The same, of a file that the volume takes.
+/// The creation of a file that the volume takes.
 pub fn lawful(alloc: Global, volume: &Volume, name: &str) -> Result<Change, Refusal>
     ensures { IfOk result (λ change. IsLawful volume.now change) }
 {

@@ -4,8 +4,8 @@ ghost use Rattle.std.specs.Prelude.{◌≡◌, ◌<◌, false, true, None};
 use lq_script::{Failed, Sink, Source};
 use std::alloc::Global;
 
-/// How devices move at most `step` bytes a call: the reader fails after so many calls, and the
-/// writer after `room` bytes, or it takes nothing then.
+/// How devices move at most `step` bytes a call: the reader fails after `calls` calls; the writer
+/// fails after `room` bytes, or, where it stalls, takes nothing more.
 #[derive(Clone, Copy)]
 pub struct Pace {
     pub step: usize,
@@ -77,7 +77,7 @@ impl Sink for Taken {
     }
 }
 
-/// More than a test moves.
+/// More bytes than any test moves.
 pub const FREE: usize = 10_000;
 
 /// A reader that gives this text.

@@ -2,8 +2,7 @@
 //! public call of lq_port, lq_board, lq_server and lq_script, from its home and with its signature,
 //! once where it answers what was asked for, with the refusals that cost little. The latter have a
 //! module for each crate, and two for lq_server (`ports`, `boards`, `servers` and `readers`,
-//! `scripts`), which name only crates that those signatures speak of. Begin
-//! with `scripts`.
+//! `scripts`), which name only crates of those signatures. Begin with `scripts`.
 #![tactic(auto)]
 
 #[cfg(test)]

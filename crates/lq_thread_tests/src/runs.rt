@@ -31,7 +31,7 @@ const TWO_READ: &str = concat!(
 "#
 );
 
-// The same reads, slot by slot: a batch goes on after two reads.
+// Reads of both slots, slot by slot: a batch goes on after two reads.
 const SLOT_BY_SLOT: &str = r#"{"do":"open","query":"name=*","port":4,"backlog":16}
 {"do":"open","query":"size>0","port":4,"backlog":16}
 {"do":"create","name":"a","size":1}
@@ -165,7 +165,7 @@ fn a_batch_goes_on_after_two_reads(rt: HostRuntime) -> Result<(), Fail> {
     Ok(())
 }
 
-// Whether a run by threads answers and writes as one by one thread, and answers this.
+// Whether a run by threads answers this, and answers and writes what a run by one thread does.
 fn agrees<R: Threads + Wait + Sync>(
     rt: &R,
     alloc: Global,

@@ -159,7 +159,8 @@ fn put_codes(masks: &mut [u32], j: usize, from: usize, to: usize)
     }
 }
 
-// The same for a range from an ASCII character to another one.
+// Puts the bit for the characters of a range that begins with an ASCII character and ends with one
+// that is not ASCII.
 fn put_crossing(masks: &mut [u32], j: usize, first: char, last: char, chars: &[char])
     requires bit { j < 32 }
     requires alphabet { IsAlphabet chars.now }
@@ -186,7 +187,7 @@ fn put_up_to(masks: &mut [u32], j: usize, last: char, chars: &[char])
     }
 }
 
-// The same for a range that has no ASCII character.
+// Puts the bit for the characters of a range that has no ASCII character.
 fn put_high_range(masks: &mut [u32], j: usize, first: char, last: char, chars: &[char])
     requires bit { j < 32 }
     requires alphabet { IsAlphabet chars.now }

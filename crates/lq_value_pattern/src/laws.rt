@@ -16,7 +16,8 @@ pub fn faults_are_found()
 
 /// The elements of a source are its first element and then the elements of the source after it.
 ///
-/// The same holds for the items of a set. The rest is shorter than the whole.
+/// The items of a set are its first item and then the items after it. The rest is shorter than the
+/// whole.
 pub fn sources_are_walked()
     ensures { SourcesAreWalked }
 {}

@@ -12,7 +12,7 @@ use crate::window_search::{find_place, from_place};
 // From how many bytes on a text is matched at many places at once.
 const LONG_TEXT: usize = 128;
 
-// The same where a set has many items.
+// From how many bytes on such a text is, where a set has many items.
 const LONG_FOR_SETS: usize = 32;
 
 // A set of more items has many.

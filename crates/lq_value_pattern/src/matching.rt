@@ -30,7 +30,7 @@ enum Taken<'a> {
 /// Whether the elements fit the whole text. It takes no memory.
 ///
 /// It backtracks to the latest star only, since that star can take whatever an earlier one could.
-/// It is no part of its caller, whose stack need not have room for a long text then.
+/// It is never inlined, so that the caller's stack needs no room for a long text.
 #[inline(never)]
 pub fn fits_text(elements: &[Element], text: &str) -> bool
     ensures { result ≡ fits elements.now (chars text.now) }
@@ -41,7 +41,8 @@ pub fn fits_text(elements: &[Element], text: &str) -> bool
     }
 }
 
-// The same, from a star on or for no elements.
+// Whether the elements that are left fit the whole text that is left. A star is first, or none is
+// left.
 fn fits_stars(start: Left<'_>) -> bool
     requires { IsAtStar start.elements.now }
     ensures { result ≡ fits start.entry.elements.now (chars start.entry.text.now) }
@@ -52,7 +53,7 @@ fn fits_stars(start: Left<'_>) -> bool
     }
 }
 
-// The same, one element and one character at a time.
+// As `fits_stars`, by one element and one character at a time.
 fn fits_short(start: Left<'_>) -> bool
     requires { IsAtStar start.elements.now }
     ensures { result ≡ fits start.entry.elements.now (chars start.entry.text.now) }
@@ -96,7 +97,8 @@ fn find<'a>(start: Left<'a>) -> Option<Left<'a>>
     }
 }
 
-// The same at the start of the text only: the elements fit up to a star, or up to the text's end.
+// The rest where the elements up to the next star fit the start of the text, or, where no star
+// follows, the whole text.
 #[tactic(auto, using(crate::proofs::MatchingLemmas::found_here))]
 fn find_here<'a>(here: Left<'a>) -> Option<Left<'a>>
     ensures { MatchOption result

@@ -8,7 +8,7 @@ use crate::element_runs::{count_run, match_window};
 // The number of places that are tried at once.
 const WINDOW: usize = 512;
 
-// The number of those that are tried first: of many parts most are found there.
+// The number of places that are tried first, where most parts are found.
 const FIRST_WINDOW: usize = 64;
 
 /// The first place of the text from which on each element takes a character.
@@ -52,7 +52,7 @@ pub(crate) fn from_place(text: &[char], place: usize) -> &[char]
     &text[place..]
 }
 
-// The same for the first places only.
+// The first of these places of the text from which on each element takes a character.
 fn find_among(elements: &[Element], text: &[char], places: usize) -> Option<usize>
     requires some { 0 < places }
     requires window { places ≤ 512 }

@@ -69,7 +69,7 @@ impl Volume {
 
     /// The entries in a folder, also in the root, by rising name: a directory's listing.
     ///
-    /// The time is that of sorting them, and doesn't depend on the entries in other folders.
+    /// It takes the time of sorting them, however many entries other folders have.
     /// Refused, the first that fits: `NoNode` where there is no node `dir`, `NotFolder` where `dir`
     /// is a file, `NoMemory`.
     pub fn children(&self, dir: u64) -> Result<Vec<Entry>, Refusal>
