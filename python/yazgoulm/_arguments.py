@@ -2,7 +2,7 @@
 import operator, os, re
 from typing import Any, Union
 
-# A byte that is no UTF-8: what Python decodes it to, and the private character that stands for it (docs/GUIDE.md).
+# A byte that is no UTF-8: what Python decodes it to, and the private character that stands for it (docs/EMBEDDING.md).
 _PRIVATE = {0xDC00 + byte: 0xF700 + byte for byte in range(0x80, 0x100)}
 _BYTES = {private: escaped for escaped, private in _PRIVATE.items()}
 
