@@ -1,25 +1,11 @@
 -- Canonical texts, a piece at a time.
-use Rattle.std.proofs.Common.{◌≡◌, ℕ, List, [], ◌∷◌, ◌++◌, append_assoc, refl, sym, ap, ◌∙◌, Bool, true, false}
+use Rattle.std.proofs.Common.{◌≡◌, ℕ, List, [], ◌∷◌, ◌++◌, append_assoc, refl, sym, ap, ◌∙◌}
 use Rattle.std.proofs.Common.{◌+◌, ◌<◌, length, drop, get_or}
-use Rattle.std.specs.Prelude.{codes, if◌then◌else◌}
-use Rattle.std.specs.List.{list_all}
+use Rattle.std.specs.Prelude.{codes}
 use Rattle.lq_predicate_formula.proofs.PartLemmas.{parts_here}
+use Rattle.lq_predicate_formula.proofs.WritingLemmas.{attr_then-append, in_marks-append}
 use Rattle.lq_predicate_formula.specs.Query.{Query, Compare, Not, And, Or, Queries, no_more, and_then, queries}
-use Rattle.lq_predicate_formula.specs.Canonical.{is_bare_byte, quoted, in_marks, attr_then, op_text, literal_text, written, parts_written, others_written, canonical}
-
--- what follows a text between marks may be added after it
-in_marks-append : (raw xs rest : List ℕ) → in_marks raw (xs ++ rest) ≡ in_marks raw xs ++ rest
-in_marks-append raw xs rest = ap (λ t. 34 ∷ t) (sym (append_assoc raw (34 ∷ xs) rest))
-
--- what follows a name may be added after it
-pub attr_then-append : (name xs rest : List ℕ)
-    → attr_then name (xs ++ rest) ≡ attr_then name xs ++ rest
-attr_then-append name xs rest = by (list_all is_bare_byte name)
-  where
-    by : (b : Bool) → (if b then name ++ (xs ++ rest) else in_marks (quoted name) (xs ++ rest))
-        ≡ (if b then name ++ xs else in_marks (quoted name) xs) ++ rest
-    by true = sym (append_assoc name xs rest)
-    by false = in_marks-append (quoted name) xs rest
+use Rattle.lq_predicate_formula.specs.Canonical.{in_marks, attr_then, op_text, literal_text, written, parts_written, others_written, canonical}
 
 -- what follows a query's text may be cut off
 mutual

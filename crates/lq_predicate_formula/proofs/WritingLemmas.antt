@@ -1,11 +1,10 @@
 -- Canonical texts, a piece at a time.
-use Rattle.std.proofs.Common.{◌≡◌, ℕ, List, [], ◌∷◌, ◌++◌, append_assoc, refl, sym, ap, ◌∙◌, arith, Bool, true, false, cond}
-use Rattle.std.proofs.Common.{◌+◌, ◌<◌, ◌/◌, ◌%◌, length, map, drop, get_or}
+use Rattle.std.proofs.Common.{◌≡◌, ℕ, List, [], ◌∷◌, ◌++◌, append_assoc, refl, sym, ap, ◌∙◌, arith, Bool, true, false}
+use Rattle.std.proofs.Common.{◌+◌, ◌<◌, length, map, drop, get_or}
 use Rattle.std.proofs.lemmas.Bool.{ne_eqb}
 use Rattle.std.proofs.lemmas.List.{at_drop_more, append-nil}
 use Rattle.std.proofs.lemmas.Str.{encode_ascii}
-use Rattle.std.proofs.Math.Dec.{ltb, lit<}
-use Rattle.std.proofs.Math.Utf8.{encode}
+use Rattle.std.proofs.Math.Dec.{lit<}
 use Rattle.std.specs.Prelude.{if◌then◌else◌, ◌||◌, ◌==◌, encode_utf8}
 use Rattle.std.specs.List.{list_all}
 use Rattle.std.specs.Str.{encode_utf8_all}
@@ -18,11 +17,12 @@ use Rattle.lq_value.specs.Item.TheVariants.{One, Range}
 use Rattle.lq_value.specs.Pattern.{plain_elements}
 use Rattle.lq_value.specs.declared.literal.Literal.{Literal}
 use Rattle.lq_value.specs.declared.op.Op.{Op}
+use Rattle.lq_predicate_formula.proofs.CharLemmas.{AreHigh, first_not, opened}
 use Rattle.lq_predicate_formula.specs.Query.{Compare}
 use Rattle.lq_predicate_formula.specs.Canonical.{is_bare_byte, quoted, in_marks, attr_then, op_text, literal_text, pattern_text, element_then, plain_then, in_set_then, item_then, items_then, canonical}
 
 -- what follows a text between marks may be added after it
-in_marks-append : (raw xs rest : List ℕ) → in_marks raw (xs ++ rest) ≡ in_marks raw xs ++ rest
+pub in_marks-append : (raw xs rest : List ℕ) → in_marks raw (xs ++ rest) ≡ in_marks raw xs ++ rest
 in_marks-append raw xs rest = ap (λ t. 34 ∷ t) (sym (append_assoc raw (34 ∷ xs) rest))
 
 -- what follows a name may be added after it
@@ -170,55 +170,27 @@ items_on out out' base is i d below so_far put =
 
 -- ---- quoted characters
 
--- no byte is `\` or `"`
-abbrev AreClear : List ℕ → Type 0
-AreClear [] = Unit {0}
-AreClear (b ∷ bs) = (b ≡ 92 → ⊥) × (b ≡ 34 → ⊥) × AreClear bs
-
 -- a byte that is no `\` and no `"` is quoted as itself
 one_clear : (b : ℕ) (bs : List ℕ) → (b ≡ 92 → ⊥) → (b ≡ 34 → ⊥) → quoted (b ∷ bs) ≡ b ∷ quoted bs
 one_clear b bs h k =
     ap (λ t. if t || b == 34 then 92 ∷ b ∷ quoted bs else b ∷ quoted bs) (ne_eqb b 92 h)
     ∙ ap (λ t. if t then 92 ∷ b ∷ quoted bs else b ∷ quoted bs) (ne_eqb b 34 k)
 
--- bytes that are no `\` and no `"` are quoted as themselves
-all_clear : (bs : List ℕ) → AreClear bs → quoted bs ≡ bs
-all_clear [] h = refl
-all_clear (b ∷ bs) h = one_clear b bs h.0 h.1 ∙ ap (λ l. b ∷ l) (all_clear bs h.2)
-
--- each form of an encoded character that is no `\` and no `"` has only clear bytes
-cases : (x y z : Bool) (c p q r u v w m n o : ℕ) → (c ≡ 92 → ⊥) → (c ≡ 34 → ⊥)
-    → AreClear (cond x (c ∷ [])
-    (cond y ((192 + p) ∷ (128 + q) ∷ [])
-    (cond z ((224 + r) ∷ (128 + u) ∷ (128 + v) ∷ [])
-    ((240 + w) ∷ (128 + m) ∷ (128 + n) ∷ (128 + o) ∷ []))))
-cases true y z c p q r u v w m n o h k = (h, k, tt)
-cases false true z c p q r u v w m n o h k =
-    ((λ e. omega arith), (λ e. omega arith), ((λ e. omega arith), (λ e. omega arith), tt))
-cases false false true c p q r u v w m n o h k = (
-  (λ e. omega arith),
-  (λ e. omega arith),
-  ((λ e. omega arith), (λ e. omega arith), ((λ e. omega arith), (λ e. omega arith), tt)),
-)
-cases false false false c p q r u v w m n o h k = (
-  (λ e. omega arith),
-  (λ e. omega arith),
-  (
-    (λ e. omega arith),
-    (λ e. omega arith),
-    ((λ e. omega arith), (λ e. omega arith), ((λ e. omega arith), (λ e. omega arith), tt)),
-  ),
-)
-
--- no byte of a character that is no `\` and no `"` is one
-encode-clear : (c : ℕ) → (c ≡ 92 → ⊥) → (c ≡ 34 → ⊥) → AreClear (encode c)
-unfolding encode
-encode-clear c = cases (ltb c 128) (ltb c 2048) (ltb c 65536) c (c / 64) (c % 64) (c / 4096)
-    (c / 64 % 64) (c % 64) (c / 262144) (c / 4096 % 64) (c / 64 % 64) (c % 64)
+-- bytes of 128 or more are quoted as themselves
+all_high : (bs : List ℕ) → AreHigh bs → quoted bs ≡ bs
+all_high [] h = refl
+all_high (b ∷ bs) h =
+    one_clear b bs (λ e. omega (arith, h.0, e)) (λ e. omega (arith, h.0, e))
+    ∙ ap (λ l. b ∷ l) (all_high bs h.1)
 
 -- a character that is no `\` and no `"` is quoted as itself
 pub quoted_clear : (c : ℕ) → (c ≡ 92 → ⊥) → (c ≡ 34 → ⊥) → quoted (encode_utf8 c) ≡ encode_utf8 c
-quoted_clear c h k = all_clear (encode c) (encode-clear c h k)
+quoted_clear c h k =
+    let o = opened c in
+    ap quoted o.split ∙ one_clear o.first o.tail
+    (first_not 92 c o.first (lit< tt) o.first_is h)
+    (first_not 34 c o.first (lit< tt) o.first_is k)
+    ∙ ap (λ l. o.first ∷ l) (all_high o.tail o.high) ∙ sym o.split
 
 -- `\` is quoted as two of it
 pub quoted_backslash : (c : ℕ) → c ≡ 92 → quoted (encode_utf8 c) ≡ 92 ∷ 92 ∷ []
