@@ -3,11 +3,11 @@
 -- ProperLemmas.
 -- Faults: StopLemmas, DepthLemmas, OutlineLemmas, StepsLemmas, RefusedLemmas, BalanceLemmas,
 -- TakenLemmas, StoppedLemmas, ExactLemmas. Each text has one reading: OneReadingLemmas. What is
--- written reads back: QuotingLemmas, EncodedLemmas, PatternTextLemmas, CanonicalLemmas,
--- RoundLemmas, GoodLemmas. What the writers and counters do, a piece at a time: RawLemmas,
--- WritingLemmas, SizeLemmas, SourceSizeLemmas. The texts of trees, a piece at a time: PartLemmas,
--- TreeTextLemmas, TreeSizeLemmas, TreeDepthLemmas. Names and truth: NameLemmas, FormedLemmas,
--- TruthLemmas, SpanLemmas, NeedLemmas.
+-- written reads back: QuotingLemmas, CharLemmas, EncodedLemmas, PatternTextLemmas,
+-- CanonicalLemmas, RoundLemmas, GoodLemmas. What the writers and counters do, a piece at a time:
+-- RawLemmas, WritingLemmas, SizeLemmas, SourceSizeLemmas. The texts of trees, a piece at a time:
+-- PartLemmas, TreeTextLemmas, TreeSizeLemmas, TreeDepthLemmas. Names and truth: NameLemmas,
+-- FormedLemmas, TruthLemmas, SpanLemmas, NeedLemmas.
 pub mod CountLemmas
 pub mod CutLemmas
 pub mod SignLemmas
@@ -25,6 +25,7 @@ pub mod BalanceLemmas
 pub mod TakenLemmas
 pub mod StoppedLemmas
 pub mod QuotingLemmas
+pub mod CharLemmas
 pub mod EncodedLemmas
 pub mod PatternTextLemmas
 pub mod CanonicalLemmas

@@ -1,74 +1,27 @@
 -- One character more, and one byte more, of a text whose `\` are taken off.
-use Rattle.std.proofs.Common.{◌≡◌, ◌≤◌, ◌<◌, length, drop, get_or, ◌+◌, ◌/◌, ◌%◌, ℕ, Bool, true, false, cond, List, [], ◌∷◌, ◌++◌, refl, sym, ap, ◌∙◌, arith, append_assoc, eq-eqb}
+use Rattle.std.proofs.Common.{◌≡◌, ◌≤◌, ◌<◌, length, drop, get_or, ◌+◌, ℕ, Bool, true, false, cond, List, [], ◌∷◌, ◌++◌, refl, sym, ap, ◌∙◌, arith, append_assoc, eq-eqb}
 use Rattle.std.proofs.lemmas.Bool.{ne_eqb}
 use Rattle.std.proofs.lemmas.Str.{encode_ascii}
-use Rattle.std.proofs.Math.Dec.{ltb, lit<}
+use Rattle.std.proofs.Math.Dec.{lit<}
 use Rattle.std.proofs.Math.Utf8.{encode}
 use Rattle.std.specs.Prelude.{◌==◌, if◌then◌else◌, is_some, Some, None}
 use Rattle.lq_value.specs.declared.refusal.Refusal.TheVariants.{BadName}
 use Rattle.lq_value.specs.Name.{is_attr_name}
 use Rattle.lq_predicate_formula.specs.Literals.{has_no_nul, name_refusal, unescaped}
+use Rattle.lq_predicate_formula.proofs.CharLemmas.{AreHigh, first_not, opened}
 use Rattle.lq_predicate_formula.proofs.CountLemmas.{at_byte}
 use Rattle.std.proofs.lemmas.List.{drop_all}
-
--- no byte is `\`
-abbrev pub NoBackslash : List ℕ → Type 0
-NoBackslash [] = Unit {0}
-NoBackslash (b ∷ bs) = (b ≡ 92 → ⊥) × NoBackslash bs
 
 -- a byte that is no `\` stays, and what follows is unescaped
 one_plain : (b : ℕ) (bs : List ℕ) → (b ≡ 92 → ⊥) → unescaped false (b ∷ bs) ≡ b ∷ unescaped false bs
 one_plain b bs h = ap (λ t. cond t (unescaped true bs) (b ∷ unescaped false bs)) (ne_eqb b 92 h)
 
--- bytes with no `\` stay, and what follows is unescaped
-all_plain : (bs rest : List ℕ) → NoBackslash bs
+-- bytes of 128 or more stay, and what follows is unescaped
+all_plain : (bs rest : List ℕ) → AreHigh bs
     → unescaped false (bs ++ rest) ≡ bs ++ unescaped false rest
 all_plain [] rest h = refl
-all_plain (b ∷ bs) rest h = one_plain b (bs ++ rest) h.0 ∙ ap (λ l. b ∷ l) (all_plain bs rest h.1)
-
--- an encoded character: its first byte, and no `\` after it
-pub record Opened (c : ℕ) (bs : List ℕ) : Type 0 where
-  pub first : ℕ
-  pub tail : List ℕ
-  pub split : bs ≡ first ∷ tail
-  pub plain : NoBackslash tail
-  pub first_plain : (c ≡ 92 → ⊥) → first ≡ 92 → ⊥
-
--- each form of an encoded character has a first byte, and no `\` after it
-cases : (x y z : Bool) (c p q r u v w m n o : ℕ)
-    → Opened c (cond x (c ∷ [])
-    (cond y ((192 + p) ∷ (128 + q) ∷ [])
-    (cond z ((224 + r) ∷ (128 + u) ∷ (128 + v) ∷ [])
-    ((240 + w) ∷ (128 + m) ∷ (128 + n) ∷ (128 + o) ∷ []))))
-cases true y z c p q r u v w m n o =
-    record { first = c; tail = []; split = refl; plain = tt; first_plain = λ h. h }
-cases false true z c p q r u v w m n o = record {
-  first = 192 + p;
-  tail = (128 + q) ∷ [];
-  split = refl;
-  plain = (λ e. omega arith, tt);
-  first_plain = λ h e. omega arith;
-}
-cases false false true c p q r u v w m n o = record {
-  first = 224 + r;
-  tail = (128 + u) ∷ (128 + v) ∷ [];
-  split = refl;
-  plain = (λ e. omega arith, (λ e. omega arith, tt));
-  first_plain = λ h e. omega arith;
-}
-cases false false false c p q r u v w m n o = record {
-  first = 240 + w;
-  tail = (128 + m) ∷ (128 + n) ∷ (128 + o) ∷ [];
-  split = refl;
-  plain = (λ e. omega arith, (λ e. omega arith, (λ e. omega arith, tt)));
-  first_plain = λ h e. omega arith;
-}
-
--- an encoded character has a first byte, and no `\` after it
-opened : (c : ℕ) → Opened c (encode c)
-unfolding encode
-opened c = cases (ltb c 128) (ltb c 2048) (ltb c 65536) c (c / 64) (c % 64) (c / 4096) (c / 64 % 64)
-    (c % 64) (c / 262144) (c / 4096 % 64) (c / 64 % 64) (c % 64)
+all_plain (b ∷ bs) rest h = one_plain b (bs ++ rest) (λ e. omega (arith, h.0, e))
+    ∙ ap (λ l. b ∷ l) (all_plain bs rest h.1)
 
 -- a character after `\` stays whole
 pub escaped_char : (c : ℕ) (rest : List ℕ)
@@ -76,15 +29,16 @@ pub escaped_char : (c : ℕ) (rest : List ℕ)
 escaped_char c rest =
     let o = opened c in
     ap (λ l. unescaped true (l ++ rest)) o.split ∙ ap (λ l. o.first ∷ l)
-    (all_plain o.tail rest o.plain) ∙ sym (ap (λ l. l ++ unescaped false rest) o.split)
+    (all_plain o.tail rest o.high) ∙ sym (ap (λ l. l ++ unescaped false rest) o.split)
 
 -- a character that is no `\` stays whole
 pub plain_char : (c : ℕ) (rest : List ℕ) → (c ≡ 92 → ⊥)
     → unescaped false (encode c ++ rest) ≡ encode c ++ unescaped false rest
 plain_char c rest h =
     let o = opened c in
-    ap (λ l. unescaped false (l ++ rest)) o.split ∙ all_plain (o.first ∷ o.tail) rest
-    (o.first_plain h, o.plain) ∙ sym (ap (λ l. l ++ unescaped false rest) o.split)
+    ap (λ l. unescaped false (l ++ rest)) o.split
+    ∙ one_plain o.first (o.tail ++ rest) (first_not 92 c o.first (lit< tt) o.first_is h)
+    ∙ ap (λ l. o.first ∷ l) (all_plain o.tail rest o.high) ∙ sym (ap (λ l. l ++ unescaped false rest) o.split)
 
 -- the character `\` is taken off and escapes the next
 pub backslash : (c : ℕ) (rest : List ℕ) → c ≡ 92

@@ -1,13 +1,11 @@
 -- The lengths of canonical texts, a piece at a time.
-use Rattle.std.proofs.Common.{◌≡◌, ◌+◌, ◌<◌, ℕ, List, [], ◌∷◌, length, drop, get_or, refl, ap, ◌∙◌, arith}
+use Rattle.std.proofs.Common.{◌≡◌, ◌+◌, ℕ, List, [], ◌∷◌, length, refl, ap, ◌∙◌, arith}
 use Rattle.std.proofs.lemmas.List.{length-append}
 use Rattle.std.specs.Prelude.{codes}
 use Rattle.lq_predicate_formula.specs.Query.{Query, And, Or, Queries, no_more, and_then, queries}
 use Rattle.lq_predicate_formula.specs.Canonical.{written, parts_written, others_written, canonical}
-use Rattle.lq_predicate_formula.specs.Capped.{capped}
 use Rattle.lq_predicate_formula.specs.Laws.{JoinedTextsAdd}
 use Rattle.lq_predicate_formula.specs.Size.{parts_size}
-use Rattle.lq_predicate_formula.proofs.PartLemmas.{parts_here}
 use Rattle.lq_predicate_formula.proofs.TreeTextLemmas.{written-append}
 
 -- a query's text before other bytes is as long as both
@@ -39,33 +37,6 @@ parts_by separator q others two =
 -- the text of an And, and that of an Or, is as long as its parts' size
 pub joined-add : JoinedTextsAdd
 joined-add q others = (parts_by (codes "&&") q others refl, parts_by (codes "||") q others refl)
-
--- one part more is counted, and the whole size stays what it was
-pub parts_on : (n n' n'' p : ℕ) (qs : List Query) (i : ℕ) (q : Query) (whole : ℕ) → i < length qs
-    → q ≡ get_or qs i q → capped (n + parts_size (queries (drop i qs))) ≡ capped whole
-    → p ≡ capped (length (canonical q)) → n' ≡ capped (n + p) → n'' ≡ capped (n' + 2)
-    → capped (n'' + parts_size (queries (drop (i + 1) qs))) ≡ capped whole
-parts_on n n' n'' p qs i q whole below is so_far piece new next =
-    let here = parts_here parts_size qs i q below is in
-    omega (arith, so_far, piece, new, next, here)
-
--- before the first part of an And, the whole size is left to count
-pub begun_and : (qs : List Query) (q : Query) → And (queries qs) ≡ q → 0 < length qs
-    → capped (0 + parts_size (queries qs)) ≡ capped (length (canonical q))
-begun_and [] q is some = absurd (let no : ⊥ = omega (arith, some) in no)
-begun_and (p ∷ qs) q is some =
-    let e = (joined-add p (queries qs)).0 in
-    let k = ap (λ r. length (canonical r)) is in
-    omega (arith, e, k)
-
--- before the first part of an Or, the whole size is left to count
-pub begun_or : (qs : List Query) (q : Query) → Or (queries qs) ≡ q → 0 < length qs
-    → capped (0 + parts_size (queries qs)) ≡ capped (length (canonical q))
-begun_or [] q is some = absurd (let no : ⊥ = omega (arith, some) in no)
-begun_or (p ∷ qs) q is some =
-    let e = (joined-add p (queries qs)).1 in
-    let k = ap (λ r. length (canonical r)) is in
-    omega (arith, e, k)
 
 -- two predicates joined have four bytes beside their own
 pub and_two_size : (lower upper : Query) → length (canonical (And (queries (lower ∷ upper ∷ []))))

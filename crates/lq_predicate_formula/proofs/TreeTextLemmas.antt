@@ -1,25 +1,11 @@
 -- Canonical texts, a piece at a time.
-use Rattle.std.proofs.Common.{◌≡◌, ℕ, List, [], ◌∷◌, ◌++◌, append_assoc, refl, sym, ap, ◌∙◌, Bool, true, false}
+use Rattle.std.proofs.Common.{◌≡◌, ℕ, List, [], ◌∷◌, ◌++◌, append_assoc, refl, sym, ap, ◌∙◌}
 use Rattle.std.proofs.Common.{◌+◌, ◌<◌, length, drop, get_or}
-use Rattle.std.specs.Prelude.{codes, if◌then◌else◌}
-use Rattle.std.specs.List.{list_all}
+use Rattle.std.specs.Prelude.{codes}
 use Rattle.lq_predicate_formula.proofs.PartLemmas.{parts_here}
+use Rattle.lq_predicate_formula.proofs.WritingLemmas.{attr_then-append, in_marks-append}
 use Rattle.lq_predicate_formula.specs.Query.{Query, Compare, Not, And, Or, Queries, no_more, and_then, queries}
-use Rattle.lq_predicate_formula.specs.Canonical.{is_bare_byte, quoted, in_marks, attr_then, op_text, literal_text, written, parts_written, others_written, canonical}
-
--- what follows a text between marks may be added after it
-in_marks-append : (raw xs rest : List ℕ) → in_marks raw (xs ++ rest) ≡ in_marks raw xs ++ rest
-in_marks-append raw xs rest = ap (λ t. 34 ∷ t) (sym (append_assoc raw (34 ∷ xs) rest))
-
--- what follows a name may be added after it
-pub attr_then-append : (name xs rest : List ℕ)
-    → attr_then name (xs ++ rest) ≡ attr_then name xs ++ rest
-attr_then-append name xs rest = by (list_all is_bare_byte name)
-  where
-    by : (b : Bool) → (if b then name ++ (xs ++ rest) else in_marks (quoted name) (xs ++ rest))
-        ≡ (if b then name ++ xs else in_marks (quoted name) xs) ++ rest
-    by true = sym (append_assoc name xs rest)
-    by false = in_marks-append (quoted name) xs rest
+use Rattle.lq_predicate_formula.specs.Canonical.{in_marks, attr_then, op_text, literal_text, written, parts_written, others_written, canonical}
 
 -- what follows a query's text may be cut off
 mutual
@@ -57,30 +43,34 @@ mutual
 
 -- ---- lists of parts
 
--- after `(` and the first part, the other parts are what is left to write
-pub parts_begun : (base s1 s2 separator : List ℕ) (first : Query) (others parts : List Query)
-    → parts ≡ first ∷ others → s1 ≡ base ++ 40 ∷ [] → s2 ≡ s1 ++ canonical first
-    → s2 ++ others_written separator (queries others) (41 ∷ [])
-    ≡ base ++ 40 ∷ parts_written separator (queries parts) (41 ∷ [])
-parts_begun base s1 s2 separator first others parts is e1 e2 =
-    let rest = others_written separator (queries others) (41 ∷ []) in
-    ap (λ s. s ++ rest) (e2 ∙ ap (λ s. s ++ canonical first) e1)
-    ∙ append_assoc (base ++ 40 ∷ []) (canonical first) rest
-    ∙ append_assoc base (40 ∷ []) (canonical first ++ rest)
-    ∙ ap (λ t. base ++ 40 ∷ t) (sym (written-append first [] rest))
-    ∙ ap (λ ps. base ++ 40 ∷ parts_written separator (queries ps) (41 ∷ [])) (sym is)
+-- what a sink shows, where two pieces are shown as one
+module _ {V : Type 0} (after : V → List ℕ → V)
+    (joined : (s : V) (x y : List ℕ) → after (after s x) y ≡ after s (x ++ y)) where
+  -- after `(` and the first part, the other parts are what is left to write
+  pub parts_begun : (base s1 s2 : V) (separator : List ℕ) (first : Query)
+      (others parts : List Query) → parts ≡ first ∷ others → s1 ≡ after base (40 ∷ [])
+      → s2 ≡ after s1 (canonical first)
+      → after s2 (others_written separator (queries others) (41 ∷ []))
+      ≡ after base (40 ∷ parts_written separator (queries parts) (41 ∷ []))
+  parts_begun base s1 s2 separator first others parts is e1 e2 =
+      let rest = others_written separator (queries others) (41 ∷ []) in
+      ap (λ s. after s rest) e2 ∙ joined s1 (canonical first) rest
+      ∙ ap (λ s. after s (canonical first ++ rest)) e1
+      ∙ joined base (40 ∷ []) (canonical first ++ rest)
+      ∙ ap (λ t. after base (40 ∷ t)) (sym (written-append first [] rest))
+      ∙ ap (λ ps. after base (40 ∷ parts_written separator (queries ps) (41 ∷ []))) (sym is)
 
--- one part more is written, and the whole stays what it was
-pub parts_on : (out s out' base separator : List ℕ) (others : List Query) (i : ℕ) (q : Query)
-    → i < length others → q ≡ get_or others i q
-    → out ++ others_written separator (queries (drop i others)) (41 ∷ []) ≡ base
-    → s ≡ out ++ separator → out' ≡ s ++ canonical q
-    → out' ++ others_written separator (queries (drop (i + 1) others)) (41 ∷ []) ≡ base
-parts_on out s out' base separator others i q below is so_far e1 e2 =
-    let rest = others_written separator (queries (drop (i + 1) others)) (41 ∷ []) in
-    ap (λ t. t ++ rest) (e2 ∙ ap (λ t. t ++ canonical q) e1)
-    ∙ append_assoc (out ++ separator) (canonical q) rest
-    ∙ append_assoc out separator (canonical q ++ rest)
-    ∙ ap (λ t. out ++ (separator ++ t)) (sym (written-append q [] rest))
-    ∙ ap (λ t. out ++ t)
-    (sym (parts_here (λ qs. others_written separator qs (41 ∷ [])) others i q below is)) ∙ so_far
+  -- one part more is written, and the whole stays what it was
+  pub parts_on : (out s out' base : V) (separator : List ℕ) (others : List Query) (i : ℕ)
+      (q : Query) → i < length others → q ≡ get_or others i q
+      → after out (others_written separator (queries (drop i others)) (41 ∷ [])) ≡ base
+      → s ≡ after out separator → out' ≡ after s (canonical q)
+      → after out' (others_written separator (queries (drop (i + 1) others)) (41 ∷ [])) ≡ base
+  parts_on out s out' base separator others i q below is so_far e1 e2 =
+      let rest = others_written separator (queries (drop (i + 1) others)) (41 ∷ []) in
+      ap (λ t. after t rest) e2 ∙ joined s (canonical q) rest
+      ∙ ap (λ t. after t (canonical q ++ rest)) e1
+      ∙ joined out separator (canonical q ++ rest)
+      ∙ ap (λ t. after out (separator ++ t)) (sym (written-append q [] rest))
+      ∙ ap (after out)
+      (sym (parts_here (λ qs. others_written separator qs (41 ∷ [])) others i q below is)) ∙ so_far

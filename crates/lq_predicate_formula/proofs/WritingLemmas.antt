@@ -1,11 +1,10 @@
 -- Canonical texts, a piece at a time.
-use Rattle.std.proofs.Common.{◌≡◌, ℕ, List, [], ◌∷◌, ◌++◌, append_assoc, refl, sym, ap, ◌∙◌, arith, Bool, true, false, cond}
-use Rattle.std.proofs.Common.{◌+◌, ◌<◌, ◌/◌, ◌%◌, length, map, drop, get_or}
+use Rattle.std.proofs.Common.{◌≡◌, ℕ, List, [], ◌∷◌, ◌++◌, append_assoc, refl, sym, ap, ◌∙◌, arith, Bool, true, false}
+use Rattle.std.proofs.Common.{◌+◌, ◌<◌, length, map, drop, get_or}
 use Rattle.std.proofs.lemmas.Bool.{ne_eqb}
 use Rattle.std.proofs.lemmas.List.{at_drop_more, append-nil}
 use Rattle.std.proofs.lemmas.Str.{encode_ascii}
-use Rattle.std.proofs.Math.Dec.{ltb, lit<}
-use Rattle.std.proofs.Math.Utf8.{encode}
+use Rattle.std.proofs.Math.Dec.{lit<}
 use Rattle.std.specs.Prelude.{if◌then◌else◌, ◌||◌, ◌==◌, encode_utf8}
 use Rattle.std.specs.List.{list_all}
 use Rattle.std.specs.Str.{encode_utf8_all}
@@ -18,11 +17,12 @@ use Rattle.lq_value.specs.Item.TheVariants.{One, Range}
 use Rattle.lq_value.specs.Pattern.{plain_elements}
 use Rattle.lq_value.specs.declared.literal.Literal.{Literal}
 use Rattle.lq_value.specs.declared.op.Op.{Op}
+use Rattle.lq_predicate_formula.proofs.CharLemmas.{AreHigh, first_not, opened}
 use Rattle.lq_predicate_formula.specs.Query.{Compare}
 use Rattle.lq_predicate_formula.specs.Canonical.{is_bare_byte, quoted, in_marks, attr_then, op_text, literal_text, pattern_text, element_then, plain_then, in_set_then, item_then, items_then, canonical}
 
 -- what follows a text between marks may be added after it
-in_marks-append : (raw xs rest : List ℕ) → in_marks raw (xs ++ rest) ≡ in_marks raw xs ++ rest
+pub in_marks-append : (raw xs rest : List ℕ) → in_marks raw (xs ++ rest) ≡ in_marks raw xs ++ rest
 in_marks-append raw xs rest = ap (λ t. 34 ∷ t) (sym (append_assoc raw (34 ∷ xs) rest))
 
 -- what follows a name may be added after it
@@ -111,69 +111,7 @@ pattern_text-append [] fs = refl
 pattern_text-append (e ∷ es) fs = ap (element_then e) (pattern_text-append es fs)
     ∙ element_then-append e (pattern_text es) (pattern_text fs)
 
--- ---- one step of each loop
-
--- one piece more is written: what was written and what is left are still the whole
-on : (out out' base piece rest all : List ℕ)
-    → all ≡ piece ++ rest → out ++ all ≡ base → out' ≡ out ++ piece → out' ++ rest ≡ base
-on out out' base piece rest all split so_far put =
-    ap (λ s. s ++ rest) put ∙ append_assoc out piece rest ∙ ap (λ t. out ++ t) (sym split) ∙ so_far
-
--- a pattern is written as its first element and then the others
-pub list_step : (e : Element) (es : List Element) → encode_utf8_all (pattern_text (e ∷ es))
-    ≡ encode_utf8_all (element_then e []) ++ encode_utf8_all (pattern_text es)
-list_step e es = ap encode_utf8_all (element_then-append e [] (pattern_text es))
-    ∙ encodes-append (element_then e []) (pattern_text es)
-
--- a set's items are written as the first and then the others
-pub items_step : (i : Item) (is : List Item) → encode_utf8_all (items_then (i ∷ is) [])
-    ≡ encode_utf8_all (item_then i []) ++ encode_utf8_all (items_then is [])
-items_step i is = ap encode_utf8_all (item_then-append i [] (items_then is []))
-    ∙ encodes-append (item_then i []) (items_then is [])
-
--- plain characters are written as those before the last and then the last
-pub plain_step : (cs : List ℕ) (c : ℕ)
-    → encode_utf8_all (pattern_text (plain_elements (cs ++ c ∷ [])))
-    ≡ encode_utf8_all (pattern_text (plain_elements cs)) ++ encode_utf8_all (plain_then c [])
-plain_step cs c =
-    ap (λ es. encode_utf8_all (pattern_text es)) (plain_elements-push cs c)
-    ∙ ap encode_utf8_all (pattern_text-append (plain_elements cs) (element.Plain c ∷ []))
-    ∙ encodes-append (pattern_text (plain_elements cs)) (plain_then c [])
-
--- one element more is written, and the whole pattern stays what it was
-pub list_on : (out out' base : List ℕ) (es : List Element) (i : ℕ) (e : Element)
-    → i < length es → e ≡ get_or es i e → out ++ encode_utf8_all (pattern_text (drop i es)) ≡ base
-    → out' ≡ out ++ encode_utf8_all (element_then e [])
-    → out' ++ encode_utf8_all (pattern_text (drop (i + 1) es)) ≡ base
-list_on out out' base es i e below is so_far put =
-    let rest = drop (i + 1) es in
-    let here : encode_utf8_all (pattern_text (drop i es))
-    ≡ encode_utf8_all (pattern_text (e ∷ rest)) =
-    at_drop_more (λ l. encode_utf8_all (pattern_text l)) es i e below
-    ∙ ap (λ x. encode_utf8_all (pattern_text (x ∷ rest))) (sym is) in
-    on out out' base (encode_utf8_all (element_then e [])) (encode_utf8_all (pattern_text rest))
-    (encode_utf8_all (pattern_text (drop i es))) (here ∙ list_step e rest) so_far put
-
--- one item more is written, and the whole set stays what it was
-pub items_on : (out out' base : List ℕ) (is : List Item) (i : ℕ) (d : Item)
-    → i < length is → out ++ encode_utf8_all (items_then (drop i is) []) ≡ base
-    → out' ≡ out ++ encode_utf8_all (item_then (get_or is i d) [])
-    → out' ++ encode_utf8_all (items_then (drop (i + 1) is) []) ≡ base
-items_on out out' base is i d below so_far put =
-    let rest = drop (i + 1) is in
-    let here : encode_utf8_all (items_then (drop i is) [])
-    ≡ encode_utf8_all (items_then (get_or is i d ∷ rest) []) =
-    at_drop_more (λ l. encode_utf8_all (items_then l [])) is i d below in
-    on out out' base (encode_utf8_all (item_then (get_or is i d) []))
-    (encode_utf8_all (items_then rest [])) (encode_utf8_all (items_then (drop i is) []))
-    (here ∙ items_step (get_or is i d) rest) so_far put
-
 -- ---- quoted characters
-
--- no byte is `\` or `"`
-abbrev AreClear : List ℕ → Type 0
-AreClear [] = Unit {0}
-AreClear (b ∷ bs) = (b ≡ 92 → ⊥) × (b ≡ 34 → ⊥) × AreClear bs
 
 -- a byte that is no `\` and no `"` is quoted as itself
 one_clear : (b : ℕ) (bs : List ℕ) → (b ≡ 92 → ⊥) → (b ≡ 34 → ⊥) → quoted (b ∷ bs) ≡ b ∷ quoted bs
@@ -181,44 +119,21 @@ one_clear b bs h k =
     ap (λ t. if t || b == 34 then 92 ∷ b ∷ quoted bs else b ∷ quoted bs) (ne_eqb b 92 h)
     ∙ ap (λ t. if t then 92 ∷ b ∷ quoted bs else b ∷ quoted bs) (ne_eqb b 34 k)
 
--- bytes that are no `\` and no `"` are quoted as themselves
-all_clear : (bs : List ℕ) → AreClear bs → quoted bs ≡ bs
-all_clear [] h = refl
-all_clear (b ∷ bs) h = one_clear b bs h.0 h.1 ∙ ap (λ l. b ∷ l) (all_clear bs h.2)
-
--- each form of an encoded character that is no `\` and no `"` has only clear bytes
-cases : (x y z : Bool) (c p q r u v w m n o : ℕ) → (c ≡ 92 → ⊥) → (c ≡ 34 → ⊥)
-    → AreClear (cond x (c ∷ [])
-    (cond y ((192 + p) ∷ (128 + q) ∷ [])
-    (cond z ((224 + r) ∷ (128 + u) ∷ (128 + v) ∷ [])
-    ((240 + w) ∷ (128 + m) ∷ (128 + n) ∷ (128 + o) ∷ []))))
-cases true y z c p q r u v w m n o h k = (h, k, tt)
-cases false true z c p q r u v w m n o h k =
-    ((λ e. omega arith), (λ e. omega arith), ((λ e. omega arith), (λ e. omega arith), tt))
-cases false false true c p q r u v w m n o h k = (
-  (λ e. omega arith),
-  (λ e. omega arith),
-  ((λ e. omega arith), (λ e. omega arith), ((λ e. omega arith), (λ e. omega arith), tt)),
-)
-cases false false false c p q r u v w m n o h k = (
-  (λ e. omega arith),
-  (λ e. omega arith),
-  (
-    (λ e. omega arith),
-    (λ e. omega arith),
-    ((λ e. omega arith), (λ e. omega arith), ((λ e. omega arith), (λ e. omega arith), tt)),
-  ),
-)
-
--- no byte of a character that is no `\` and no `"` is one
-encode-clear : (c : ℕ) → (c ≡ 92 → ⊥) → (c ≡ 34 → ⊥) → AreClear (encode c)
-unfolding encode
-encode-clear c = cases (ltb c 128) (ltb c 2048) (ltb c 65536) c (c / 64) (c % 64) (c / 4096)
-    (c / 64 % 64) (c % 64) (c / 262144) (c / 4096 % 64) (c / 64 % 64) (c % 64)
+-- bytes of 128 or more are quoted as themselves
+all_high : (bs : List ℕ) → AreHigh bs → quoted bs ≡ bs
+all_high [] h = refl
+all_high (b ∷ bs) h =
+    one_clear b bs (λ e. omega (arith, h.0, e)) (λ e. omega (arith, h.0, e))
+    ∙ ap (λ l. b ∷ l) (all_high bs h.1)
 
 -- a character that is no `\` and no `"` is quoted as itself
 pub quoted_clear : (c : ℕ) → (c ≡ 92 → ⊥) → (c ≡ 34 → ⊥) → quoted (encode_utf8 c) ≡ encode_utf8 c
-quoted_clear c h k = all_clear (encode c) (encode-clear c h k)
+quoted_clear c h k =
+    let o = opened c in
+    ap quoted o.split ∙ one_clear o.first o.tail
+    (first_not 92 c o.first (lit< tt) o.first_is h)
+    (first_not 34 c o.first (lit< tt) o.first_is k)
+    ∙ ap (λ l. o.first ∷ l) (all_high o.tail o.high) ∙ sym o.split
 
 -- `\` is quoted as two of it
 pub quoted_backslash : (c : ℕ) → c ≡ 92 → quoted (encode_utf8 c) ≡ 92 ∷ 92 ∷ []
@@ -228,49 +143,111 @@ quoted_backslash c is = ap (λ d. quoted (encode_utf8 d)) is ∙ ap quoted (enco
 pub quoted_mark : (c : ℕ) → c ≡ 34 → quoted (encode_utf8 c) ≡ 92 ∷ 34 ∷ []
 quoted_mark c is = ap (λ d. quoted (encode_utf8 d)) is ∙ ap quoted (encode_ascii 34 (lit< tt))
 
--- one character more is written of a quoted text
-pub quoted_step_on : (out out' base cs : List ℕ) (c : ℕ) → out ≡ base ++ quoted (encode_utf8_all cs)
-    → out' ≡ out ++ quoted (encode_utf8 c) → out' ≡ base ++ quoted (encode_utf8_all (cs ++ c ∷ []))
-quoted_step_on out out' base cs c so_far put =
-    let whole : quoted (encode_utf8_all (cs ++ c ∷ []))
-    ≡ quoted (encode_utf8_all cs) ++ quoted (encode_utf8 c) =
-    ap quoted
+-- ---- one step of each loop
+
+-- a pattern is written as its first element and then the others
+list_step : (e : Element) (es : List Element) → encode_utf8_all (pattern_text (e ∷ es))
+    ≡ encode_utf8_all (element_then e []) ++ encode_utf8_all (pattern_text es)
+list_step e es = ap encode_utf8_all (element_then-append e [] (pattern_text es))
+    ∙ encodes-append (element_then e []) (pattern_text es)
+
+-- a set's items are written as the first and then the others
+items_step : (i : Item) (is : List Item) → encode_utf8_all (items_then (i ∷ is) [])
+    ≡ encode_utf8_all (item_then i []) ++ encode_utf8_all (items_then is [])
+items_step i is = ap encode_utf8_all (item_then-append i [] (items_then is []))
+    ∙ encodes-append (item_then i []) (items_then is [])
+
+-- plain characters are written as those before the last and then the last
+plain_step : (cs : List ℕ) (c : ℕ)
+    → encode_utf8_all (pattern_text (plain_elements (cs ++ c ∷ [])))
+    ≡ encode_utf8_all (pattern_text (plain_elements cs)) ++ encode_utf8_all (plain_then c [])
+plain_step cs c =
+    ap (λ es. encode_utf8_all (pattern_text es)) (plain_elements-push cs c)
+    ∙ ap encode_utf8_all (pattern_text-append (plain_elements cs) (element.Plain c ∷ []))
+    ∙ encodes-append (pattern_text (plain_elements cs)) (plain_then c [])
+
+-- quoted characters are written as those before the last and then the last
+quoted_char_step : (cs : List ℕ) (c : ℕ) → quoted (encode_utf8_all (cs ++ c ∷ []))
+    ≡ quoted (encode_utf8_all cs) ++ quoted (encode_utf8 c)
+quoted_char_step cs c = ap quoted
     (encodes-append cs (c ∷ []) ∙ ap (λ t. encode_utf8_all cs ++ t) (append-nil (encode_utf8 c)))
-    ∙ quoted-append (encode_utf8_all cs) (encode_utf8 c) in
-    put ∙ ap (λ s. s ++ quoted (encode_utf8 c)) so_far ∙ append_assoc base
-    (quoted (encode_utf8_all cs)) (quoted (encode_utf8 c)) ∙ ap (λ t. base ++ t) (sym whole)
+    ∙ quoted-append (encode_utf8_all cs) (encode_utf8 c)
 
--- one character more is written of a plain text
-pub plain_step_on : (out out' base cs : List ℕ) (c : ℕ)
-    → out ≡ base ++ encode_utf8_all (pattern_text (plain_elements cs))
-    → out' ≡ out ++ encode_utf8_all (plain_then c [])
-    → out' ≡ base ++ encode_utf8_all (pattern_text (plain_elements (cs ++ c ∷ [])))
-plain_step_on out out' base cs c so_far put =
-    let before = encode_utf8_all (pattern_text (plain_elements cs)) in
-    put ∙ ap (λ s. s ++ encode_utf8_all (plain_then c [])) so_far ∙ append_assoc base before
-    (encode_utf8_all (plain_then c [])) ∙ ap (λ t. base ++ t) (sym (plain_step cs c))
+-- what a sink shows, where two pieces are shown as one
+module _ {V : Type 0} (after : V → List ℕ → V)
+    (joined : (s : V) (x y : List ℕ) → after (after s x) y ≡ after s (x ++ y)) where
+  -- one piece more is taken: what was taken and what is left are still the whole
+  pub on : (out out' base : V) (piece rest all : List ℕ)
+      → all ≡ piece ++ rest → after out all ≡ base → out' ≡ after out piece → after out' rest ≡ base
+  on out out' base piece rest all split so_far put =
+      ap (λ s. after s rest) put ∙ joined out piece rest ∙ ap (after out) (sym split) ∙ so_far
 
--- ---- comparisons
+  -- one piece more is taken of those before it
+  push_on : (out out' base : V) (before piece all : List ℕ)
+      → all ≡ before ++ piece → out ≡ after base before → out' ≡ after out piece
+      → out' ≡ after base all
+  push_on out out' base before piece all split so_far put =
+      put ∙ ap (λ s. after s piece) so_far ∙ joined base before piece ∙ ap (after base) (sym split)
 
--- the pieces of a comparison, written one after the other, are its text
-flat : (base a o l : List ℕ) → (((((base ++ 40 ∷ []) ++ a) ++ o) ++ 34 ∷ []) ++ l) ++ 34 ∷ 41 ∷ []
-    ≡ base ++ 40 ∷ (a ++ (o ++ 34 ∷ (l ++ 34 ∷ 41 ∷ [])))
-flat base a o l =
-    let z = l ++ 34 ∷ 41 ∷ [] in
-    append_assoc ((((base ++ 40 ∷ []) ++ a) ++ o) ++ 34 ∷ []) l (34 ∷ 41 ∷ [])
-    ∙ append_assoc (((base ++ 40 ∷ []) ++ a) ++ o) (34 ∷ []) z
-    ∙ append_assoc ((base ++ 40 ∷ []) ++ a) o (34 ∷ z) ∙ append_assoc (base ++ 40 ∷ []) a
-    (o ++ 34 ∷ z) ∙ append_assoc base (40 ∷ []) (a ++ (o ++ 34 ∷ z))
+  -- one element more is written, and the whole pattern stays what it was
+  pub list_on : (out out' base : V) (es : List Element) (i : ℕ) (e : Element)
+      → i < length es → e ≡ get_or es i e
+      → after out (encode_utf8_all (pattern_text (drop i es))) ≡ base
+      → out' ≡ after out (encode_utf8_all (element_then e []))
+      → after out' (encode_utf8_all (pattern_text (drop (i + 1) es))) ≡ base
+  list_on out out' base es i e below is so_far put =
+      let rest = drop (i + 1) es in
+      let here : encode_utf8_all (pattern_text (drop i es))
+      ≡ encode_utf8_all (pattern_text (e ∷ rest)) =
+      at_drop_more (λ l. encode_utf8_all (pattern_text l)) es i e below
+      ∙ ap (λ x. encode_utf8_all (pattern_text (x ∷ rest))) (sym is) in
+      on out out' base (encode_utf8_all (element_then e [])) (encode_utf8_all (pattern_text rest))
+      (encode_utf8_all (pattern_text (drop i es))) (here ∙ list_step e rest) so_far put
 
--- after its six pieces are written, a comparison's canonical text stands there
-pub comparison_put : (base s1 s2 s3 s4 s5 s6 attr : List ℕ) (op : Op) (literal : Literal)
-    → s1 ≡ base ++ 40 ∷ [] → s2 ≡ s1 ++ attr_then attr [] → s3 ≡ s2 ++ op_text op
-    → s4 ≡ s3 ++ 34 ∷ [] → s5 ≡ s4 ++ literal_text literal → s6 ≡ s5 ++ 34 ∷ 41 ∷ []
-    → s6 ≡ base ++ canonical (Compare attr op literal)
-comparison_put base s1 s2 s3 s4 s5 s6 attr op literal e1 e2 e3 e4 e5 e6 =
-    e6 ∙ ap (λ s. s ++ 34 ∷ 41 ∷ [])
-    (e5 ∙ ap (λ s. s ++ literal_text literal) (e4 ∙ ap (λ s. s ++ 34 ∷ [])
-    (e3 ∙ ap (λ s. s ++ op_text op) (e2 ∙ ap (λ s. s ++ attr_then attr []) e1))))
-    ∙ flat base (attr_then attr []) (op_text op) (literal_text literal)
-    ∙ ap (λ t. base ++ 40 ∷ t)
-    (sym (attr_then-append attr [] (op_text op ++ in_marks (literal_text literal) (41 ∷ []))))
+  -- one item more is written, and the whole set stays what it was
+  pub items_on : (out out' base : V) (is : List Item) (i : ℕ) (d : Item)
+      → i < length is → after out (encode_utf8_all (items_then (drop i is) [])) ≡ base
+      → out' ≡ after out (encode_utf8_all (item_then (get_or is i d) []))
+      → after out' (encode_utf8_all (items_then (drop (i + 1) is) [])) ≡ base
+  items_on out out' base is i d below so_far put =
+      let rest = drop (i + 1) is in
+      let here : encode_utf8_all (items_then (drop i is) [])
+      ≡ encode_utf8_all (items_then (get_or is i d ∷ rest) []) =
+      at_drop_more (λ l. encode_utf8_all (items_then l [])) is i d below in
+      on out out' base (encode_utf8_all (item_then (get_or is i d) []))
+      (encode_utf8_all (items_then rest [])) (encode_utf8_all (items_then (drop i is) []))
+      (here ∙ items_step (get_or is i d) rest) so_far put
+
+  -- one character more is written of a quoted text
+  pub quoted_step_on : (out out' base : V) (cs : List ℕ) (c : ℕ)
+      → out ≡ after base (quoted (encode_utf8_all cs)) → out' ≡ after out (quoted (encode_utf8 c))
+      → out' ≡ after base (quoted (encode_utf8_all (cs ++ c ∷ [])))
+  quoted_step_on out out' base cs c = push_on out out' base (quoted (encode_utf8_all cs))
+      (quoted (encode_utf8 c)) (quoted (encode_utf8_all (cs ++ c ∷ []))) (quoted_char_step cs c)
+
+  -- one character more is written of a plain text
+  pub plain_step_on : (out out' base : V) (cs : List ℕ) (c : ℕ)
+      → out ≡ after base (encode_utf8_all (pattern_text (plain_elements cs)))
+      → out' ≡ after out (encode_utf8_all (plain_then c []))
+      → out' ≡ after base (encode_utf8_all (pattern_text (plain_elements (cs ++ c ∷ []))))
+  plain_step_on out out' base cs c =
+      push_on out out' base (encode_utf8_all (pattern_text (plain_elements cs)))
+      (encode_utf8_all (plain_then c []))
+      (encode_utf8_all (pattern_text (plain_elements (cs ++ c ∷ [])))) (plain_step cs c)
+
+  -- after its six pieces are written, a comparison's canonical text stands there
+  pub comparison_put : (base s1 s2 s3 s4 s5 s6 : V) (attr : List ℕ) (op : Op) (literal : Literal)
+      → s1 ≡ after base (40 ∷ []) → s2 ≡ after s1 (attr_then attr [])
+      → s3 ≡ after s2 (op_text op) → s4 ≡ after s3 (34 ∷ [])
+      → s5 ≡ after s4 (literal_text literal) → s6 ≡ after s5 (34 ∷ 41 ∷ [])
+      → s6 ≡ after base (canonical (Compare attr op literal))
+  comparison_put base s1 s2 s3 s4 s5 s6 attr op literal e1 e2 e3 e4 e5 e6 =
+      let last = literal_text literal ++ 34 ∷ 41 ∷ [] in
+      let behind = op_text op ++ 34 ∷ last in
+      e6 ∙ ap (λ s. after s (34 ∷ 41 ∷ [])) e5 ∙ joined s4 (literal_text literal) (34 ∷ 41 ∷ [])
+      ∙ ap (λ s. after s last) e4 ∙ joined s3 (34 ∷ []) last
+      ∙ ap (λ s. after s (34 ∷ last)) e3 ∙ joined s2 (op_text op) (34 ∷ last)
+      ∙ ap (λ s. after s behind) e2 ∙ joined s1 (attr_then attr []) behind
+      ∙ ap (λ s. after s (attr_then attr [] ++ behind)) e1
+      ∙ joined base (40 ∷ []) (attr_then attr [] ++ behind)
+      ∙ ap (λ t. after base (40 ∷ t)) (sym (attr_then-append attr [] behind))

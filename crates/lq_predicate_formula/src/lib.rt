@@ -6,7 +6,7 @@
 //! `specs/PredicateLimits` when it is a predicate. `specs/Lexing`, `Machine` and `MachineReading`
 //! say how a token and a reading are found, for private functions and for lq_predicate's. Nothing
 //! here waits, and asking takes no memory. Begin with `token`, then `laws`, then `tree` and `row`,
-//! then `tree/truth` and `writing`.
+//! then `tree/truth`, `sink` and `writing`.
 #![tactic(auto)]
 
 mod count;
@@ -17,6 +17,7 @@ mod piece;
 mod raw;
 mod raw_size;
 mod row;
+mod sink;
 mod size;
 mod source_size;
 mod span;
@@ -37,4 +38,3 @@ pub use size::{characters_size, comparison_size, comparison_size_with, pattern_s
 pub use span::Span;
 pub use token::{Cursor, Placed, Token};
 pub use tree::Tree;
-pub use writing::put_comparison;

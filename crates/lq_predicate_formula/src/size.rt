@@ -1,21 +1,24 @@
-//! The length of a comparison's canonical text, in bytes.
-ghost use Rattle.std.specs.Prelude.{◌≡◌, ◌≤◌, ◌+◌, [], length};
+//! The length of a comparison's canonical text, in bytes: the writer's, with a counter as its sink.
+ghost use Rattle.std.specs.Prelude.{◌≡◌, ◌≤◌, [], length};
 ghost use Rattle.std.specs.Str.{chars, encode_utf8_all};
-ghost use Rattle.lq_value.specs.Elements.{elements_shown};
 ghost use Rattle.lq_value.specs.Pattern.{plain_elements};
-ghost use Rattle.lq_predicate_formula.specs.Canonical.{attr_then, canonical, element_then, in_set_then, item_then, items_then, literal_text, op_text, pattern_text, plain_then, quoted};
+ghost use Rattle.lq_predicate_formula.specs.Canonical.{attr_then, canonical, in_set_then, item_then, literal_text, op_text, pattern_text, plain_then, quoted};
 ghost use Rattle.lq_predicate_formula.specs.Query.{Compare};
 ghost use Rattle.lq_predicate_formula.specs.Capped.{capped};
 
-use crate::writing::is_bare;
-use lq_value::{AttrName, Element, Elements, Item, Literal, Op, Pattern};
+use crate::raw_size::joined_size;
+use crate::sink::Counter;
+use crate::writing::{put_attr, put_comparison, put_elements, put_plain_text, put_quoted};
+use lq_value::{AttrName, Item, Literal, Op, Pattern};
 
 /// The number of bytes in the canonical text of a comparison; the greatest usize stands for more.
 /// It takes no memory.
 pub fn comparison_size(attr: &AttrName, op: Op, literal: &Literal) -> usize
     ensures { result ≡ capped (length (canonical (Compare attr.now op literal.now))) }
 {
-    size_with(attr, op, literal_size(literal))
+    let mut counter = Counter { size: 0 };
+    let Ok(()) = put_comparison(attr, op, literal, &mut counter);
+    counter.size
 }
 
 /// The size of a comparison whose literal isn't made yet, from the number of bytes of the literal's
@@ -24,18 +27,7 @@ pub fn comparison_size_with(attr: &AttrName, op: Op, literal: usize) -> usize
     ensures { (l : Literal) → literal ≡ capped (length (literal_text l))
         → result ≡ capped (length (canonical (Compare attr.now op l))) }
 {
-    size_with(attr, op, literal)
-}
-
-// The attribute, the operator and the literal, and four further bytes.
-fn size_with(attr: &AttrName, op: Op, literal: usize) -> usize
-    ensures { result
-        ≡ capped (length (attr_then attr.now []) + length (op_text op) + literal + 4) }
-{
-    attr_size(attr)
-        .saturating_add(op_size(op))
-        .saturating_add(literal)
-        .saturating_add(4)
+    joined_size(attr_size(attr), op, literal)
 }
 
 pub(crate) fn op_size(op: Op) -> usize
@@ -50,12 +42,9 @@ pub(crate) fn op_size(op: Op) -> usize
 fn attr_size(attr: &AttrName) -> usize
     ensures { result ≡ capped (length (attr_then attr.now [])) }
 {
-    let name = attr.as_str().as_bytes();
-    if is_bare(name) {
-        name.len()
-    } else {
-        quoted_size(name).saturating_add(2)
-    }
+    let mut counter = Counter { size: 0 };
+    let Ok(()) = put_attr(attr, &mut counter);
+    counter.size
 }
 
 /// The number of bytes of a plain literal between its marks, with `\` before each `\` and `"`; the
@@ -63,31 +52,9 @@ fn attr_size(attr: &AttrName) -> usize
 pub fn plain_size(text: &str) -> usize
     ensures { result ≡ capped (length (quoted text.now)) }
 {
-    quoted_size(text.as_bytes())
-}
-
-fn quoted_size(bytes: &[u8]) -> usize
-    ensures { result ≡ capped (length (quoted bytes.now)) }
-{
-    let mut size: usize = 0;
-    for byte in bytes {
-        let piece = if *byte == b'\\' || *byte == b'"' {
-            2
-        } else {
-            1
-        };
-        size = size.saturating_add(piece);
-    }
-    size
-}
-
-fn literal_size(literal: &Literal) -> usize
-    ensures { result ≡ capped (length (literal_text literal.now)) }
-{
-    match literal {
-        Literal::Plain(text) => plain_size(text.as_str()),
-        Literal::Pattern(pattern) => pattern_size(pattern),
-    }
+    let mut counter = Counter { size: 0 };
+    let Ok(()) = put_quoted(text, &mut counter);
+    counter.size
 }
 
 /// The number of bytes of a pattern between its marks in canonical text; the greatest usize stands
@@ -95,10 +62,9 @@ fn literal_size(literal: &Literal) -> usize
 pub fn pattern_size(pattern: &Pattern) -> usize
     ensures { result ≡ capped (length (encode_utf8_all (pattern_text pattern.now))) }
 {
-    match pattern.elements() {
-        Elements::Text(text) => characters_size(text),
-        Elements::List(elements) => list_size(elements),
-    }
+    let mut counter = Counter { size: 0 };
+    let Ok(()) = put_elements(pattern.elements(), &mut counter);
+    counter.size
 }
 
 /// The size of the pattern, not made yet, whose elements are the characters of a text. It takes no
@@ -107,34 +73,9 @@ pub fn characters_size(text: &str) -> usize
     ensures { result
         ≡ capped (length (encode_utf8_all (pattern_text (plain_elements (chars text.now))))) }
 {
-    let mut size: usize = 0;
-    for c in text.chars() {
-        size = size.saturating_add(character_size(c));
-    }
-    size
-}
-
-fn list_size(elements: &[Element]) -> usize
-    ensures { result ≡ capped (length (encode_utf8_all (pattern_text elements.now))) }
-{
-    let mut size: usize = 0;
-    for element in elements {
-        size = size.saturating_add(element_size(element));
-    }
-    size
-}
-
-fn element_size(element: &Element) -> usize
-    ensures { result ≡ capped (length (encode_utf8_all (element_then element.now []))) }
-{
-    match element {
-        Element::Star | Element::Any => 1,
-        Element::Plain(c) => character_size(*c),
-        Element::Set { negated, items } => {
-            let begin = if *negated { 2 } else { 1 };
-            items_size(items.as_slice()).saturating_add(begin)
-        }
-    }
+    let mut counter = Counter { size: 0 };
+    let Ok(()) = put_plain_text(text, &mut counter);
+    counter.size
 }
 
 // A plain character, with `\` before one of `*`, `?`, `[`, `\` and `"`.
@@ -146,17 +87,6 @@ pub(crate) fn character_size(c: char) -> usize
     } else {
         c.len_utf8()
     }
-}
-
-// The items of a set, and its `]`.
-fn items_size(items: &[Item]) -> usize
-    ensures { result ≡ capped (length (encode_utf8_all (items_then items.now []))) }
-{
-    let mut size: usize = 0;
-    for item in items {
-        size = size.saturating_add(item_size(*item));
-    }
-    size.saturating_add(1)
 }
 
 pub(crate) fn item_size(item: Item) -> usize

@@ -1,27 +1,24 @@
 //! Writes comparisons as canonical text.
-ghost use Rattle.std.specs.Prelude.{encode_utf8, ◌≡◌, ◌++◌, ◌∷◌, [], IfOk, true};
+ghost use Rattle.std.specs.Prelude.{encode_utf8, ◌≡◌, [], IfOk};
 ghost use Rattle.std.specs.List.{list_all};
-ghost use Rattle.std.specs.String.{string_bytes};
 ghost use Rattle.std.specs.Str.{chars, encode_utf8_all};
 ghost use Rattle.lq_value.specs.Elements.{elements_shown};
 ghost use Rattle.lq_value.specs.Pattern.{plain_elements};
-ghost use Rattle.lq_value.specs.Refusal.{FailsOnlyForMemory};
 ghost use Rattle.lq_predicate_formula.specs.Query.{Compare};
 ghost use Rattle.lq_predicate_formula.specs.Canonical.{attr_then, canonical, element_then, in_set_then, is_bare_byte, item_then, items_then, literal_text, op_text, pattern_text, plain_then, quoted};
 
-use lq_value::{AttrName, Element, Elements, Item, Literal, Op, Refusal};
+use crate::sink::Sink;
+use lq_value::{AttrName, Element, Elements, Item, Literal, Op};
 
-/// Appends the canonical text of a comparison: in parentheses, with the literal between `"` marks.
-/// Refused: `NoMemory`; a part of it may be appended then.
-pub fn put_comparison(
+// Appends the canonical text of a comparison: in parentheses, with the literal between `"` marks.
+pub(crate) fn put_comparison<S: Sink>(
     attr: &AttrName,
     op: Op,
     literal: &Literal,
-    out: &mut String,
-) -> Result<(), Refusal>
-    ensures refused { FailsOnlyForMemory result }
-    ensures value { IfOk result (λ _. string_bytes out.new
-        ≡ string_bytes out.old ++ canonical (Compare attr.now op literal.now)) }
+    out: &mut S,
+) -> Result<(), S::Error>
+    ensures { IfOk result (λ _. S.seen out.new
+        ≡ S.after (S.seen out.old) (canonical (Compare attr.now op literal.now))) }
 {
     out.push_str("(")?;
     put_attr(attr, out)?;
@@ -46,10 +43,9 @@ fn op_text(op: Op) -> &'static str
 }
 
 // Appends an attribute, without marks if each of its bytes may stand without them.
-fn put_attr(attr: &AttrName, out: &mut String) -> Result<(), Refusal>
-    ensures refused { FailsOnlyForMemory result }
-    ensures value { IfOk result
-        (λ _. string_bytes out.new ≡ string_bytes out.old ++ attr_then attr.now []) }
+pub(crate) fn put_attr<S: Sink>(attr: &AttrName, out: &mut S) -> Result<(), S::Error>
+    ensures { IfOk result (λ _. S.seen out.new
+        ≡ S.after (S.seen out.old) (attr_then attr.now [])) }
 {
     let name = attr.as_str();
     if is_bare(name.as_bytes()) {
@@ -75,10 +71,9 @@ pub(crate) fn is_bare_byte(byte: u8) -> bool
 }
 
 // Appends a text with `\` before each `\` and `"`.
-fn put_quoted(text: &str, out: &mut String) -> Result<(), Refusal>
-    ensures refused { FailsOnlyForMemory result }
-    ensures value { IfOk result
-        (λ _. string_bytes out.new ≡ string_bytes out.old ++ quoted text.now) }
+pub(crate) fn put_quoted<S: Sink>(text: &str, out: &mut S) -> Result<(), S::Error>
+    ensures { IfOk result (λ _. S.seen out.new
+        ≡ S.after (S.seen out.old) (quoted text.now)) }
 {
     for c in text.chars() {
         put_quoted_char(c, out)?;
@@ -87,10 +82,9 @@ fn put_quoted(text: &str, out: &mut String) -> Result<(), Refusal>
 }
 
 #[tactic(auto, using(crate::proofs::WritingLemmas::quoted_clear))]
-fn put_quoted_char(c: char, out: &mut String) -> Result<(), Refusal>
-    ensures refused { FailsOnlyForMemory result }
-    ensures value { IfOk result
-        (λ _. string_bytes out.new ≡ string_bytes out.old ++ quoted (encode_utf8 c)) }
+fn put_quoted_char<S: Sink>(c: char, out: &mut S) -> Result<(), S::Error>
+    ensures { IfOk result (λ _. S.seen out.new
+        ≡ S.after (S.seen out.old) (quoted (encode_utf8 c))) }
 {
     if c == '\\' {
         out.push_str("\\\\")?;
@@ -106,10 +100,9 @@ fn put_quoted_char(c: char, out: &mut String) -> Result<(), Refusal>
     Ok(())
 }
 
-fn put_literal(literal: &Literal, out: &mut String) -> Result<(), Refusal>
-    ensures refused { FailsOnlyForMemory result }
-    ensures value { IfOk result
-        (λ _. string_bytes out.new ≡ string_bytes out.old ++ literal_text literal.now) }
+fn put_literal<S: Sink>(literal: &Literal, out: &mut S) -> Result<(), S::Error>
+    ensures { IfOk result (λ _. S.seen out.new
+        ≡ S.after (S.seen out.old) (literal_text literal.now)) }
 {
     match literal {
         Literal::Plain(text) => put_quoted(text.as_str(), out),
@@ -117,10 +110,10 @@ fn put_literal(literal: &Literal, out: &mut String) -> Result<(), Refusal>
     }
 }
 
-fn put_elements(elements: Elements<'_>, out: &mut String) -> Result<(), Refusal>
-    ensures refused { FailsOnlyForMemory result }
-    ensures value { IfOk result (λ _. string_bytes out.new
-        ≡ string_bytes out.old ++ encode_utf8_all (pattern_text (elements_shown elements.entry))) }
+pub(crate) fn put_elements<S: Sink>(elements: Elements<'_>, out: &mut S) -> Result<(), S::Error>
+    ensures { IfOk result (λ _. S.seen out.new
+        ≡ S.after (S.seen out.old)
+        (encode_utf8_all (pattern_text (elements_shown elements.entry)))) }
 {
     match elements {
         Elements::Text(text) => put_plain_text(text, out),
@@ -129,10 +122,10 @@ fn put_elements(elements: Elements<'_>, out: &mut String) -> Result<(), Refusal>
 }
 
 // Appends the pattern whose elements are the characters of a text.
-fn put_plain_text(text: &str, out: &mut String) -> Result<(), Refusal>
-    ensures refused { FailsOnlyForMemory result }
-    ensures value { IfOk result (λ _. string_bytes out.new ≡ string_bytes out.old
-        ++ encode_utf8_all (pattern_text (plain_elements (chars text.now)))) }
+pub(crate) fn put_plain_text<S: Sink>(text: &str, out: &mut S) -> Result<(), S::Error>
+    ensures { IfOk result (λ _. S.seen out.new
+        ≡ S.after (S.seen out.old)
+        (encode_utf8_all (pattern_text (plain_elements (chars text.now))))) }
 {
     for c in text.chars() {
         put_plain(c, out)?;
@@ -140,10 +133,9 @@ fn put_plain_text(text: &str, out: &mut String) -> Result<(), Refusal>
     Ok(())
 }
 
-fn put_list(elements: &[Element], out: &mut String) -> Result<(), Refusal>
-    ensures refused { FailsOnlyForMemory result }
-    ensures value { IfOk result (λ _. string_bytes out.new
-        ≡ string_bytes out.old ++ encode_utf8_all (pattern_text elements.now)) }
+fn put_list<S: Sink>(elements: &[Element], out: &mut S) -> Result<(), S::Error>
+    ensures { IfOk result (λ _. S.seen out.new
+        ≡ S.after (S.seen out.old) (encode_utf8_all (pattern_text elements.now))) }
 {
     for element in elements {
         put_element(element, out)?;
@@ -151,10 +143,9 @@ fn put_list(elements: &[Element], out: &mut String) -> Result<(), Refusal>
     Ok(())
 }
 
-fn put_element(element: &Element, out: &mut String) -> Result<(), Refusal>
-    ensures refused { FailsOnlyForMemory result }
-    ensures value { IfOk result (λ _. string_bytes out.new
-        ≡ string_bytes out.old ++ encode_utf8_all (element_then element.now [])) }
+fn put_element<S: Sink>(element: &Element, out: &mut S) -> Result<(), S::Error>
+    ensures { IfOk result (λ _. S.seen out.new
+        ≡ S.after (S.seen out.old) (encode_utf8_all (element_then element.now []))) }
 {
     match element {
         Element::Star => out.push('*')?,
@@ -172,10 +163,9 @@ fn put_element(element: &Element, out: &mut String) -> Result<(), Refusal>
 }
 
 // Appends a plain character, with `\` before one of `*`, `?`, `[`, `\` and `"`.
-fn put_plain(c: char, out: &mut String) -> Result<(), Refusal>
-    ensures refused { FailsOnlyForMemory result }
-    ensures value { IfOk result (λ _. string_bytes out.new
-        ≡ string_bytes out.old ++ encode_utf8_all (plain_then c [])) }
+fn put_plain<S: Sink>(c: char, out: &mut S) -> Result<(), S::Error>
+    ensures { IfOk result (λ _. S.seen out.new
+        ≡ S.after (S.seen out.old) (encode_utf8_all (plain_then c []))) }
 {
     if c == '*' || c == '?' || c == '[' || c == '\\' || c == '"' {
         out.push('\\')?;
@@ -185,10 +175,9 @@ fn put_plain(c: char, out: &mut String) -> Result<(), Refusal>
 }
 
 // Appends the items of a set, and its `]`.
-fn put_items(items: &[Item], out: &mut String) -> Result<(), Refusal>
-    ensures refused { FailsOnlyForMemory result }
-    ensures value { IfOk result (λ _. string_bytes out.new
-        ≡ string_bytes out.old ++ encode_utf8_all (items_then items.now [])) }
+fn put_items<S: Sink>(items: &[Item], out: &mut S) -> Result<(), S::Error>
+    ensures { IfOk result (λ _. S.seen out.new
+        ≡ S.after (S.seen out.old) (encode_utf8_all (items_then items.now []))) }
 {
     for item in items {
         put_item(*item, out)?;
@@ -197,10 +186,9 @@ fn put_items(items: &[Item], out: &mut String) -> Result<(), Refusal>
     Ok(())
 }
 
-fn put_item(item: Item, out: &mut String) -> Result<(), Refusal>
-    ensures refused { FailsOnlyForMemory result }
-    ensures value { IfOk result (λ _. string_bytes out.new
-        ≡ string_bytes out.old ++ encode_utf8_all (item_then item [])) }
+fn put_item<S: Sink>(item: Item, out: &mut S) -> Result<(), S::Error>
+    ensures { IfOk result (λ _. S.seen out.new
+        ≡ S.after (S.seen out.old) (encode_utf8_all (item_then item []))) }
 {
     match item {
         Item::One(c) => put_in_set(c, out),
@@ -213,10 +201,9 @@ fn put_item(item: Item, out: &mut String) -> Result<(), Refusal>
 }
 
 // Appends a character in a set, with `\` before one of `]`, `[`, `\`, `^`, `-` and `"`.
-fn put_in_set(c: char, out: &mut String) -> Result<(), Refusal>
-    ensures refused { FailsOnlyForMemory result }
-    ensures value { IfOk result (λ _. string_bytes out.new
-        ≡ string_bytes out.old ++ encode_utf8_all (in_set_then c [])) }
+fn put_in_set<S: Sink>(c: char, out: &mut S) -> Result<(), S::Error>
+    ensures { IfOk result (λ _. S.seen out.new
+        ≡ S.after (S.seen out.old) (encode_utf8_all (in_set_then c []))) }
 {
     if c == ']' || c == '[' || c == '\\' || c == '^' || c == '-' || c == '"' {
         out.push('\\')?;

@@ -6,7 +6,7 @@ ghost use Rattle.lq_predicate_formula.specs.Canonical.{canonical, parts_written}
 ghost use Rattle.lq_predicate_formula.specs.Capped.{capped};
 ghost use Rattle.lq_predicate_formula.specs.Query.{queries};
 
-use crate::size::comparison_size;
+use crate::sink::{Counter, Sink};
 use crate::tree::{Tree, TreeNode};
 use crate::writing::put_comparison;
 use lq_value::Refusal;
@@ -16,45 +16,32 @@ impl Tree {
     pub(crate) fn size(&self) -> usize
         ensures { result ≡ capped (length (canonical self.now)) }
     {
-        match &self.node {
-            TreeNode::Compare(attr, op, literal) => comparison_size(attr, *op, literal),
-            TreeNode::Not(part) => part.size().saturating_add(1),
-            TreeNode::And(parts) => {
-                if parts.is_empty() {
-                    return 2;
-                }
-                let mut size: usize = 0;
-                for part in parts {
-                    size = size.saturating_add(part.size()).saturating_add(2);
-                }
-                size
-            }
-            TreeNode::Or(parts) => {
-                if parts.is_empty() {
-                    return 2;
-                }
-                let mut size: usize = 0;
-                for part in parts {
-                    size = size.saturating_add(part.size()).saturating_add(2);
-                }
-                size
-            }
-        }
+        let mut counter = Counter { size: 0 };
+        let Ok(()) = self.put_in(&mut counter);
+        counter.size
     }
 
     /// Appends the canonical text to a buffer. Refused: `NoMemory`; the buffer may then have a part
     /// of the text.
-    #[cycle(put)]
     pub fn put(&self, out: &mut String) -> Result<(), Refusal>
         ensures refused { FailsOnlyForMemory result }
         ensures value { IfOk result
             (λ _. string_bytes out.new ≡ string_bytes out.old ++ canonical self.now) }
     {
+        self.put_in(out)?;
+        Ok(())
+    }
+
+    #[cycle(put)]
+    fn put_in<S: Sink>(&self, out: &mut S) -> Result<(), S::Error>
+        ensures { IfOk result (λ _. S.seen out.new
+            ≡ S.after (S.seen out.old) (canonical self.now)) }
+    {
         match &self.node {
             TreeNode::Compare(attr, op, literal) => put_comparison(attr, *op, literal, out),
             TreeNode::Not(part) => {
                 out.push_str("!")?;
-                part.put(out)
+                part.put_in(out)
             }
             TreeNode::And(parts) => put_parts(parts.as_slice(), "&&", out),
             TreeNode::Or(parts) => put_parts(parts.as_slice(), "||", out),
@@ -64,17 +51,16 @@ impl Tree {
 
 // Appends the parts in parentheses, with a separator between them.
 #[cycle(put)]
-fn put_parts(parts: &[Tree], separator: &str, out: &mut String) -> Result<(), Refusal>
-    ensures refused { FailsOnlyForMemory result }
-    ensures value { IfOk result (λ _. string_bytes out.new ≡ string_bytes out.old
-        ++ 40 ∷ parts_written separator.now (queries parts.now) (41 ∷ [])) }
+fn put_parts<S: Sink>(parts: &[Tree], separator: &str, out: &mut S) -> Result<(), S::Error>
+    ensures { IfOk result (λ _. S.seen out.new ≡ S.after (S.seen out.old)
+        (40 ∷ parts_written separator.now (queries parts.now) (41 ∷ []))) }
 {
     out.push_str("(")?;
     if let Some((first, others)) = parts.split_first() {
-        first.put(out)?;
+        first.put_in(out)?;
         for part in others {
             out.push_str(separator)?;
-            part.put(out)?;
+            part.put_in(out)?;
         }
     }
     out.push_str(")")?;

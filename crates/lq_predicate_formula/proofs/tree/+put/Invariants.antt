@@ -1,18 +1,17 @@
-use Rattle.std.proofs.Common.{◌≡◌, ◌+◌, ◌*◌, ◌++◌, ◌∷◌, [], drop}
-use Rattle.std.specs.String.{string_bytes}
+use Rattle.std.proofs.Common.{◌≡◌, ◌+◌, ◌*◌, ◌∷◌, [], drop}
 use Rattle.lq_predicate_formula.specs.Query.{queries}
-use Rattle.lq_predicate_formula.specs.Canonical.{depth, deepest}
-use Rattle.lq_predicate_formula.specs.Canonical.{parts_written, others_written}
+use Rattle.lq_predicate_formula.specs.Canonical.{depth, deepest, parts_written, others_written}
 use Rattle.lq_predicate_formula.proofs.tree.+put.Given as goal
 
-abbrev pub decreases-Tree::put : goal.decreases-Tree::put
-decreases-Tree::put l = 2 * depth l.self.now + 1
+abbrev pub decreases-Tree::put_in : goal.decreases-Tree::put_in
+decreases-Tree::put_in g l = 2 * depth l.self.now + 1
 
 abbrev pub decreases-text::put_parts : goal.decreases-text::put_parts
-decreases-text::put_parts l = 2 * deepest (queries l.parts.now) + 2
+decreases-text::put_parts g l = 2 * deepest (queries l.parts.now) + 2
 
 abbrev pub invariant-text::put_parts-loop-part : goal.invariant-text::put_parts-loop-part
-invariant-text::put_parts-loop-part l =
-    string_bytes l.out
-    ++ others_written l.separator (queries (drop l.part-index l.others)) (41 ∷ [])
-    ≡ string_bytes l.fn.out ++ 40 ∷ parts_written l.separator (queries l.parts) (41 ∷ [])
+invariant-text::put_parts-loop-part g l =
+    g.S.Sink.after (g.S.Sink.seen l.out)
+    (others_written l.separator (queries (drop l.part-index l.others)) (41 ∷ []))
+    ≡ g.S.Sink.after (g.S.Sink.seen l.fn.out)
+    (40 ∷ parts_written l.separator (queries l.parts) (41 ∷ []))

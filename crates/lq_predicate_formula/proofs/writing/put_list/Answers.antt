@@ -2,7 +2,7 @@ use Rattle.lq_predicate_formula.proofs.WritingLemmas.{list_on}
 use Rattle.lq_predicate_formula.proofs.writing.put_list.Goals as goal
 
 pub loop-element-preserved : goal.loop-element-preserved
-loop-element-preserved c =
-    list_on _ _ _ c.args.elements.now c.loop-element.element-index c.element-item.result
-    c.loop-element-test.true c.element-item.is c.loop-element.invariant
-    c.in_ok-put_element.ensures.value
+loop-element-preserved g c =
+    list_on g.S.Sink.after g.met.S.Sink.joined _ _ _ c.args.elements.now
+    c.loop-element.element-index c.element-item.result c.loop-element-test.true c.element-item.is
+    c.loop-element.invariant c.in_ok-put_element.ensures
