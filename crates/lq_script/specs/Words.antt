@@ -9,7 +9,7 @@ use Rattle.lq_predicate.specs.Query.{Query}
 use Rattle.lq_predicate.specs.Faults.{Reads}
 use Rattle.lq_predicate.specs.Canonical.{canonical}
 use Rattle.lq_script_lines.specs.Lines.{HasPrefix}
-use Rattle.lq_script_lines.specs.Output.{Ended, Halted, Passed}
+use Rattle.lq_script_lines.specs.Output.{Ended, Halted, NotBegun, Passed}
 use Rattle.lq_script_lines.specs.declared.run_fault.RunFault.{RunFault}
 use Rattle.lq_script_lines.specs.declared.run_fault.RunFault.TheVariants.{Read, Write, Limit, Memory, Thread}
 use Rattle.lq_script_desk.specs.Script.{script_session, world_rules}
@@ -93,7 +93,8 @@ pub record PrintsFront (formula : List ℕ) (written written' : Option (List ℕ
 -- What each fault says. Read: the reader failed, and exactly the lines ended by LF are answered.
 -- Write: the writer failed, or accepted none of some bytes. Limit: a limit was reached, and exactly
 -- the lines before it that LF ended are answered. Memory: the reader hasn't failed, each write took
--- some bytes, and exactly some first lines are answered. No thread is started.
+-- some bytes, and exactly the lines before one are answered, or nothing was read and nothing
+-- written. No thread is started.
 abbrev pub IsRunFault : RunFault → Option (List ℕ) → Option (List ℕ) → Bool
     → Option (List ℕ) → Option (List ℕ) → Bool → Bool → Type 0
 IsRunFault Read left left' fails written written' failed stalled =
@@ -104,7 +105,8 @@ IsRunFault Limit left left' fails written written' failed stalled =
     Passed world_rules script_session left left' written written'
 IsRunFault Memory left left' fails written written' failed stalled =
     ((fails ≡ false) × (stalled ≡ false))
-    × Halted world_rules script_session left left' written written'
+    × (Halted world_rules script_session left left' written written'
+    ⊎ NotBegun left left' written written')
 IsRunFault Thread left left' fails written written' failed stalled = ⊥
 
 -- `threads`

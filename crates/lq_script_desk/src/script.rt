@@ -20,8 +20,8 @@ use std::alloc::Global;
 /// and `Write` where that device failed, `Write` also where the writer took none of the bytes
 /// given, `Limit` where a byte follows 10,000,000 lines or 1,073,741,824 bytes, `Memory`, also
 /// where the run can't begin. After `Read` and `Limit` exactly the lines that LF ended are
-/// answered, after `Memory` some first lines, and after `Write` a prefix of the replies is written.
-/// The formats and limits are our own.
+/// answered, after `Memory` the lines before one that isn't, or none where the run can't begin, and
+/// after `Write` a prefix of the replies is written. The formats and limits are our own.
 pub fn run<R: Client, W: Sink>(
     alloc: Global,
     reader: &mut R,

@@ -1,10 +1,10 @@
 -- How an input is cut into lines, and what is written for lines one after another.
-use Rattle.std.proofs.Common.{◌≡◌, ◌==◌, ℕ, zero, suc, ◌≤◌, ◌++◌, List, [], ◌∷◌, take, length, Option, None, Some, true, refl, sym, ap, ◌∙◌, arith, append_assoc, append-nil}
+use Rattle.std.proofs.Common.{◌≡◌, ◌==◌, ℕ, zero, suc, ◌≤◌, ◌++◌, List, [], ◌∷◌, take, length, Option, None, Some, Bool, true, false, refl, sym, ap, ◌∙◌, arith, append_assoc, append-nil}
 use Rattle.std.specs.Prelude.{unwrap_or}
 use Rattle.memchr.specs.Find.{IsFirstByte, Nowhere, Passes, is_byte}
 use Rattle.std.proofs.lemmas.Bool.{false_from_ne_true}
 use Rattle.lq_script_lines.specs.Lines.{IsUnbroken, Rules, before_ended, ended_lines, line_of, lines_of, replies_to, reply_to, state_after, with_front}
-use Rattle.lq_script_lines.specs.Progress.{IsCut, state_after_all}
+use Rattle.lq_script_lines.specs.Progress.{IsCut, IsKeptLine, state_after_all}
 
 -- the first line ends at the first LF
 pub lines_cut : (bytes : List ℕ) (b : ℕ) (rest : List ℕ) → IsUnbroken bytes → (b == 10) ≡ true
@@ -23,6 +23,32 @@ pub lines_one : (a : ℕ) (bytes : List ℕ) → IsUnbroken (a ∷ bytes)
     → lines_of (a ∷ bytes) ≡ (a ∷ bytes) ∷ []
 lines_one a [] u = rw u.0 refl
 lines_one a (b ∷ bytes) u = rw u.0 (ap (with_front a) (lines_one b bytes u.1))
+
+-- the bytes begin with a line
+abbrev pub BeginsLine : List ℕ → Type 0
+BeginsLine bytes = (next : List ℕ) × ((rest : List (List ℕ)) × (lines_of bytes ≡ next ∷ rest))
+
+-- some bytes begin with one
+line_begins : (b : ℕ) (bs : List ℕ) → BeginsLine (b ∷ bs)
+line_begins b bs = by (b == 10) refl (lines_of bs) refl
+  where
+    by : (ends : Bool) → (b == 10) ≡ ends → (lines : List (List ℕ)) → lines_of bs ≡ lines
+        → BeginsLine (b ∷ bs)
+    by true is lines all = ([], (lines_of bs, rw is refl))
+    by false is [] all = (b ∷ [], ([], rw is (ap (with_front b) all)))
+    by false is (line ∷ lines) all = (b ∷ line, (lines, rw is (ap (with_front b) all)))
+
+-- where another byte follows
+pub line_within : (bytes : List ℕ) (b : ℕ) (rest : List ℕ) → BeginsLine (bytes ++ b ∷ rest)
+line_within [] b rest = line_begins b rest
+line_within (a ∷ bytes) b rest = line_begins a (bytes ++ b ∷ rest)
+
+-- where something is kept of a line in progress
+pub line_kept : (bytes : List ℕ) (long : Bool) (line : List ℕ) → IsKeptLine bytes long line
+    → (long ≡ false → line ≡ [] → ⊥) → BeginsLine (bytes ++ [])
+line_kept (b ∷ bytes) long line kept some = line_begins b (bytes ++ [])
+line_kept [] true line kept some = absurd (let no : ⊥ = omega (arith, kept) in no)
+line_kept [] false line kept some = absurd (some refl (sym kept.0))
 
 -- and no line that LF ended
 pub ended_none : (bytes : List ℕ) → IsUnbroken bytes → ended_lines bytes ≡ []

@@ -7,7 +7,7 @@ use Rattle.lq_script_lines.specs.declared.intake.Intake.{Intake}
 use Rattle.lq_script_lines.specs.Lines.{IsUnbroken, Rules, ended_lines, line_of, lines_of, replies_to, reply_to, state_after}
 use Rattle.lq_script_lines.specs.Output.{IsWithinInput, output_of}
 use Rattle.lq_script_lines.specs.Progress.{Began, Fronts, Halts, IsCut, IsKeptLine, Meets, RunStands, state_after_all}
-use Rattle.lq_script_lines.proofs.LineLemmas.{cut_ended, cut_line, cut_lines, cut_run, lines_one, output_cut, replies_append, replies_one, state_one}
+use Rattle.lq_script_lines.proofs.LineLemmas.{BeginsLine, cut_ended, cut_line, cut_lines, cut_run, line_kept, line_within, lines_one, output_cut, replies_append, replies_one, state_one}
 
 -- replies that wait are written
 pub stands_handed : {State : Type 0} (rules : Rules State) (began : Began State) (given : List ℕ)
@@ -313,37 +313,43 @@ stands_stops rules began given w state intake out s =
     subst (λ l. Fronts rules began l w out) (append-nil given)
     (stands_fronts rules began given w state intake out [] s)
 
--- where a run stands, whole lines are answered, whatever comes next
+-- where a run stands, the lines before the one in progress are answered
 stands_halts : {State : Type 0} (rules : Rules State) (began : Began State) (given : List ℕ)
     (w : Option (List ℕ)) (state : State) (intake : Intake) (out : List ℕ) (rest : List ℕ)
-    → RunStands rules began given w state intake out → Halts rules began (given ++ rest) w out
-stands_halts rules began given w state intake out rest s = record {
+    → (s : RunStands rules began given w state intake out) → BeginsLine (s.bytes ++ rest)
+    → Halts rules began (given ++ rest) w out
+stands_halts rules began given w state intake out rest s begins = record {
   lines = s.lines;
-  rest = lines_of (s.bytes ++ rest);
-  front = s.cut.ahead rest;
+  next = begins.0;
+  rest = begins.1.0;
+  front = s.cut.ahead rest ∙ ap (λ l. s.lines ++ l) begins.1.1;
   text = s.text;
   appended = s.appended;
   due = s.due;
 }
 
--- at a place of a piece
+-- before the end of a piece
 pub halted_at : {State : Type 0} (rules : Rules State) (began : Began State) (given xs : List ℕ)
     (i : ℕ) (w : Option (List ℕ)) (state : State) (intake : Intake) (out : List ℕ)
-    → RunStands rules began (given ++ take i xs) w state intake out
+    → i < length xs → RunStands rules began (given ++ take i xs) w state intake out
     → Halts rules began (given ++ xs) w out
-halted_at rules began given xs i w state intake out s =
+halted_at rules began given xs i w state intake out within s =
     subst (λ l. Halts rules began l w out) (given_rest given xs i)
-    (stands_halts rules began (given ++ take i xs) w state intake out (drop i xs) s)
+    (stands_halts rules began (given ++ take i xs) w state intake out (drop i xs) s
+    (subst (λ l. BeginsLine (s.bytes ++ l)) (sym (drop_more xs i 0 within))
+    (line_within s.bytes (get_or xs i 0) (drop (i + 1) xs))))
 
--- and at the end of an input
+-- and at the end of an input, where a line is in progress
 pub halted_now : {State : Type 0} (rules : Rules State) (began : Began State) (given : List ℕ)
     (w : Option (List ℕ)) (state : State) (intake : Intake) (out : List ℕ)
+    → (intake.long ≡ false → intake.line.items ≡ [] → ⊥)
     → RunStands rules began given w state intake out → Halts rules began given w out
-halted_now rules began given w state intake out s =
+halted_now rules began given w state intake out some s =
     subst (λ l. Halts rules began l w out) (append-nil given)
-    (stands_halts rules began given w state intake out [] s)
+    (stands_halts rules began given w state intake out [] s
+    (line_kept s.bytes intake.long intake.line.items s.kept some))
 
--- whole lines stay answered where neither the writer nor what waits has changed
+-- lines stay answered where neither the writer nor what waits has changed
 pub halts_same : {State : Type 0} (rules : Rules State) (began : Began State) (given : List ℕ)
     (w w' : Option (List ℕ)) (out out' : List ℕ)
     → Halts rules began given w out → w' ≡ w → out' ≡ out → Halts rules began given w' out'
@@ -355,6 +361,7 @@ pub halts_handed : {State : Type 0} (rules : Rules State) (began : Began State) 
     → Halts rules began given w' []
 halts_handed rules began given w w' out h a = record {
   lines = h.lines;
+  next = h.next;
   rest = h.rest;
   front = h.front;
   text = h.text ++ out;

@@ -1,5 +1,5 @@
 -- What a call that succeeded or failed says, put together.
-use Rattle.std.proofs.Common.{◌≡◌, ◌==◌, ◌⊎◌, ℕ, Result, Ok, Err, OnOk, OnErr, IfErr, is_err, true, false, ap, sym, ◌∙◌, inl, inr, subst, arith}
+use Rattle.std.proofs.Common.{◌≡◌, ◌==◌, ◌⊎◌, ℕ, Result, Ok, Err, OnOk, OnErr, IfErr, IsOk, is_err, true, false, ap, sym, ◌∙◌, inl, inr, subst, arith}
 use Rattle.std.proofs.lemmas.Bool.Decides.{nat_tests}
 use Rattle.lq_script_lines.specs.declared.run_fault.RunFault.{RunFault}
 use Rattle.lq_script_lines.specs.declared.run_fault.RunFault.TheVariants.{Limit, Memory, Read, Thread, Write}
@@ -18,6 +18,11 @@ when_ok (Err e) h p = absurd (let no : true ≡ false = h in cc)
 pub when_err : {T E P : Type 0} (r : Result T E) → is_err r ≡ true → OnErr r P → P
 when_err (Ok x) h p = absurd (let no : false ≡ true = h in cc)
 when_err (Err e) h p = p
+
+-- what has an error is no success
+pub not_ok : {T E : Type 0} (r : Result T E) → is_err r ≡ true → IsOk r → ⊥
+not_ok (Ok x) h ok = let no : false ≡ true = h in cc
+not_ok (Err e) h ok = let no : false ≡ true = ok in cc
 
 -- what a success would say, where there is an error
 pub no_ok : {T E : Type 0} (P : Type 0) (r : Result T E) (e : E) → r ≡ Err e → OnOk r P

@@ -42,7 +42,7 @@ run_stopped rules began l l' w given out h f = record {
   front = (out ++ f.front.0, f.front.1 ∙ append_assoc f.text out f.front.0);
 }
 
--- a run that stops between two lines
+-- a run that stops at a line
 pub run_halted : {State : Type 0} (rules : Rules State) (began : Began State)
     (l l' w : Option (List ℕ)) (given : List ℕ) → Consumes l l' given
     → Halts rules began given w [] → Halted rules began.state l l' began.written w
@@ -50,6 +50,7 @@ run_halted rules began l l' w given h t = record {
   given = given;
   consumed = h;
   lines = t.lines;
+  next = t.next;
   rest = t.rest;
   front = t.front;
   appended = subst (Appends began.written w) (sym (append-nil t.text) ∙ t.due) t.appended;

@@ -1,7 +1,7 @@
 -- What a run over a script answers, and what its reader and its writer say before and after it.
 use Rattle.std.specs.Prelude.{◌≡◌, ◌⊎◌, List, ℕ, Option, Bool, true, false, Result, Err, OnOk, OnErr, IsErrOf}
 use Rattle.lq_script_lines.specs.Lines.{Rules}
-use Rattle.lq_script_lines.specs.Output.{Answered, Ended, Halted, Passed, Stopped}
+use Rattle.lq_script_lines.specs.Output.{Answered, Ended, Halted, NotBegun, Passed, Stopped}
 use Rattle.lq_script_lines.specs.declared.run_fault.RunFault.{RunFault}
 use Rattle.lq_script_lines.specs.declared.run_fault.RunFault.TheVariants.{Limit, Memory, Read, Thread, Write}
 
@@ -44,8 +44,10 @@ MayReadAfterReplies {R} {W} rules state left written may_read reader writer =
 
 -- A run that succeeded wrote the whole output, and no device failed. After a fault, the bytes
 -- written are a prefix of the output for the bytes read; after a read fault and at a limit, they
--- are the output for the lines that LF ended; where memory ran out, they are that for whole lines,
--- the reader hasn't failed, and each write took some bytes. Each fault has its cause in the run.
+-- are the output for the lines that LF ended. Where memory ran out, they are that for the lines
+-- before one that has no reply, or the run never began; the reader hasn't failed, and each write
+-- took some bytes. So a fault of the last flush is a write fault. Each fault has its cause in the
+-- run.
 pub record IsRunOutcome {State : Type 0} (rules : Rules State) (state : State)
     (result : Result (Unit {0}) RunFault) (r : ReaderLog) (w : WriterLog) : Type 0 where
   pub ok : OnOk result (Answered rules state r.left r.left' w.written w.written')
@@ -58,6 +60,7 @@ pub record IsRunOutcome {State : Type 0} (rules : Rules State) (state : State)
   pub read : IsErrOf result Read → Ended rules state r.left r.left' w.written w.written'
   pub limit : IsErrOf result Limit → Passed rules state r.left r.left' w.written w.written'
   pub memory : IsErrOf result Memory → Halted rules state r.left r.left' w.written w.written'
+      ⊎ NotBegun r.left r.left' w.written w.written'
   pub memory_works : IsErrOf result Memory → (r.failed ≡ false) × (w.stalled ≡ false)
   pub read_fails : IsErrOf result Read → r.failed ≡ true
   pub write_fails : IsErrOf result Write → (w.failed ≡ true) ⊎ (w.stalled ≡ true)

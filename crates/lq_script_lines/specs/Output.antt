@@ -1,6 +1,6 @@
 -- What a run over a script has read and written when it answers.
 use Rattle.std.specs.Prelude.{◌≡◌, ℕ, ◌≤◌, List, [], ◌∷◌, ◌++◌, length, Option}
-use Rattle.std.specs.Io.KnownBytes.{Appends, Consumes, IsAtEnd}
+use Rattle.std.specs.Io.KnownBytes.{Appends, Consumes, IsAtEnd, Keeps}
 use Rattle.lq_script_lines.specs.Lines.{HasPrefix, Rules, ended_lines, lines_of, replies_to}
 
 -- what is written for an input
@@ -29,15 +29,20 @@ pub record Stopped {State : Type 0} (rules : Rules State) (state : State)
   pub appended : Appends written written' text
   pub front : HasPrefix (output_of rules state given) text
 
--- a run that stopped between two lines: exactly the first lines of what was read were answered
+-- a run that stopped at a line of what was read: exactly the lines before it were answered
 pub record Halted {State : Type 0} (rules : Rules State) (state : State)
     (left left' written written' : Option (List ℕ)) : Type 0 where
   pub given : List ℕ
   pub consumed : Consumes left left' given
   pub lines : List (List ℕ)
+  pub next : List ℕ
   pub rest : List (List ℕ)
-  pub front : lines_of given ≡ lines ++ rest
+  pub front : lines_of given ≡ lines ++ next ∷ rest
   pub appended : Appends written written' (replies_to rules state lines)
+
+-- a run that never began: nothing was read and nothing written
+abbrev pub NotBegun : (left left' written written' : Option (List ℕ)) → Type 0
+NotBegun left left' written written' = (left' ≡ left) × Keeps written written'
 
 -- a run that stopped between two reads: exactly the lines that LF ended were answered
 pub record Ended {State : Type 0} (rules : Rules State) (state : State)

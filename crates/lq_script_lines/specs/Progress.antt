@@ -55,12 +55,14 @@ pub record Fronts {State : Type 0} (rules : Rules State) (began : Began State)
   pub appended : Appends began.written written text
   pub front : HasPrefix (replies_to rules began.state (lines_of given)) (text ++ out)
 
--- whole lines of an input are answered: their replies are what was written and then `out`
+-- the lines of an input before one that isn't answered: their replies are what was written and
+-- then `out`
 pub record Halts {State : Type 0} (rules : Rules State) (began : Began State)
     (given : List ℕ) (written : Option (List ℕ)) (out : List ℕ) : Type 0 where
   pub lines : List (List ℕ)
+  pub next : List ℕ
   pub rest : List (List ℕ)
-  pub front : lines_of given ≡ lines ++ rest
+  pub front : lines_of given ≡ lines ++ next ∷ rest
   pub text : List ℕ
   pub appended : Appends began.written written text
   pub due : text ++ out ≡ replies_to rules began.state lines
@@ -90,7 +92,7 @@ Leaves {State} rules bytes written state intake out written' out' =
     (began : Began State) → (given : List ℕ) → RunStands rules began given written state intake out
     → Fronts rules began (given ++ bytes) written' out'
 
--- where memory runs out in these bytes, whole lines are answered
+-- where memory runs out in these bytes, the lines before one of them are answered
 abbrev pub HaltsIn : {State : Type 0} → Rules State → List ℕ
     → Option (List ℕ) → State → Intake → List ℕ
     → Option (List ℕ) → List ℕ → Type 0
@@ -120,7 +122,7 @@ LeavesAtEnd {State} rules written state intake out written' =
     (began : Began State) → (given : List ℕ) → RunStands rules began given written state intake out
     → Fronts rules began given written' []
 
--- where memory runs out at the end of an input, whole lines are answered
+-- where memory runs out at the end of an input, the lines before the last are answered
 abbrev pub HaltsAtEnd : {State : Type 0} → Rules State
     → Option (List ℕ) → State → Intake → List ℕ → Option (List ℕ) → Type 0
 HaltsAtEnd {State} rules written state intake out written' =

@@ -1,6 +1,7 @@
 //! A run over a script: each line is answered before the next read.
 ghost use Rattle.std.specs.Prelude.{◌≡◌, ◌+◌, ◌⊎◌, [], length, true, false, OnOk, OnErr, IsErrOf};
 ghost use Rattle.lq_script_lines.specs.Outcome.{IsRunOutcome, MayReadAfterReplies, reader_log, writer_log};
+ghost use Rattle.lq_script_lines.specs.Output.{Halted};
 ghost use Rattle.lq_script_lines.specs.Progress.{Goes, HaltsIn, Leaves, MeetsLimit};
 
 use crate::devices::{Client, Sink};
@@ -64,8 +65,8 @@ fn take_block<S: Responder, W: Sink>(
 /// once at the end, also after `Read`, `Limit` and `Memory`. Refused with the first fault: `Read`
 /// and `Write` where that device failed, `Write` also where the writer took none of the bytes
 /// given, `Limit` where a byte follows 10,000,000 lines or 1,073,741,824 bytes, `Memory`. After
-/// `Read` and `Limit` exactly the lines that LF ended are answered, after `Memory` some first
-/// lines, and after `Write` a prefix of the replies is written.
+/// `Read` and `Limit` exactly the lines that LF ended are answered, after `Memory` the lines before
+/// one that isn't, and after `Write` a prefix of the replies is written.
 pub fn run_lines<R: Client, W: Sink, S: Responder>(
     alloc: Global,
     reader: &mut R,
@@ -81,6 +82,10 @@ pub fn run_lines<R: Client, W: Sink, S: Responder>(
         (reader_log (R.left reader.old) (R.left reader.new) (R.failed reader.new))
         (writer_log (W.written writer.old) (W.written writer.new)
         (W.failed writer.new) (W.stalled writer.new) (W.flushed writer.new)) }
+
+    // It has begun: where memory ran out, a line that was read has no reply.
+    ensures begun { IsErrOf result RunFault.Memory → Halted S.rules (S.state responder.old)
+        (R.left reader.old) (R.left reader.new) (W.written writer.old) (W.written writer.new) }
 {
     let mut block = [0u8; BLOCK];
     let mut intake = Intake::new(alloc);

@@ -1,11 +1,12 @@
 //! The plain body of `lq_update::step`: the difference of two whole results.
-ghost use Rattle.std.specs.Prelude.{◌≡◌, ◌+◌, ◌<◌, ◌≤◌, ◌^◌, ◌++◌, ◌==◌, length, IfOk, OnOk, filter, map, vec_len};
-ghost use Rattle.std.specs.List.{list_any};
+ghost use Rattle.std.specs.Prelude.{◌≡◌, ◌+◌, ◌<◌, ◌≤◌, ◌^◌, ◌++◌, ◌==◌, length, IfOk, OnOk, map, vec_len};
+ghost use Rattle.std.specs.List.{find, list_any};
+ghost use Rattle.std.specs.Option.{option_copied, option_map_or};
 ghost use Rattle.lq_value.specs.Refusal.{FailsOnlyForMemory};
 ghost use Rattle.lq_volume.specs.Change.{after, IsLawful};
 ghost use Rattle.lq_volume.specs.Result.{result_of};
 ghost use Rattle.lq_update.specs.declared.message.Opcode.TheVariants.{Created, Moved, Removed};
-ghost use Rattle.lq_update.specs.Diff.{alone, has_node, missing, messages_of, moves, same_entry};
+ghost use Rattle.lq_update.specs.Diff.{as_moved, is_move, missing, messages_of, same_entry, with_moves};
 ghost use Rattle.lq_update.specs.Updates.{numbered, step_of};
 
 use lq_predicate::Predicate;
@@ -101,12 +102,6 @@ pub fn is_same(a: &Entry, b: &Entry) -> bool
     a.dir == b.dir && a.name == b.name && a.node == b.node
 }
 
-fn has_node(node: u64, entries: &[Entry]) -> bool
-    ensures { result ≡ has_node node entries.now }
-{
-    entries.iter().any(|entry| entry.node == node)
-}
-
 fn copy_of(alloc: Global, entry: &Entry) -> Result<Entry, Refusal>
     ensures refused { FailsOnlyForMemory result }
     ensures value { IfOk result (λ copy. copy ≡ entry.now) }
@@ -129,86 +124,119 @@ fn told(
     ensures value { IfOk result (λ all. all.items ≡ messages_of moved gone.now come.now) }
 {
     let mut all = Vec::new(alloc);
-    if !moved {
-        put_removed(alloc, &mut all, gone, &[])?;
-        put_created(alloc, &mut all, come, &[])?;
-        return Ok(all);
+    put_removed(alloc, &mut all, gone)?;
+    put_created(alloc, &mut all, come)?;
+    if moved {
+        return with_moves(alloc, &all);
     }
-    put_removed(alloc, &mut all, gone, come)?;
-    put_moved(alloc, &mut all, gone, come)?;
-    put_created(alloc, &mut all, come, gone)?;
     Ok(all)
 }
 
-fn put_removed(
-    alloc: Global,
-    all: &mut Vec<(Opcode, Entry)>,
-    gone: &[Entry],
-    come: &[Entry],
-) -> Result<(), Refusal>
+fn put_removed(alloc: Global, all: &mut Vec<(Opcode, Entry)>, gone: &[Entry]) -> Result<(), Refusal>
     ensures refused { FailsOnlyForMemory result }
     ensures all { OnOk result (all.new.items
-        ≡ all.old.items ++ map (λ e. (Removed, e)) (alone gone.now come.now)) }
+        ≡ all.old.items ++ map (λ e. (Removed, e)) gone.now) }
 {
     for entry in gone {
-        if !has_node(entry.node, come) {
-            all.push((Opcode::Removed, copy_of(alloc, entry)?))?;
-        }
+        all.push((Opcode::Removed, copy_of(alloc, entry)?))?;
     }
     Ok(())
 }
 
-fn put_created(
-    alloc: Global,
-    all: &mut Vec<(Opcode, Entry)>,
-    come: &[Entry],
-    gone: &[Entry],
-) -> Result<(), Refusal>
+fn put_created(alloc: Global, all: &mut Vec<(Opcode, Entry)>, come: &[Entry]) -> Result<(), Refusal>
     ensures refused { FailsOnlyForMemory result }
     ensures all { OnOk result (all.new.items
-        ≡ all.old.items ++ map (λ e. (Created, e)) (alone come.now gone.now)) }
+        ≡ all.old.items ++ map (λ e. (Created, e)) come.now) }
 {
     for entry in come {
-        if !has_node(entry.node, gone) {
-            all.push((Opcode::Created, copy_of(alloc, entry)?))?;
-        }
+        all.push((Opcode::Created, copy_of(alloc, entry)?))?;
     }
     Ok(())
 }
 
-fn put_moved(
-    alloc: Global,
-    all: &mut Vec<(Opcode, Entry)>,
-    gone: &[Entry],
-    come: &[Entry],
-) -> Result<(), Refusal>
+// The same messages, where a removed and a created one of a node are one moved one.
+fn with_moves(alloc: Global, all: &[(Opcode, Entry)]) -> Result<Vec<(Opcode, Entry)>, Refusal>
     ensures refused { FailsOnlyForMemory result }
-    ensures all { OnOk result (all.new.items ≡ all.old.items ++ moves gone.now come.now) }
+    ensures value { IfOk result (λ kept. kept.items ≡ with_moves all.now) }
 {
-    for from in gone {
-        put_moves_of(alloc, all, from, come)?;
-    }
-    Ok(())
-}
-
-// The moves of one entry that left: to each that came with its node.
-fn put_moves_of(
-    alloc: Global,
-    all: &mut Vec<(Opcode, Entry)>,
-    from: &Entry,
-    come: &[Entry],
-) -> Result<(), Refusal>
-    ensures refused { FailsOnlyForMemory result }
-    ensures all { OnOk result (all.new.items ≡ all.old.items
-        ++ map (λ f. (Moved from.now.dir from.now.name, f))
-        (filter (λ f. f.node == from.now.node) come.now)) }
-{
-    for to in come {
-        if to.node == from.node {
-            all.push((moved_from(alloc, from)?, copy_of(alloc, to)?))?;
+    let mut kept = Vec::new(alloc);
+    for message in all {
+        if !is_first(message, all) {
+            kept.push(as_moved(alloc, all, message)?)?;
         }
     }
-    Ok(())
+    Ok(kept)
+}
+
+// Whether the message is removed and another one creates its node.
+fn is_first(message: &(Opcode, Entry), all: &[(Opcode, Entry)]) -> bool
+    ensures { result ≡ list_any (is_move message.now) all.now }
+{
+    all.iter().any(|other| is_move(message, other))
+}
+
+fn is_move(from: &(Opcode, Entry), to: &(Opcode, Entry)) -> bool
+    ensures { result ≡ is_move from.now to.now }
+{
+    match (&from.0, &to.0) {
+        (Opcode::Removed, Opcode::Created) => from.1.node == to.1.node,
+        _ => false,
+    }
+}
+
+// A created message as a moved one, if its node was removed; else a copy of it.
+fn as_moved(
+    alloc: Global,
+    all: &[(Opcode, Entry)],
+    message: &(Opcode, Entry),
+) -> Result<(Opcode, Entry), Refusal>
+    ensures refused { FailsOnlyForMemory result }
+    ensures value { IfOk result (λ told. told ≡ as_moved all.now message.now) }
+{
+    moved_by(alloc, removed_of(message, all), message)
+}
+
+// The first message that makes a move with this one.
+fn removed_of<'a>(
+    message: &(Opcode, Entry),
+    all: &'a [(Opcode, Entry)],
+) -> Option<&'a (Opcode, Entry)>
+    ensures { option_copied result ≡ find (λ m. is_move m message.now) all.now }
+{
+    all.iter().find(|other| is_move(other, message))
+}
+
+fn moved_by(
+    alloc: Global,
+    from: Option<&(Opcode, Entry)>,
+    message: &(Opcode, Entry),
+) -> Result<(Opcode, Entry), Refusal>
+    ensures refused { FailsOnlyForMemory result }
+    ensures value { IfOk result (λ told. told ≡ option_map_or
+        (λ m. (Moved m.1.dir m.1.name, message.now.1)) (option_copied from.entry) message.now) }
+{
+    let entry = copy_of(alloc, &message.1)?;
+    match from {
+        Some(from) => Ok((moved_from(alloc, &from.1)?, entry)),
+        None => Ok((copy_of_opcode(alloc, &message.0)?, entry)),
+    }
+}
+
+fn copy_of_opcode(alloc: Global, op: &Opcode) -> Result<Opcode, Refusal>
+    ensures refused { FailsOnlyForMemory result }
+    ensures value { IfOk result (λ copy. copy ≡ op.now) }
+{
+    Ok(match op {
+        Opcode::Created => Opcode::Created,
+        Opcode::Removed => Opcode::Removed,
+        Opcode::Moved {
+            from_dir,
+            from_name,
+        } => Opcode::Moved {
+            from_dir: *from_dir,
+            from_name: from_name.copy(alloc)?,
+        },
+    })
 }
 
 fn moved_from(alloc: Global, from: &Entry) -> Result<Opcode, Refusal>

@@ -1,7 +1,7 @@
 -- Folding what two results differ by over the one gives the other.
 use Rattle.std.proofs.Common.{◌≡◌, ℕ, ◌+◌, ◌<◌, List, [], ◌∷◌, ◌++◌, refl, sym, ap, subst, ◌∙◌, Bool, true, false, arith, inl, inr}
-use Rattle.std.specs.Prelude.{Option, Some, None, is_some, map, not, ◌&&◌, ◌==◌, filter, if◌then◌else◌}
-use Rattle.std.specs.Option.{option_map, option_map_or, option_to_list}
+use Rattle.std.specs.Prelude.{Option, Some, None, is_some, map, not, ◌&&◌, ◌==◌, if◌then◌else◌}
+use Rattle.std.specs.Option.{option_map, option_map_or}
 use Rattle.std.specs.List.{AllByRecursion, list_any}
 use Rattle.std.proofs.lemmas.Map.Entries.{option_filter}
 use Rattle.std.proofs.lemmas.Bool.{cases_eq}
@@ -10,12 +10,12 @@ use Rattle.lq_value.specs.declared.entry.Entry.{Entry}
 use Rattle.lq_update.specs.declared.message.Opcode.{Opcode}
 use Rattle.lq_update.specs.declared.message.Opcode.TheVariants.{Created, Removed, Moved}
 use Rattle.lq_update.specs.declared.message.Message.{Message}
-use Rattle.lq_update.specs.Diff.{same_entry, missing, has_node, moves, messages_of}
-use Rattle.lq_update.specs.Touched.{left, told_first}
+use Rattle.lq_update.specs.Diff.{same_entry, missing, has_node, messages_of}
+use Rattle.lq_update.specs.Touched.{left, told_first, told_last}
 use Rattle.lq_update.specs.Updates.{numbered}
 use Rattle.lq_update.specs.Fold.{EntriesRise, taken_out, old_entry, folded_by, fits_result, folded, folded_one, fits_in}
-use Rattle.lq_update.proofs.ToldLemmas.{alone_if, messages-split}
-use Rattle.lq_update.proofs.EntryLemmas.{Above, entry_at, at-above, at-node, has_node-at, has_entry-at, at-filter, rises-filter, at-put_in, rises-put_in, at-taken_out, same-self, same-entry, entries-same}
+use Rattle.lq_update.proofs.ToldLemmas.{alone_if, came_op, messages-split}
+use Rattle.lq_update.proofs.EntryLemmas.{Above, entry_at, at-node, has_node-at, has_entry-at, at-filter, rises-filter, at-put_in, rises-put_in, at-taken_out, same-self, same-entry, entries-same}
 
 -- ---- one message, without its numbers
 
@@ -170,113 +170,45 @@ phase r (x ∷ xs) h k need =
       ];
     }
 
--- ---- the three lists of a difference
+-- ---- the two lists of a difference
 
--- by one opcode
-op_at-map : (op : Opcode) (n : ℕ) (es : List Entry)
-    → op_at n (map (λ e. (op, e)) es) ≡ option_map (λ e. (op, e)) (entry_at n es)
+-- by the opcode of each entry
+op_at-map : (op : Entry → Opcode) (n : ℕ) (es : List Entry)
+    → op_at n (map (λ e. (op e, e)) es) ≡ option_map (λ e. (op e, e)) (entry_at n es)
 op_at-map op n [] = refl
 op_at-map op n (e ∷ es) = let rest = op_at-map op n es in grind (arith, nat_tests)
 
 -- messages of entries above a node are above it
-above-map : (op : Opcode) (n : ℕ) (es : List Entry) → Above n es
-    → OpsAbove n (map (λ e. (op, e)) es)
+above-map : (op : Entry → Opcode) (n : ℕ) (es : List Entry) → Above n es
+    → OpsAbove n (map (λ e. (op e, e)) es)
 above-map op n [] h = tt
 above-map op n (e ∷ es) h = (h.0, above-map op n es h.1)
 
 -- messages of entries that rise do so too
-rises-map : (op : Opcode) (es : List Entry) → EntriesRise es → OpsRise (map (λ e. (op, e)) es)
+rises-map : (op : Entry → Opcode) (es : List Entry) → EntriesRise es
+    → OpsRise (map (λ e. (op e, e)) es)
 rises-map op [] h = tt
 rises-map op (e ∷ es) h = (above-map op e.node es h.0, rises-map op es h.1)
 
--- the moves
-filter-above : (n : ℕ) (es : List Entry) → Above n es → filter (λ f. f.node == n) es ≡ []
-filter-above n [] h = refl
-filter-above n (e ∷ es) h =
-    let low = h.0 in
-    let rest = filter-above n es h.1 in
-    grind (arith, nat_tests)
-
--- where nodes rise, the entries of one node are the one that is found for it
-filter-node : (n : ℕ) (es : List Entry) → EntriesRise es
-    → filter (λ f. f.node == n) es ≡ option_to_list (entry_at n es)
-filter-node n [] h = refl
-filter-node n (e ∷ es) h = elim (cases_eq e.node n) [
-  | inl same ↦ let none = filter-above n es (rw (← same) h.0) in grind (arith, nat_tests)
-  | inr differs ↦ let rest = filter-node n es h.1 in grind (arith, nat_tests)
-]
-
--- the message of a move from an entry to another, if there is another
-abbrev move_at : Entry → Option Entry → List Op
-move_at e o = map (λ f. (Moved e.dir e.name, f)) (option_to_list o)
-
--- the move from an old entry to a new one, where there are both
-abbrev move_of : Option Entry → Option Entry → Option Op
-move_of None new = None
-move_of (Some e) None = None
-move_of (Some e) (Some f) = Some (Moved e.dir e.name, f)
-
--- the moves from one more entry begin with its own
-moves-cons : (e : Entry) (es fs : List Entry) → EntriesRise fs
-    → moves (e ∷ es) fs ≡ move_at e (entry_at e.node fs) ++ moves es fs
-moves-cons e es fs h =
-    ap (λ gs. map (λ f. (Moved e.dir e.name, f)) gs ++ moves es fs) (filter-node e.node fs h)
-
--- the moves from entries above a node are above it
-above-moves : (n : ℕ) (es fs : List Entry) → EntriesRise fs → Above n es → OpsAbove n (moves es fs)
-above-moves n [] fs k h = tt
-above-moves n (e ∷ es) fs k h =
-    rw (moves-cons e es fs k) (at (entry_at e.node fs) refl (above-moves n es fs k h.1))
+-- what is told of a node's entry that came, by what left there
+came-told : (moved : Bool) (n : ℕ) (gone come : List Entry)
+    → option_map (λ f. (came_op moved gone f, f)) (entry_at n come)
+    ≡ told_last moved (entry_at n gone) (entry_at n come)
+came-told moved n gone come = at (entry_at n come) refl
   where
-    at : (o : Option Entry) → entry_at e.node fs ≡ o → OpsAbove n (moves es fs)
-        → OpsAbove n (move_at e o ++ moves es fs)
-    at None is rest = rest
-    at (Some f) is rest = let node = at-node e.node fs f is in (rw node h.0, rest)
+    by : (moved : Bool) (f : Entry) (o : Option Entry) → entry_at f.node gone ≡ o
+        → Some (came_op moved gone f, f) ≡ told_last moved o (Some f)
+    by false f None is = refl
+    by false f (Some e) is = refl
+    by true f None is = rw is refl
+    by true f (Some e) is = rw is refl
 
--- the moves between entries that rise do so too
-rises-moves : (es fs : List Entry) → EntriesRise es → EntriesRise fs → OpsRise (moves es fs)
-rises-moves [] fs h k = tt
-rises-moves (e ∷ es) fs h k =
-    rw (moves-cons e es fs k) (at (entry_at e.node fs) refl (rises-moves es fs h.1 k))
-  where
-    at : (o : Option Entry) → entry_at e.node fs ≡ o → OpsRise (moves es fs)
-        → OpsRise (move_at e o ++ moves es fs)
-    at None is rest = rest
-    at (Some f) is rest =
-        let node = at-node e.node fs f is in
-        (rw node (above-moves e.node es fs k h.0), rest)
-
--- the move of a node is from its old entry to its new one
-op_at-moves : (n : ℕ) (es fs : List Entry) → EntriesRise es → EntriesRise fs
-    → op_at n (moves es fs) ≡ move_of (entry_at n es) (entry_at n fs)
-op_at-moves n [] fs h k = refl
-op_at-moves n (e ∷ es) fs h k = ap (op_at n) (moves-cons e es fs k) ∙ elim (cases_eq e.node n) [
-  | inl same ↦
-      let on : (e.node == n) ≡ true = grind (arith, nat_tests) in
-      let none : op_at n (moves es fs) ≡ None = op_at-moves n es fs h.1 k
-      ∙ rw (at-above n es (rw (← same) h.0)) refl in
-      let same_at : entry_at e.node fs ≡ entry_at n fs = ap (λ k. entry_at k fs) same in
-      rw (on, same_at) (here (entry_at n fs) refl none)
-  | inr differs ↦
-      let off : (e.node == n) ≡ false = grind (arith, nat_tests) in
-      rw off (there differs (entry_at e.node fs) refl ∙ op_at-moves n es fs h.1 k)
-]
-  where
-    here : (o : Option Entry) → entry_at n fs ≡ o → op_at n (moves es fs) ≡ None
-        → op_at n (move_at e o ++ moves es fs) ≡ move_of (Some e) o
-    here None is none = none
-    here (Some f) is none =
-        let node = at-node n fs f is in
-        let on : (f.node == n) ≡ true = grind (arith, nat_tests) in
-        rw on refl
-
-    there : (e.node ≡ n → ⊥) → (o : Option Entry) → entry_at e.node fs ≡ o
-        → op_at n (move_at e o ++ moves es fs) ≡ op_at n (moves es fs)
-    there differs None is = refl
-    there differs (Some f) is =
-        let node = at-node e.node fs f is in
-        let off : (f.node == n) ≡ false = grind (arith, nat_tests) in
-        rw off refl
+    at : (o : Option Entry) → entry_at n come ≡ o
+        → option_map (λ f. (came_op moved gone f, f)) o ≡ told_last moved (entry_at n gone) o
+    at None is = refl
+    at (Some f) is =
+        let node = at-node n come f is in
+        by moved f (entry_at n gone) (ap (λ k. entry_at k gone) node)
 
 -- what is missing at a node, and what of it stands alone
 pub missing-at : (n : ℕ) (es fs : List Entry) → EntriesRise es → EntriesRise fs
@@ -330,23 +262,11 @@ alone-at moved n es fs h = at-filter _ n es h ∙ at (entry_at n es) refl
 abbrev removed_op : Bool → Option Entry → Option Entry → Option Op
 removed_op moved old new = option_map (λ e. (Removed, e)) (told_first moved old new)
 
--- the moved message of a node
-abbrev moved_op : Bool → Option Entry → Option Entry → Option Op
-moved_op false old new = None
-moved_op true old new = move_of old new
-
--- the created message of a node
-abbrev created_op : Bool → Option Entry → Option Entry → Option Op
-created_op moved old new = option_map (λ e. (Created, e)) (told_first moved new old)
-
--- from what the node had to what it has, by a removed, a moved and a created message
+-- from what the node had to what it has, by a removed message and what is told last
 record Turns (moved : Bool) (o p gone new : Option Entry) : Type 0 where
   removed : NeedAt (removed_op moved gone new) o
-  joined : NeedAt (moved_op moved gone new) (outcome (removed_op moved gone new) o)
-  created : NeedAt (created_op moved gone new)
-      (outcome (moved_op moved gone new) (outcome (removed_op moved gone new) o))
-  end : outcome (created_op moved gone new)
-      (outcome (moved_op moved gone new) (outcome (removed_op moved gone new) o)) ≡ p
+  came : NeedAt (told_last moved gone new) (outcome (removed_op moved gone new) o)
+  end : outcome (told_last moved gone new) (outcome (removed_op moved gone new) o) ≡ p
 
 -- an entry with another node
 abbrev with_node : Entry → ℕ → Entry
@@ -369,24 +289,24 @@ same-swapped e f false is = back (same_entry f e) refl
 
 -- a node whose entry stays needs no message
 turns-same : (moved : Bool) (e f : Entry) → e ≡ f → Turns moved (Some e) (Some f) None None
-turns-same false e f is = record { removed = tt; joined = tt; created = tt; end = ap Some is }
-turns-same true e f is = record { removed = tt; joined = tt; created = tt; end = ap Some is }
+turns-same false e f is = record { removed = tt; came = tt; end = ap Some is }
+turns-same true e f is = record { removed = tt; came = tt; end = ap Some is }
 
 -- a node whose entry changes is told of by its messages
 turns-apart : (moved : Bool) (e f : Entry) → e.node ≡ f.node
     → Turns moved (Some e) (Some f) (Some e) (Some f)
-turns-apart false e f at = record { removed = refl; joined = tt; created = refl; end = refl }
+turns-apart false e f at = record { removed = refl; came = refl; end = refl }
 turns-apart true e f at =
-    record { removed = tt; joined = ap (λ n. Some (with_node e n)) at; created = tt; end = refl }
+    record { removed = tt; came = ap (λ n. Some (with_node e n)) at; end = refl }
 
 -- the messages of a node by what left and what came take it from its old entry to its new one
 turns : (moved : Bool) (o p : Option Entry) → SameNode o p → Turns moved o p (left o p) (left p o)
-turns false None None s = record { removed = tt; joined = tt; created = tt; end = refl }
-turns true None None s = record { removed = tt; joined = tt; created = tt; end = refl }
-turns false None (Some f) s = record { removed = tt; joined = tt; created = refl; end = refl }
-turns true None (Some f) s = record { removed = tt; joined = tt; created = refl; end = refl }
-turns false (Some e) None s = record { removed = refl; joined = tt; created = tt; end = refl }
-turns true (Some e) None s = record { removed = refl; joined = tt; created = tt; end = refl }
+turns false None None s = record { removed = tt; came = tt; end = refl }
+turns true None None s = record { removed = tt; came = tt; end = refl }
+turns false None (Some f) s = record { removed = tt; came = refl; end = refl }
+turns true None (Some f) s = record { removed = tt; came = refl; end = refl }
+turns false (Some e) None s = record { removed = refl; came = tt; end = refl }
+turns true (Some e) None s = record { removed = refl; came = tt; end = refl }
 turns moved (Some e) (Some f) s = both (same_entry e f) refl
   where
     both : (b : Bool) → same_entry e f ≡ b
@@ -434,13 +354,9 @@ module _ (moved : Bool) (es fs : List Entry) (h : EntriesRise es) (k : EntriesRi
   abbrev removed_ops : List Op
   removed_ops = map (λ e. (Removed, e)) (alone_if moved (missing es fs) (missing fs es))
 
-  -- the moved messages
-  abbrev moved_ops : List Op
-  moved_ops = if moved then moves (missing es fs) (missing fs es) else []
-
-  -- the created messages
-  abbrev created_ops : List Op
-  created_ops = map (λ e. (Created, e)) (alone_if moved (missing fs es) (missing es fs))
+  -- the messages of what came
+  abbrev came_ops : List Op
+  came_ops = map (λ f. (came_op moved (missing es fs) f, f)) (missing fs es)
 
   -- what left rises
   gone-rises : EntriesRise (missing es fs)
@@ -453,28 +369,16 @@ module _ (moved : Bool) (es fs : List Entry) (h : EntriesRise es) (k : EntriesRi
   -- the removed message of a node is the one by what left there and what came
   removed-at : (n : ℕ) → op_at n removed_ops ≡ removed_op moved
       (left (entry_at n es) (entry_at n fs)) (left (entry_at n fs) (entry_at n es))
-  removed-at n = op_at-map Removed n (alone_if moved (missing es fs) (missing fs es))
+  removed-at n = op_at-map (λ _. Removed) n (alone_if moved (missing es fs) (missing fs es))
       ∙ ap (option_map (λ e. (Removed, e))) (alone-at moved n (missing es fs)
       (missing fs es) gone-rises ∙ rw (missing-at n es fs h k, missing-at n fs es k h) refl)
 
-  -- and so is the created one
-  created-at : (n : ℕ) → op_at n created_ops ≡ created_op moved
+  -- and so is the one that is told last
+  came-at : (n : ℕ) → op_at n came_ops ≡ told_last moved
       (left (entry_at n es) (entry_at n fs)) (left (entry_at n fs) (entry_at n es))
-  created-at n = op_at-map Created n (alone_if moved (missing fs es) (missing es fs))
-      ∙ ap (option_map (λ e. (Created, e))) (alone-at moved n (missing fs es)
-      (missing es fs) came-rises ∙ rw (missing-at n es fs h k, missing-at n fs es k h) refl)
-
-  -- and the moved one, where moves are told or not
-  moved-by : (b : Bool) (n : ℕ) → op_at n (if b then moves (missing es fs) (missing fs es) else [])
-      ≡ moved_op b (left (entry_at n es) (entry_at n fs)) (left (entry_at n fs) (entry_at n es))
-  moved-by false n = refl
-  moved-by true n = op_at-moves n (missing es fs) (missing fs es) gone-rises came-rises
-      ∙ rw (missing-at n es fs h k, missing-at n fs es k h) refl
-
-  -- the moved messages rise, where they are told or not
-  moved-rise : (b : Bool) → OpsRise (if b then moves (missing es fs) (missing fs es) else [])
-  moved-rise false = tt
-  moved-rise true = rises-moves (missing es fs) (missing fs es) gone-rises came-rises
+  came-at n = op_at-map (came_op moved (missing es fs)) n (missing fs es)
+      ∙ (came-told moved n (missing es fs) (missing fs es)
+      ∙ rw (missing-at n es fs h k, missing-at n fs es k h) refl)
 
   -- at each node they go from the first list's entry to the second's
   turn : (n : ℕ) → Turns moved (entry_at n es) (entry_at n fs)
@@ -483,7 +387,7 @@ module _ (moved : Bool) (es fs : List Entry) (h : EntriesRise es) (k : EntriesRi
 
   -- the removed messages fit the first list
   first_phase : Phase es removed_ops
-  first_phase = phase es removed_ops h (rises-map Removed _ (rises-filter _ _ gone-rises))
+  first_phase = phase es removed_ops h (rises-map (λ _. Removed) _ (rises-filter _ _ gone-rises))
       (λ n. need-same _ _ _ _ (removed-at n) refl (turn n).removed)
 
   -- what they leave at each node
@@ -491,53 +395,31 @@ module _ (moved : Bool) (es fs : List Entry) (h : EntriesRise es) (k : EntriesRi
       (left (entry_at n es) (entry_at n fs)) (left (entry_at n fs) (entry_at n es))) (entry_at n es)
   at-first n = first_phase.at n ∙ ap (λ x. outcome x (entry_at n es)) (removed-at n)
 
-  -- the moved messages fit what those leave
-  second_phase : Phase (ops_folded es removed_ops) moved_ops
-  second_phase = phase (ops_folded es removed_ops) moved_ops first_phase.rise (moved-rise moved)
-      (λ n. need-same _ _ _ _ (moved-by moved n) (at-first n) (turn n).joined)
-
-  -- what they leave at each node
-  at-second : (n : ℕ) → entry_at n (ops_folded (ops_folded es removed_ops) moved_ops)
-      ≡ outcome
-      (moved_op moved (left (entry_at n es) (entry_at n fs)) (left (entry_at n fs) (entry_at n es)))
-      (outcome (removed_op moved (left (entry_at n es) (entry_at n fs))
-      (left (entry_at n fs) (entry_at n es))) (entry_at n es))
-  at-second n = second_phase.at n
-      ∙ (ap (λ x. outcome x (entry_at n (ops_folded es removed_ops))) (moved-by moved n)
-      ∙ ap (outcome (moved_op moved (left (entry_at n es) (entry_at n fs))
-      (left (entry_at n fs) (entry_at n es)))) (at-first n))
-
-  -- the created messages fit what those leave
-  third_phase : Phase (ops_folded (ops_folded es removed_ops) moved_ops) created_ops
-  third_phase = phase (ops_folded (ops_folded es removed_ops) moved_ops)
-      created_ops second_phase.rise (rises-map Created _ (rises-filter _ _ came-rises))
-      (λ n. need-same _ _ _ _ (created-at n) (at-second n) (turn n).created)
+  -- the messages of what came fit what those leave
+  second_phase : Phase (ops_folded es removed_ops) came_ops
+  second_phase = phase (ops_folded es removed_ops) came_ops first_phase.rise
+      (rises-map (came_op moved (missing es fs)) _ came-rises)
+      (λ n. need-same _ _ _ _ (came-at n) (at-first n) (turn n).came)
 
   -- what they leave at each node is the second list's entry
-  at-third : (n : ℕ) → entry_at n
-      (ops_folded (ops_folded (ops_folded es removed_ops) moved_ops) created_ops) ≡ entry_at n fs
-  at-third n = third_phase.at n
-      ∙ (ap (λ x. outcome x (entry_at n (ops_folded (ops_folded es removed_ops) moved_ops)))
-      (created-at n)
-      ∙ (ap (outcome (created_op moved (left (entry_at n es) (entry_at n fs))
-      (left (entry_at n fs) (entry_at n es)))) (at-second n) ∙ (turn n).end))
+  at-second : (n : ℕ)
+      → entry_at n (ops_folded (ops_folded es removed_ops) came_ops) ≡ entry_at n fs
+  at-second n = second_phase.at n
+      ∙ (ap (λ x. outcome x (entry_at n (ops_folded es removed_ops))) (came-at n)
+      ∙ (ap (outcome (told_last moved (left (entry_at n es) (entry_at n fs))
+      (left (entry_at n fs) (entry_at n es)))) (at-first n) ∙ (turn n).end))
 
   -- folding the difference over the first list gives the second
   pub told-folds : ops_folded es (messages_of moved (missing es fs) (missing fs es)) ≡ fs
   told-folds = ap (ops_folded es) (messages-split moved (missing es fs) (missing fs es))
-      ∙ (ops_folded-append es (removed_ops ++ moved_ops) created_ops
-      ∙ (ap (λ r. ops_folded r created_ops) (ops_folded-append es removed_ops moved_ops)
-      ∙ entries-same _ fs third_phase.rise k at-third))
+      ∙ (ops_folded-append es removed_ops came_ops
+      ∙ entries-same _ fs second_phase.rise k at-second)
 
   -- the messages of the difference fit, one after another
   pub told-fits : OpsFit es (messages_of moved (missing es fs) (missing fs es))
-  told-fits =
-      let both : OpsFit es (removed_ops ++ moved_ops) =
-      fit-append es removed_ops moved_ops first_phase.fit second_phase.fit in
-      let third : OpsFit (ops_folded es (removed_ops ++ moved_ops)) created_ops =
-      rw (ops_folded-append es removed_ops moved_ops) third_phase.fit in
-      subst (λ (xs : List Op). OpsFit es xs) (sym (messages-split moved (missing es fs) (missing fs es)))
-      (fit-append es (removed_ops ++ moved_ops) created_ops both third)
+  told-fits = subst (λ (xs : List Op). OpsFit es xs)
+      (sym (messages-split moved (missing es fs) (missing fs es)))
+      (fit-append es removed_ops came_ops first_phase.fit second_phase.fit)
 
 -- ---- with their numbers
 

@@ -1,15 +1,17 @@
 -- What a removed and a created entry of one node tell, among removed ones of other nodes.
 use Rattle.std.proofs.Common.{◌≡◌, ◌≢◌, ℕ, List, [], ◌∷◌, ◌++◌, refl, sym, ap, ◌∙◌, Bool, true, false, arith, append-nil, append_assoc}
-use Rattle.std.specs.Prelude.{map, filter, not, ◌&&◌, ◌==◌, Option, Some, None, if◌then◌else◌}
-use Rattle.std.specs.Option.{option_to_list}
-use Rattle.std.specs.List.{AllByRecursion}
+use Rattle.std.specs.Prelude.{map, filter, not, ◌&&◌, ◌==◌, Option, Some, None}
+use Rattle.std.specs.Option.{option_map, option_map_or, option_to_list}
+use Rattle.std.specs.List.{AllByRecursion, find, list_any}
 use Rattle.std.proofs.lemmas.Bool.Decides.{nat_tests}
-use Rattle.std.proofs.lemmas.Grind.{flat_map-append}
+use Rattle.std.proofs.lemmas.List.{map-append}
 use Rattle.std.proofs.lemmas.List.Elements.{filter-append}
 use Rattle.lq_value.specs.declared.entry.Entry.{Entry}
+use Rattle.lq_update.specs.declared.message.Opcode.{Opcode}
 use Rattle.lq_update.specs.declared.message.Opcode.TheVariants.{Created, Removed, Moved}
-use Rattle.lq_update.specs.Diff.{alone, moves, messages_of, has_node}
+use Rattle.lq_update.specs.Diff.{as_moved, has_node, is_move, messages_of, without_moves}
 use Rattle.lq_update.specs.Touched.{told_first, told_last}
+use Rattle.lq_update.proofs.EntryLemmas.{entry_at}
 
 -- the entry, if there is one, has the node
 abbrev pub Has : ℕ → Option Entry → Type 0
@@ -20,6 +22,10 @@ Has n (Some e) = e.node ≡ n
 abbrev pub Lacks : ℕ → List Entry → Type 0
 Lacks n es = AllByRecursion (λ e. e.node ≢ n) es
 
+-- the entries whose node is in none of the others
+abbrev pub alone : List Entry → List Entry → List Entry
+alone entries others = filter (λ e. not (has_node e.node others)) entries
+
 -- the entries with messages of their own, with moves or without
 abbrev pub alone_if : Bool → List Entry → List Entry → List Entry
 alone_if moved entries others = filter (λ e. not (moved && has_node e.node others)) entries
@@ -29,24 +35,117 @@ alone-false : (es fs : List Entry) → alone_if false es fs ≡ es
 alone-false [] fs = refl
 alone-false (e ∷ es) fs = ap (λ rest. e ∷ rest) (alone-false es fs)
 
+-- what is told of an entry that came: that it was created, or moved from where its node was
+abbrev pub came_op : Bool → List Entry → Entry → Opcode
+came_op false gone f = Created
+came_op true gone f =
+    option_map_or (λ e. Moved e.dir e.name) (entry_at f.node gone) Created
+
+-- a removed message makes a move where its node came
+removed-any : (e : Entry) (gone come : List Entry)
+    → list_any (is_move (Removed, e)) (without_moves gone come) ≡ has_node e.node come
+removed-any e [] [] = refl
+removed-any e [] (f ∷ come) = let rest = removed-any e [] come in grind (arith, nat_tests)
+removed-any e (g ∷ gone) come = removed-any e gone come
+
+-- so those of the entries that stand alone stay
+removed-kept : (es gone come : List Entry)
+    → filter (λ m. not (list_any (is_move m) (without_moves gone come))) (map (λ e. (Removed, e)) es)
+    ≡ map (λ e. (Removed, e)) (alone es come)
+removed-kept [] gone come = refl
+removed-kept (e ∷ es) gone come =
+    by (has_node e.node come) refl (removed-any e gone come) (removed-kept es gone come)
+  where
+    keeps : Opcode × Entry → Bool
+    keeps m = not (list_any (is_move m) (without_moves gone come))
+
+    by : (b : Bool) → has_node e.node come ≡ b
+        → list_any (is_move (Removed, e)) (without_moves gone come) ≡ has_node e.node come
+        → filter keeps (map (λ e. (Removed, e)) es) ≡ map (λ e. (Removed, e)) (alone es come)
+        → filter keeps (map (λ e. (Removed, e)) (e ∷ es))
+        ≡ map (λ e. (Removed, e)) (alone (e ∷ es) come)
+    by true is any rest = rw (any, is, rest) refl
+    by false is any rest = rw (any, is, rest) refl
+
+-- a created message is no first of a move
+created-any : (f : Entry) (ms : List (Opcode × Entry)) → list_any (is_move (Created, f)) ms ≡ false
+created-any f [] = refl
+created-any f (m ∷ ms) = created-any f ms
+
+-- so all of them stay
+created-kept : (ms : List (Opcode × Entry)) (fs : List Entry)
+    → filter (λ m. not (list_any (is_move m) ms)) (map (λ f. (Created, f)) fs)
+    ≡ map (λ f. (Created, f)) fs
+created-kept ms [] = refl
+created-kept ms (f ∷ fs) =
+    rw (created-any f ms) (ap (λ rest. (Created, f) ∷ rest) (created-kept ms fs))
+
+-- a removed message is no second of a move
+find-none : (e : Entry) (ms : List (Opcode × Entry)) → find (λ m. is_move m (Removed, e)) ms ≡ None
+find-none e [] = refl
+find-none e ((Removed, d) ∷ ms) = find-none e ms
+find-none e ((Created, d) ∷ ms) = find-none e ms
+find-none e ((Moved dir name, d) ∷ ms) = find-none e ms
+
+-- so it becomes no moved one
+removed-stay : (ms : List (Opcode × Entry)) (es : List Entry)
+    → map (as_moved ms) (map (λ e. (Removed, e)) es) ≡ map (λ e. (Removed, e)) es
+removed-stay ms [] = refl
+removed-stay ms (e ∷ es) =
+    rw (find-none e ms) (ap (λ rest. (Removed, e) ∷ rest) (removed-stay ms es))
+
+-- a created message makes a move with the removed one of its node
+find-came : (f : Entry) (gone come : List Entry)
+    → find (λ m. is_move m (Created, f)) (without_moves gone come)
+    ≡ option_map (λ e. (Removed, e)) (entry_at f.node gone)
+find-came f [] [] = refl
+find-came f [] (d ∷ come) = find-came f [] come
+find-came f (e ∷ gone) come = by (e.node == f.node) refl (find-came f gone come)
+  where
+    by : (b : Bool) → (e.node == f.node) ≡ b
+        → find (λ m. is_move m (Created, f)) (without_moves gone come)
+        ≡ option_map (λ e. (Removed, e)) (entry_at f.node gone)
+        → find (λ m. is_move m (Created, f)) (without_moves (e ∷ gone) come)
+        ≡ option_map (λ e. (Removed, e)) (entry_at f.node (e ∷ gone))
+    by true is rest = rw is refl
+    by false is rest = rw is rest
+
+-- so it becomes what is told of its entry
+created-told : (gone come fs : List Entry)
+    → map (as_moved (without_moves gone come)) (map (λ f. (Created, f)) fs)
+    ≡ map (λ f. (came_op true gone f, f)) fs
+created-told gone come [] = refl
+created-told gone come (f ∷ fs) =
+    by (entry_at f.node gone) refl (find-came f gone come) (created-told gone come fs)
+  where
+    by : (o : Option Entry) → entry_at f.node gone ≡ o
+        → find (λ m. is_move m (Created, f)) (without_moves gone come)
+        ≡ option_map (λ e. (Removed, e)) (entry_at f.node gone)
+        → map (as_moved (without_moves gone come)) (map (λ f. (Created, f)) fs)
+        ≡ map (λ f. (came_op true gone f, f)) fs
+        → map (as_moved (without_moves gone come)) (map (λ f. (Created, f)) (f ∷ fs))
+        ≡ map (λ f. (came_op true gone f, f)) (f ∷ fs)
+    by None is found rest = rw (found, is, rest) refl
+    by (Some e) is found rest = rw (found, is, rest) refl
+
 -- the messages with moves and those without, in one form
 pub messages-split : (moved : Bool) (gone come : List Entry) → messages_of moved gone come
     ≡ map (λ e. (Removed, e)) (alone_if moved gone come)
-    ++ (if moved then moves gone come else [])
-    ++ map (λ e. (Created, e)) (alone_if moved come gone)
-messages-split true gone come = refl
-messages-split false gone come =
-    rw (alone-false gone come, alone-false come gone, append-nil) refl
+    ++ map (λ f. (came_op moved gone f, f)) come
+messages-split false gone come = rw (alone-false gone come) refl
+messages-split true gone come =
+    let ms = without_moves gone come in
+    let removed = map (λ e. (Removed, e)) gone in
+    let created = map (λ f. (Created, f)) come in
+    ap (map (as_moved ms)) (filter-append (λ m. not (list_any (is_move m) ms)) removed created
+    ∙ (λ i. removed-kept gone gone come i ++ created-kept ms come i))
+    ∙ (map-append (as_moved ms) (map (λ e. (Removed, e)) (alone gone come)) created
+    ∙ (λ i. removed-stay ms (alone gone come) i ++ created-told gone come come i))
 
 -- where nothing came, all that left stand alone
 alone-nil : (es : List Entry) → alone es [] ≡ es
 alone-nil [] = refl
 alone-nil (e ∷ es) = ap (λ rest. e ∷ rest) (alone-nil es)
-
--- where nothing came, nothing moved
-moves-nil : (es : List Entry) → moves es [] ≡ []
-moves-nil [] = refl
-moves-nil (e ∷ es) = moves-nil es
 
 -- entries of other nodes than the one that came stand alone
 alone-off : (f : Entry) (es : List Entry) → Lacks f.node es → alone es (f ∷ []) ≡ es
@@ -56,52 +155,27 @@ alone-off f (e ∷ es) off =
     let rest = alone-off f es off.1 in
     grind (arith, nat_tests)
 
--- and none of them moved
-moves-off : (f : Entry) (es : List Entry) → Lacks f.node es → moves es (f ∷ []) ≡ []
-moves-off f [] off = refl
-moves-off f (e ∷ es) off =
-    let differs = off.0 in
-    let rest = moves-off f es off.1 in
-    grind (arith, nat_tests)
-
--- a node that the first list lacks is looked for in the second
-has_node-off : (n : ℕ) (es fs : List Entry) → Lacks n es → has_node n (es ++ fs) ≡ has_node n fs
-has_node-off n [] fs off = refl
-has_node-off n (e ∷ es) fs off =
-    let differs = off.0 in
-    let rest = has_node-off n es fs off.1 in
-    grind (arith, nat_tests)
-
--- the one that came, where its node was not there before
-alone-came : (n : ℕ) (f : Entry) (es : List Entry) → f.node ≡ n → has_node n es ≡ false
-    → alone (f ∷ []) es ≡ f ∷ []
-alone-came n f es at off =
-    let off_here : has_node f.node es ≡ false = ap (λ k. has_node k es) at ∙ off in
-    rw off_here refl
-
--- and where it was
-alone-moved : (n : ℕ) (f : Entry) (es : List Entry) → f.node ≡ n → has_node n es ≡ true
-    → alone (f ∷ []) es ≡ []
-alone-moved n f es at on =
-    let on_here : has_node f.node es ≡ true = ap (λ k. has_node k es) at ∙ on in
-    rw on_here refl
-
 -- a node that two lists lack isn't in both together
 lacks-append : (n : ℕ) (es fs : List Entry) → Lacks n es → Lacks n fs → Lacks n (es ++ fs)
 lacks-append n [] fs p q = q
 lacks-append n (e ∷ es) fs p q = (p.0, lacks-append n es fs p.1 q)
 
--- a node that a list lacks isn't in it
-has_node-none : (n : ℕ) (es : List Entry) → Lacks n es → has_node n es ≡ false
-has_node-none n [] off = refl
-has_node-none n (e ∷ es) off =
+-- a node that a list lacks has no entry there
+at-none : (n : ℕ) (es : List Entry) → Lacks n es → entry_at n es ≡ None
+at-none n [] off = refl
+at-none n (e ∷ es) off =
     let differs = off.0 in
-    let rest = has_node-none n es off.1 in
+    let rest = at-none n es off.1 in
     grind (arith, nat_tests)
 
--- the first entry's node is there
-has_first : (n : ℕ) (e : Entry) (es : List Entry) → e.node ≡ n → has_node n (e ∷ es) ≡ true
-has_first n e es at = grind (arith, nat_tests)
+-- and behind it, the next one of that node
+at-behind : (n : ℕ) (e : Entry) (es fs : List Entry) → Lacks n es → e.node ≡ n
+    → entry_at n (es ++ e ∷ fs) ≡ Some e
+at-behind n e [] fs off at = grind (arith, nat_tests)
+at-behind n e (d ∷ es) fs off at =
+    let differs = off.0 in
+    let rest = at-behind n e es fs off.1 at in
+    grind (arith, nat_tests)
 
 -- the test of a node, turned round
 same_node : (e f : Entry) → e.node ≡ f.node → (f.node == e.node) ≡ true
@@ -123,21 +197,13 @@ told-among false n o c es fs p q off end = at o c
     at None (Some f) = refl
     at (Some e) (Some f) = refl
 told-among true n o None es fs p q off end =
-    rw (
-      alone-nil (es ++ option_to_list o ++ fs),
-      moves-nil (es ++ option_to_list o ++ fs),
-    ) (rw (append-nil, append-nil) refl)
+    messages-split true (es ++ option_to_list o ++ fs) []
+    ∙ rw (alone-nil (es ++ option_to_list o ++ fs)) refl
 told-among true n None (Some f) es fs p q off end =
     let lacks : Lacks f.node (es ++ [] ++ fs) =
     rw (append-nil es, q) (lacks-append n es fs off end) in
-    let absent : has_node n (es ++ [] ++ fs) ≡ false =
-    rw append-nil (has_node-off n es fs off ∙ has_node-none n fs end) in
-    rw (
-      alone-off f (es ++ [] ++ fs) lacks,
-      moves-off f (es ++ [] ++ fs) lacks,
-      alone-came n f (es ++ [] ++ fs) q absent,
-      append-nil,
-    ) refl
+    messages-split true (es ++ [] ++ fs) (f ∷ [])
+    ∙ rw (alone-off f (es ++ [] ++ fs) lacks, at-none f.node (es ++ [] ++ fs) lacks) refl
 told-among true n (Some e) (Some f) es fs p q off end =
     let before : Lacks f.node es = rw q off in
     let behind : Lacks f.node fs = rw q end in
@@ -150,9 +216,6 @@ told-among true n (Some e) (Some f) es fs p q off end =
       alone-off f fs behind,
       here,
     ) refl in
-    let move_is : moves (es ++ (e ∷ []) ++ fs) (f ∷ []) ≡ (Moved e.dir e.name, f) ∷ [] =
-    flat_map-append _ (es ++ e ∷ []) fs
-    ∙ rw (flat_map-append _ es (e ∷ []), moves-off f es before, moves-off f fs behind, here) refl in
-    let there : has_node n (es ++ (e ∷ []) ++ fs) ≡ true = ap (has_node n)
-    (append_assoc es (e ∷ []) fs) ∙ (has_node-off n es (e ∷ fs) off ∙ has_first n e fs p) in
-    rw (left_is, move_is, alone-moved n f (es ++ (e ∷ []) ++ fs) q there, append-nil) refl
+    let there : entry_at f.node (es ++ (e ∷ []) ++ fs) ≡ Some e = ap (entry_at f.node)
+    (append_assoc es (e ∷ []) fs) ∙ at-behind f.node e es fs before (p ∙ sym q) in
+    messages-split true (es ++ (e ∷ []) ++ fs) (f ∷ []) ∙ rw (left_is, there) refl

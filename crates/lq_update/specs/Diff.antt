@@ -1,6 +1,7 @@
 -- What leaves and enters a query's result from one state to another.
 use Rattle.std.specs.Prelude.{ℕ, List, ◌++◌, Bool, true, false, not, ◌&&◌, ◌==◌, map, filter}
-use Rattle.std.specs.List.{list_any, flat_map}
+use Rattle.std.specs.List.{list_any, find}
+use Rattle.std.specs.Option.{option_map_or}
 use Rattle.std.specs.Str.{bytes_eq}
 use Rattle.lq_value.specs.declared.entry.Entry.{Entry}
 use Rattle.lq_predicate.specs.Query.{Query}
@@ -25,30 +26,28 @@ has_node node entries = list_any (λ e. e.node == node) entries
 abbrev pub without_moves : List Entry → List Entry → List (Opcode × Entry)
 without_moves gone come = map (λ e. (Removed, e)) gone ++ map (λ e. (Created, e)) come
 
--- the entries whose node is in none of the others
-abbrev pub alone : List Entry → List Entry → List Entry
-alone entries others = filter (λ e. not (has_node e.node others)) entries
+-- whether these are a removed and a created message of one node
+abbrev pub is_move : Opcode × Entry → Opcode × Entry → Bool
+is_move (Removed, e) (Created, f) = e.node == f.node
+is_move m n = false
 
--- a move from the old place to the new one, for each node that has both
-abbrev pub moves : List Entry → List Entry → List (Opcode × Entry)
-moves gone come =
-    flat_map (λ e. map (λ f. (Moved e.dir e.name, f)) (filter (λ f. f.node == e.node) come)) gone
+-- a created message as a moved one, from the place in the removed message of its node, if these
+-- messages have one; each other message as it is
+abbrev pub as_moved : List (Opcode × Entry) → Opcode × Entry → Opcode × Entry
+as_moved ms n =
+    option_map_or (λ m. (Moved m.1.dir m.1.name, n.1)) (find (λ m. is_move m n) ms) n
 
--- With moves: where a node has a removed and a created message, one moved message stands in place
--- of both, between the removed and the created ones.
-abbrev pub with_moves : List Entry → List Entry → List (Opcode × Entry)
-with_moves gone come =
-    map (λ e. (Removed, e)) (alone gone come)
-    ++ moves gone come
-    ++ map (λ e. (Created, e)) (alone come gone)
+-- with moves: each removed and created message of one node becomes one moved message
+abbrev pub with_moves : List (Opcode × Entry) → List (Opcode × Entry)
+with_moves ms = map (as_moved ms) (filter (λ m. not (list_any (is_move m) ms)) ms)
 
 -- the messages for the entries that left and those that came
 abbrev pub messages_of : Bool → List Entry → List Entry → List (Opcode × Entry)
 messages_of false gone come = without_moves gone come
-messages_of true gone come = with_moves gone come
+messages_of true gone come = with_moves (without_moves gone come)
 
--- What left the result and what came into it: the removed, the moved and the created entries, each
--- by rising node.
+-- What left the result and what came into it: the removed entries, then the moved and the created
+-- ones, each by rising node. A change to a volume brings one entry at most.
 abbrev pub diff : Query → Bool → State → State → List (Opcode × Entry)
 diff q moved s t =
     messages_of moved (missing (result_of q s) (result_of q t))

@@ -1,6 +1,6 @@
-use Rattle.std.proofs.Common.{◌⊎◌, ℕ, List, [], Option, inl, inr, ap, refl, subst, sym, Err}
-use Rattle.std.proofs.KnownBytes.{Appends-nil, Consumes-nil}
-use Rattle.lq_script_lines.specs.Output.{Halted, output_of}
+use Rattle.std.proofs.Common.{◌⊎◌, [], inl, inr, ap, refl, subst, sym, Err}
+use Rattle.std.proofs.KnownBytes.{Appends-nil, Consumes-nil, Keeps-refl}
+use Rattle.lq_script_lines.specs.Output.{output_of}
 use Rattle.lq_script_lines.specs.declared.run_fault.RunFault.{RunFault}
 use Rattle.lq_script_lines.specs.declared.run_fault.RunFault.TheVariants.{Memory, Write}
 use Rattle.lq_script_desk.specs.Script.{script_session, world_rules}
@@ -19,18 +19,6 @@ returns-in-Ok-Check-clause-usage_status g c usage =
     absurd (usage.not_check c.in-Ok-Check.formula.now (subst
     (IsAskedBy (texts_of c.args.words.now)) c.in-Ok-Check.field-0-is c.in-Ok-Check.ensures.ok))
 
--- with nothing read and nothing written, no line is answered
-halted_none : (left written : Option (List ℕ))
-    → Halted world_rules script_session left left written written
-halted_none left written = record {
-  given = [];
-  consumed = Consumes-nil left;
-  lines = [];
-  rest = [];
-  front = refl;
-  appended = Appends-nil written;
-}
-
 -- a fault of memory or of the writer is a fault
 one_fault : {A B : Type 0} {P : RunFault → Type 0} → (A → P Memory) → (B → P Write) → A ⊎ B
     → (fault : RunFault) × P fault
@@ -47,7 +35,7 @@ returns-in-Ok-Check-clause-fault g c one =
           (λ writer. IsRunFault Memory (g.R.Source.left now) (g.R.Source.left now)
           (g.R.Source.failed now) (g.W.Sink.written old) (g.W.Sink.written writer)
           (g.W.Sink.failed writer) (g.W.Sink.stalled writer)) (sym memory.1)
-          ((c.requires.reader_works, c.requires.writer_moves), halted_none _ _),
+          ((c.requires.reader_works, c.requires.writer_moves), inr (refl, Keeps-refl _)),
     ))
     (λ write. write) (c.check_formula.ensures.fault one)
 
@@ -56,7 +44,7 @@ returns-in-Err-NoMemory-clause-fault g c one = (
   Memory,
   (
     c.report_fault-in-Err-NoMemory.ensures.reported,
-    ((c.requires.reader_works, c.requires.writer_moves), halted_none _ _),
+    ((c.requires.reader_works, c.requires.writer_moves), inr (refl, Keeps-refl _)),
   ),
 )
 

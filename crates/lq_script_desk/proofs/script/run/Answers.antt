@@ -40,14 +40,7 @@ no_memory rules state left written written' fails failed stalled flushed result 
       flush = inr flush;
       read = λ h. absurd (let no : Err Memory ≡ Err Read = h in cc);
       limit = λ h. absurd (let no : Err Memory ≡ Err Limit = h in cc);
-      memory = λ h. record {
-        given = [];
-        consumed = Consumes-nil _;
-        lines = [];
-        rest = [];
-        front = refl;
-        appended = keeps_appends _ _ same;
-      };
+      memory = λ h. inr (refl, same);
       memory_works = λ h. (reads, writes);
       read_fails = λ h. absurd (let no : Err Memory ≡ Err Read = h in cc);
       write_fails = λ h. absurd (let no : Err Memory ≡ Err Write = h in cc);

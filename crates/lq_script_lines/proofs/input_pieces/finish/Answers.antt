@@ -1,6 +1,6 @@
 use Rattle.std.proofs.Common.{◌≡◌, Err, rules, sym, inl, inr, refl}
 use Rattle.lq_script_lines.specs.declared.run_fault.RunFault.TheVariants.{Memory, Write}
-use Rattle.lq_script_lines.proofs.ResultLemmas.{no_ok, no_other, on_err_any, when_err, when_ok}
+use Rattle.lq_script_lines.proofs.ResultLemmas.{no_ok, no_other, not_ok, on_err_any, when_err, when_ok}
 use Rattle.lq_script_lines.proofs.ProgressLemmas.{appends_kept, fronts_all, fronts_handed, fronts_kept, halted_now, halts_handed, stands_last, stands_stops, stands_output}
 use Rattle.lq_script_lines.proofs.input_pieces.finish.Goals as goal
 
@@ -35,7 +35,8 @@ returns-then-is_err g c =
       fault = inr refl;
       cause = λ h. elim (no_other Memory Write refl refl h) [ ];
       memory = λ _ began given s. halts_handed g.S.Responder.rules began given _ _ _
-          (rw same (halted_now g.S.Responder.rules began given _ _ _ _ s))
+          (rw same (halted_now g.S.Responder.rules began given _ _ _ _
+          (λ long line. not_ok c.answer.result failed (c.answer.ensures.empty long line)) s))
           c.in_ok-write_and_flush.ensures.ok;
       memory_works = λ _. c.in_ok-write_and_flush.ensures.stalls;
       memory_flushed = λ _. c.in_ok-write_and_flush.ensures.flushed;

@@ -50,6 +50,7 @@ returns-in_err-write_replies g c =
         write_fails = λ _. c.in_err-write_replies.ensures.cause;
         no_thread = λ h. no_other Write Thread is refl h;
       };
+      begun = λ h. elim (no_other Write Memory is refl h) [ ];
     }
 
 -- a fault of the writer after a read fault
@@ -78,6 +79,7 @@ returns-in_err-write_and_flush g c =
         write_fails = λ _. c.in_err-write_and_flush.ensures.cause;
         no_thread = λ h. no_other Write Thread is refl h;
       };
+      begun = λ h. elim (no_other Write Memory is refl h) [ ];
     }
 
 -- a read fault
@@ -106,6 +108,7 @@ returns-in_default g c =
         write_fails = λ h. elim (no_other Read Write refl refl h) [ ];
         no_thread = λ h. no_other Read Thread refl refl h;
       };
+      begun = λ h. elim (no_other Read Memory refl refl h) [ ];
     }
 
 -- the end of the input
@@ -133,8 +136,8 @@ returns-then-count-eq0 g c =
         flush = else_memory r says.fault says.memory_flushed;
         read = λ h. elim (neither r Read says.fault refl refl h) [ ];
         limit = λ h. elim (neither r Limit says.fault refl refl h) [ ];
-        memory = λ h. run_halted g.S.Responder.rules _ _ _ _ i.given read
-            (says.memory h _ i.given stood);
+        memory = λ h. inl (run_halted g.S.Responder.rules _ _ _ _ i.given read
+            (says.memory h _ i.given stood));
         memory_works = λ h. (
           c.in-Ok.ensures.works ∙ i.reader_works,
           says.memory_works h ∙ c.in_ok-write_replies.ensures.works.1 ∙ i.writer_moves,
@@ -143,6 +146,8 @@ returns-then-count-eq0 g c =
         write_fails = says.cause;
         no_thread = λ h. neither r Thread says.fault refl refl h;
       };
+      begun = λ h. run_halted g.S.Responder.rules _ _ _ _ i.given read
+          (says.memory h _ i.given stood);
     }
 
 pub loop-out-smaller : goal.loop-out-smaller
@@ -190,8 +195,8 @@ returns-in_err-take_block g c =
         read = λ h. elim (says.not_read (sym is ∙ h)) [ ];
         limit = λ h. run_passed g.S.Responder.rules _ _ _ _ _ i.given _ _ _ _ i.consumed
             c.in-Ok.ensures.bytes.0 refl (says.limit (sym is ∙ h) _ i.given stood);
-        memory = λ h. run_halted g.S.Responder.rules _ _ _ _ _ (run_reads _ _ _ i.given _ _
-            i.consumed c.in-Ok.ensures.bytes.0 refl) (says.memory (sym is ∙ h) _ i.given stood);
+        memory = λ h. inl (run_halted g.S.Responder.rules _ _ _ _ _ (run_reads _ _ _ i.given _ _
+            i.consumed c.in-Ok.ensures.bytes.0 refl) (says.memory (sym is ∙ h) _ i.given stood));
         memory_works = λ h. (
           c.in-Ok.ensures.works ∙ i.reader_works,
           says.memory_works (sym is ∙ h) ∙ c.in_ok-write_replies.ensures.works.1 ∙ i.writer_moves,
@@ -200,4 +205,6 @@ returns-in_err-take_block g c =
         write_fails = λ h. says.cause (sym is ∙ h);
         no_thread = λ h. says.not_thread (sym is ∙ h);
       };
+      begun = λ h. run_halted g.S.Responder.rules _ _ _ _ _ (run_reads _ _ _ i.given _ _
+          i.consumed c.in-Ok.ensures.bytes.0 refl) (says.memory (sym is ∙ h) _ i.given stood);
     }
