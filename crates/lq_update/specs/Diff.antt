@@ -47,7 +47,8 @@ messages_of false gone come = without_moves gone come
 messages_of true gone come = with_moves (without_moves gone come)
 
 -- What left the result and what came into it: the removed entries, then the moved and the created
--- ones, each by rising node. A change to a volume brings one entry at most.
+-- ones, each by rising node. A change brings at most one entry into a result, so the messages of a
+-- change stand in the order removed, moved, created.
 abbrev pub diff : Query → Bool → State → State → List (Opcode × Entry)
 diff q moved s t =
     messages_of moved (missing (result_of q s) (result_of q t))
