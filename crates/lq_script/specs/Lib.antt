@@ -1,4 +1,3 @@
 pub mod Check
-pub mod Words
-pub mod CommandLine
+pub mod Written
 pub mod Outcome

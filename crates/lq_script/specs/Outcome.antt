@@ -3,11 +3,11 @@ use Rattle.std.specs.Prelude.{◌≡◌, ◌⊎◌, ◌≤◌, ℕ, List, true}
 use Rattle.lq_predicate.specs.Faults.{IsFaulty}
 use Rattle.lq_script_lines.specs.Output.{Answered, Stopped}
 use Rattle.lq_script_lines.specs.Outcome.{ReaderLog, WriterLog}
+use Rattle.lq_script_lines.specs.Words.{IsCheckOf, IsRun, IsThreads, IsUsage}
 use Rattle.lq_script_lines.specs.declared.run_fault.RunFault.{RunFault}
 use Rattle.lq_script_desk.specs.Script.{script_session, world_rules}
-use Rattle.lq_script.specs.Words.{IsCheckOf, IsRunFault, IsOther, IsRun, IsThreads, IsUsage}
-use Rattle.lq_script.specs.Words.{Prints, PrintsFront, WritesOrFails}
-use Rattle.lq_script.specs.Words.{fault_line, refusal_line, usage_line}
+use Rattle.lq_script.specs.Written.{IsRunFault, Prints, PrintsFront, WritesOrFails}
+use Rattle.lq_script.specs.Written.{fault_line, refusal_line, usage_line}
 
 -- the three streams before and after, and what they say of their bytes
 pub record Transcript (R W F : Type 0) : Type 0 where
@@ -79,7 +79,7 @@ pub record IsOutcome {R W F : Type 0} (words : List (List ℕ)) (status : ℕ)
   pub threads : IsThreads words → status ≤ 1
   pub check : (formula : List ℕ) → IsCheckOf words formula → HasChecked formula status t
   pub usage : IsUsage words → status ≡ 2 → TellsLine t usage_line
-  pub other : IsOther words → (1 ≤ status) × (t.writer' ≡ t.writer)
+  pub other : IsUsage words → (1 ≤ status) × (t.writer' ≡ t.writer)
   pub quiet : status ≡ 0 → t.faults' ≡ t.faults
   pub flushed : ¬ IsThreads words → status ≡ 0 → t.wrote.flushed ≡ true
   pub fault : ¬ IsThreads words → status ≡ 1 → TellsFault t

@@ -1,21 +1,21 @@
-//! The program's arguments, with `threads` among them.
-ghost use Rattle.std.specs.Prelude.{◌≡◌, ◌↔◌, false, true};
+//! What the program does with its arguments.
+ghost use Rattle.std.specs.Prelude.{◌≡◌, false};
 ghost use Rattle.lq_script_lines.specs.Outcome.{reader_log, writer_log};
 ghost use Rattle.lq_script.specs.Outcome.{IsOutcome, transcript};
-ghost use Rattle.lq_script.specs.Words.{IsThreads, texts_of};
+ghost use Rattle.lq_script_lines.specs.Words.{texts_of};
 
-use crate::commands::{plain_program, report_fault};
+use crate::commands::{check_formula, report_fault, report_usage, run_script};
 use crate::gate::OpenGate;
 use crate::threads::run_threads;
-use lq_script_lines::{Sink, Source};
+use lq_script_lines::{RunFault, Sink, Source, Subcommand, WordsFault, subcommand_of};
 use std::alloc::Global;
 use std::sync::Wait;
 use std::thread::Threads;
 
 /// Does what the program's arguments, `words`, ask for, and answers the exit status.
 ///
-/// `threads` alone carries out the reader's script by `run_threads` with an open gate, `run` by one
-/// thread. `check FORMULA` writes the formula's canonical text and LF; a formula that begins with
+/// `run` carries out the reader's script by one thread, `threads` by `run_threads` with an open
+/// gate. `check FORMULA` writes the formula's canonical text and LF; a formula that begins with
 /// `-` has to follow `--`. Status 0: done. 1: a `RunFault`, a fault of the writer in `check`, or no
 /// memory, with one line on `faults`. 2: a refused formula, with `lq: BadQuery at P` there, or any
 /// other arguments, with `lq: usage`. A fault of `faults` is ignored.
@@ -38,21 +38,14 @@ pub fn program<T: Threads + Wait + Sync, R: Source, W: Sink, F: Sink>(
         (writer_log (F.written faults.old) (F.written faults.new)
         (F.failed faults.new) (F.stalled faults.new) (F.flushed faults.new))) }
 {
-    if !asks_threads(words) {
-        return plain_program(alloc, words, reader, writer, faults);
-    }
-    match run_threads(rt, alloc, reader, writer, &OpenGate) {
-        Ok(()) => 0,
-        Err(fault) => report_fault(fault, faults),
-    }
-}
-
-// Whether the arguments are `threads` alone.
-fn asks_threads(words: &[String]) -> bool
-    ensures { (result ≡ true) ↔ IsThreads (texts_of words.now) }
-{
-    match words {
-        [word] => word.as_str() == "threads",
-        _ => false,
+    match subcommand_of(alloc, words) {
+        Ok(Subcommand::Run) => run_script(alloc, reader, writer, faults),
+        Ok(Subcommand::Threads) => match run_threads(rt, alloc, reader, writer, &OpenGate) {
+            Ok(()) => 0,
+            Err(fault) => report_fault(fault, faults),
+        },
+        Ok(Subcommand::Check(formula)) => check_formula(alloc, formula, writer, faults),
+        Err(WordsFault::NoMemory) => report_fault(RunFault::Memory, faults),
+        Err(WordsFault::Usage) => report_usage(faults),
     }
 }

@@ -1,4 +1,4 @@
-//! The program's arguments without `threads`, and its exit status.
+//! What `run` and `check` do, and what is written to standard error.
 ghost use Rattle.std.specs.Prelude.{◌≡◌, ◌⊎◌, ◌≤◌, ℕ, List, false, true, IfErr, IfOk, OnErr, OnOk};
 ghost use Rattle.std.specs.Io.KnownBytes.{Appends};
 ghost use Rattle.std.specs.String.{string_bytes};
@@ -7,26 +7,18 @@ ghost use Rattle.lq_script_lines.specs.Output.{Answered, Stopped};
 ghost use Rattle.lq_value.specs.declared.refusal.Refusal.TheVariants.{BadQuery};
 ghost use Rattle.lq_script.specs.Check.{IsCanonicalOf};
 ghost use Rattle.lq_script_desk.specs.Script.{script_session, world_rules};
-ghost use Rattle.lq_script.specs.Words.{IsCheckOf, IsRunFault, IsRun, IsUsage, Prints, PrintsFront, WritesOrFails, WritesFront};
-ghost use Rattle.lq_script.specs.Words.{fault_line, line_with, refusal_line, texts_of, usage_line};
+ghost use Rattle.lq_script.specs.Written.{IsRunFault, Prints, PrintsFront, WritesOrFails, WritesFront};
+ghost use Rattle.lq_script.specs.Written.{fault_line, line_with, refusal_line, usage_line};
 
 use crate::canonical_text::check;
-use crate::command_line::{Subcommand, WordsFault, subcommand_of};
 use lq_script_desk::run;
 use lq_script_lines::{Failed, RunFault, Sink, Source, write_all};
 use lq_value::Refusal;
 use std::alloc::{AllocError, Global};
 
-/// Does what the program's arguments ask for, and answers the exit status.
-///
-/// `run` carries out the reader's script. `check FORMULA` writes the formula's canonical text and
-/// LF; a formula that begins with `-` has to follow `--`. Status 0: done. 1: a `RunFault`, a fault
-/// of the writer in `check`, or no memory in `check` or for the arguments, with one line on
-/// `faults`. 2: a refused formula, with `lq: BadQuery at P` there, or any other arguments, with
-/// `lq: usage`. A fault of `faults` is ignored.
-pub(crate) fn plain_program<R: Source, W: Sink, F: Sink>(
+/// Carries out the reader's script by one thread, and answers the exit status.
+pub(crate) fn run_script<R: Source, W: Sink, F: Sink>(
     alloc: Global,
-    words: &[String],
     reader: &mut R,
     writer: &mut W,
     faults: &mut F,
@@ -34,63 +26,32 @@ pub(crate) fn plain_program<R: Source, W: Sink, F: Sink>(
     requires reader_works { R.failed reader.old ≡ false }
     requires writer_works { W.failed writer.old ≡ false }
     requires writer_moves { W.stalled writer.old ≡ false }
-    ensures status { result ≤ 2 }
+    ensures status { result ≤ 1 }
 
-    // 0: a whole script was carried out, or a formula was printed; `faults` stays the same.
-    ensures run_done { IsRun (texts_of words.now) → result ≡ 0 →
-        Answered world_rules script_session
+    // 0: the whole script was carried out.
+    ensures done { result ≡ 0 → Answered world_rules script_session
         (R.left reader.old) (R.left reader.new) (W.written writer.old) (W.written writer.new) }
-    ensures check_done { (formula : List ℕ) → IsCheckOf (texts_of words.now) formula → result ≡ 0 →
-        Prints formula (W.written writer.old) (W.written writer.new) }
     ensures flushed { result ≡ 0 → W.flushed writer.new ≡ true }
     ensures quiet { result ≡ 0 → faults.new ≡ faults.old }
 
     // 1: what was written is a prefix of that, and a fault is written.
-    ensures run_stopped { IsRun (texts_of words.now) → result ≡ 1 →
-        Stopped world_rules script_session
+    ensures stopped { result ≡ 1 → Stopped world_rules script_session
         (R.left reader.old) (R.left reader.new) (W.written writer.old) (W.written writer.new) }
-    ensures check_stopped { (formula : List ℕ) → IsCheckOf (texts_of words.now) formula
-        → result ≡ 1 → (writer.new ≡ writer.old)
-        ⊎ PrintsFront formula (W.written writer.old) (W.written writer.new) }
     ensures fault { result ≡ 1 → (fault : RunFault)
         × (WritesOrFails (fault_line fault) (F.written faults.old) (F.written faults.new)
         (F.failed faults.new) (F.stalled faults.new)
         × IsRunFault fault (R.left reader.old) (R.left reader.new) (R.failed reader.new)
         (W.written writer.old) (W.written writer.new)
         (W.failed writer.new) (W.stalled writer.new)) }
-
-    // 2: the formula is refused with the place of its fault, or the arguments fit no subcommand.
-    ensures refused { (formula : List ℕ) → IsCheckOf (texts_of words.now) formula → result ≡ 2 →
-        (place : ℕ) × (IsFaulty formula place
-        × WritesOrFails (refusal_line place) (F.written faults.old) (F.written faults.new)
-        (F.failed faults.new) (F.stalled faults.new)) }
-    ensures usage { IsUsage (texts_of words.now) → result ≡ 2 →
-        WritesOrFails usage_line (F.written faults.old) (F.written faults.new)
-        (F.failed faults.new) (F.stalled faults.new) }
-    ensures writes_nothing { result ≡ 2 → writer.new ≡ writer.old }
-
-    // `run` is never refused, other arguments never succeed, and only `run` reads.
-    ensures run_status { IsRun (texts_of words.now) → result ≤ 1 }
-    ensures usage_status { IsUsage (texts_of words.now) →
-        (1 ≤ result) × (writer.new ≡ writer.old) }
-    ensures reads_nothing { ¬ IsRun (texts_of words.now) → reader.new ≡ reader.old }
 {
-    match subcommand_of(alloc, words) {
-        Ok(Subcommand::Run) => match run(alloc, reader, writer) {
-            Ok(()) => 0,
-            Err(fault) => report_fault(fault, faults),
-        },
-        Ok(Subcommand::Check(formula)) => check_formula(alloc, formula, writer, faults),
-        Err(WordsFault::NoMemory) => report_fault(RunFault::Memory, faults),
-        Err(WordsFault::Usage) => {
-            report("lq: usage\n", faults);
-            2
-        }
+    match run(alloc, reader, writer) {
+        Ok(()) => 0,
+        Err(fault) => report_fault(fault, faults),
     }
 }
 
-// Prints a formula's canonical text and LF, and answers the exit status.
-fn check_formula<W: Sink, F: Sink>(
+/// Prints a formula's canonical text and LF, and answers the exit status.
+pub(crate) fn check_formula<W: Sink, F: Sink>(
     alloc: Global,
     formula: &str,
     writer: &mut W,
@@ -167,7 +128,17 @@ fn report_refusal<F: Sink>(alloc: Global, place: u64, faults: &mut F) -> u8
     }
 }
 
-// Writes a fault, and answers its exit status.
+/// Writes that the arguments ask for nothing, and answers the exit status.
+pub(crate) fn report_usage<F: Sink>(faults: &mut F) -> u8
+    ensures status { result ≡ 2 }
+    ensures reported { WritesOrFails usage_line (F.written faults.old) (F.written faults.new)
+        (F.failed faults.new) (F.stalled faults.new) }
+{
+    report("lq: usage\n", faults);
+    2
+}
+
+/// Writes a fault, and answers its exit status.
 pub(crate) fn report_fault<F: Sink>(fault: RunFault, faults: &mut F) -> u8
     ensures status { result ≡ 1 }
     ensures reported { WritesOrFails (fault_line fault) (F.written faults.old)

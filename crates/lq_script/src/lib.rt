@@ -1,18 +1,18 @@
 //! The script library: what the program `lq` does with its arguments, and scripts carried out by
 //! one thread or by several.
 //!
-//! Contracts see the program's arguments as texts (`specs/Words`), and a script's output as the
-//! texts of a world's answers to its lines (`specs/Script` of lq_script_desk). `run_threads` makes
-//! a server's public calls, a line at a time, and does a run of `read` lines as a batch, with a
-//! thread for each slot. Contracts say that each of these calls is safe, and tests that its output
-//! is that of `run`; it may wait. `thiserror` derives the display texts of `RunFault`. Begin with
-//! `arguments`, then `threads`, `runner`, `server_session`, `batch` and `workers`.
+//! Contracts see the program's arguments as texts (`specs/Words` of lq_script_lines, which reads
+//! them), what it writes as `specs/Written` says, and a script's output as the texts of a world's
+//! answers to its lines (`specs/Script` of lq_script_desk). `run_threads` makes a server's public
+//! calls, a line at a time, and does a run of `read` lines as a batch, with a thread for each slot.
+//! Contracts say that each of these calls is safe, and tests that its output is that of `run`; it
+//! may wait. `thiserror` derives the display texts of `RunFault`. Begin with `arguments`, then
+//! `threads`, `runner`, `server_session`, `batch` and `workers`.
 #![tactic(auto)]
 
 mod arguments;
 mod batch;
 mod canonical_text;
-mod command_line;
 mod commands;
 mod gate;
 mod lines;

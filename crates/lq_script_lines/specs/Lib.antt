@@ -2,3 +2,5 @@ pub mod Lines
 pub mod Output
 pub mod Outcome
 pub mod Progress
+pub mod Words
+pub mod CommandLine

@@ -1,11 +1,13 @@
-//! Runs over a script: lines in, replies out, over devices that may fail.
+//! The program's edges: its arguments, and runs over a script: lines in, replies out, over devices
+//! that may fail.
 //!
-//! Contracts see a device as the bytes that it has left or has taken, an input as its list of lines
-//! (`specs/Lines`), and the responder to lines as rules on a state. `specs/Output` says what a run
-//! has read and written when it answers. Nothing here waits. Begin with `devices`, then
-//! `responder`, then `script_run`.
+//! Contracts see the arguments as texts (`specs/Words`), a device as the bytes that it has left or
+//! has taken, an input as its list of lines (`specs/Lines`), and the responder to lines as rules on
+//! a state. `specs/Output` says what a run has read and written when it answers. Nothing here
+//! waits. Begin with `devices`, then `responder`, then `script_run`; `command_line` stands alone.
 #![tactic(auto)]
 
+mod command_line;
 mod devices;
 mod input_pieces;
 mod intake;
@@ -14,6 +16,7 @@ mod run_fault;
 mod script_run;
 mod writing;
 
+pub use command_line::{Subcommand, WordsFault, subcommand_of};
 pub use devices::{Client, Failed, Host, Sink, Source};
 pub use input_pieces::take_piece;
 pub use intake::Intake;

@@ -1,36 +1,77 @@
--- What the arguments without `threads` make of the streams is what the program makes of them.
+-- What the command that the arguments ask for does is what the program does.
+use Rattle.std.proofs.Common.{arith, ◌≡◌, ◌⊎◌, ◌≤◌, ℕ, inl, inr, ap, refl, subst, sym, Err}
+use Rattle.lq_script_lines.specs.Words.{IsAskedBy, texts_of}
+use Rattle.lq_script_lines.specs.declared.run_fault.RunFault.{RunFault}
+use Rattle.lq_script_lines.specs.declared.run_fault.RunFault.TheVariants.{Memory, Write}
+use Rattle.lq_script.specs.Written.{IsRunFault}
+use Rattle.lq_script.proofs.OutcomeLemmas.{after_check, after_run, after_usage, never_began, without_memory}
 use Rattle.lq_script.proofs.arguments.program.Goals as goal
 
-pub returns-then-not-asks_threads : goal.returns-then-not-asks_threads
-returns-then-not-asks_threads g c = let said = c.plain_program.ensures in record {
-  outcome = record {
-    at_most = said.status;
-    run = λ run. record {
-      done = said.run_done run;
-      stopped = said.run_stopped run;
-      never_refused = said.run_status run;
-    };
-    threads = λ threads. absurd (let asks = c.asks_threads.ensures.1 threads in
-        let without = c.if-not-asks_threads.true in let bad : ⊥ = cc in bad);
-    check = λ formula check. record {
-      done = said.check_done formula check;
-      stopped = said.check_stopped formula check;
-      refused = λ two. let refused = said.refused formula check two in record {
-        place = refused.0;
-        is = refused.1.0;
-        line = refused.1.1;
-      };
-    };
-    usage = said.usage;
-    other = λ other. said.usage_status other.usage;
-    quiet = said.quiet;
-    flushed = λ without. said.flushed;
-    fault = λ without one. let fault = said.fault one in record {
-      fault = fault.0;
-      line = fault.1.0;
-      is = fault.1.1;
-    };
-    writes_nothing = said.writes_nothing;
-    reads_nothing = λ not_run without. said.reads_nothing not_run;
-  };
+pub returns-in-Ok-Run : goal.returns-in-Ok-Run
+returns-in-Ok-Run g c =
+    let said = c.run_script.ensures in
+    record {
+      outcome = after_run (texts_of c.args.words.now) c.run_script.result _
+          (subst (IsAskedBy (texts_of c.args.words.now)) c.in-Ok-Run.field-0-is c.in-Ok-Run.ensures.ok)
+          (record { done = said.done; stopped = said.stopped; never_refused = said.status })
+          said.quiet said.flushed (λ one. let fault = said.fault one in record {
+            fault = fault.0;
+            line = fault.1.0;
+            is = fault.1.1;
+          });
+    }
+
+-- a fault of memory or of the writer is a fault
+one_fault : {A B : Type 0} {P : RunFault → Type 0} → (A → P Memory) → (B → P Write) → A ⊎ B
+    → (fault : RunFault) × P fault
+one_fault f g (inl a) = (Memory, f a)
+one_fault f g (inr b) = (Write, g b)
+
+pub returns-in-Ok-Check : goal.returns-in-Ok-Check
+returns-in-Ok-Check g c =
+    let said = c.check_formula.ensures in
+    let now = c.args.reader.now in
+    let old = c.args.writer.now in
+    record {
+      outcome = after_check (texts_of c.args.words.now) c.check_formula.result _ c.in-Ok-Check.formula.now
+          (subst (IsAskedBy (texts_of c.args.words.now)) c.in-Ok-Check.field-0-is
+          c.in-Ok-Check.ensures.ok)
+          (record {
+            done = said.done;
+            stopped = said.stopped;
+            refused = λ two. let refused = said.refused two in record {
+              place = refused.0;
+              is = refused.1.0;
+              line = refused.1.1;
+            };
+          })
+          said.status said.quiet said.flushed
+          (λ one. let fault = one_fault (λ memory. (
+            memory.0,
+            subst
+                (λ writer. IsRunFault Memory (g.R.Source.left now) (g.R.Source.left now)
+                (g.R.Source.failed now) (g.W.Sink.written old) (g.W.Sink.written writer)
+                (g.W.Sink.failed writer) (g.W.Sink.stalled writer)) (sym memory.1)
+                ((c.requires.reader_works, c.requires.writer_moves), never_began _ _),
+          )) (λ write. write) (said.fault one) in record {
+            fault = fault.0;
+            line = fault.1.0;
+            is = fault.1.1;
+          })
+          said.writes_nothing refl;
+    }
+
+pub returns-in-Err-NoMemory : goal.returns-in-Err-NoMemory
+returns-in-Err-NoMemory g c =
+    let said = c.report_fault-in-Err-NoMemory.ensures in
+    record {
+      outcome = without_memory (texts_of c.args.words.now) c.report_fault-in-Err-NoMemory.result _ _ _ _ _ _ _ _
+          _ _ _ said.status c.requires.reader_works c.requires.writer_moves said.reported;
+    }
+
+pub returns-in-Err-Usage : goal.returns-in-Err-Usage
+returns-in-Err-Usage g c = record {
+  outcome = after_usage (texts_of c.args.words.now) c.report_usage.result _
+      (c.in-Err-Usage.ensures.usage (ap Err c.in-Err-Usage.field-0-is))
+      c.report_usage.ensures.status c.report_usage.ensures.reported refl refl;
 }

@@ -1,6 +1,6 @@
 use Rattle.std.proofs.Common.{rules, ◌≡◌, subst, List, ℕ}
-use Rattle.lq_script.specs.Words.{WritesOrFails}
-use Rattle.lq_script.proofs.WordsLemmas.{tells}
+use Rattle.lq_script.specs.Written.{WritesOrFails}
+use Rattle.lq_script.proofs.WrittenLemmas.{tells}
 use Rattle.lq_script.proofs.commands.report.Goals as goal
 
 pub returns : goal.returns

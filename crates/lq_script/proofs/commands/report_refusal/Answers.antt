@@ -1,5 +1,5 @@
 use Rattle.std.proofs.Common.{◌∙◌, subst, List, ℕ}
-use Rattle.lq_script.specs.Words.{WritesOrFails}
+use Rattle.lq_script.specs.Written.{WritesOrFails}
 use Rattle.lq_script.proofs.commands.report_refusal.Goals as goal
 
 pub returns-in-Ok-clause-reported : goal.returns-in-Ok-clause-reported

@@ -1,6 +1,6 @@
 use Rattle.std.proofs.Common.{rules, ◌≡◌, subst, Result, Ok, Err, OnErr, List, ℕ}
-use Rattle.lq_script.specs.Words.{WritesFront}
-use Rattle.lq_script.proofs.WordsLemmas.{writes_part}
+use Rattle.lq_script.specs.Written.{WritesFront}
+use Rattle.lq_script.proofs.WrittenLemmas.{writes_part}
 use Rattle.lq_script.proofs.commands.write_line.Goals as goal
 
 on_err_any : {T E P : Type 0} (r : Result T E) → P → OnErr r P

@@ -30,6 +30,11 @@ lq_top = record (bare_command (codes "lq")) {
       { no_binary_name = true; subcommand_required = true };
 }
 
--- `run`, and `check` with a formula
+-- the command with the subcommands that carry out scripts, `run` and `threads`
+abbrev pub scripts_app : App
+scripts_app = with_subcommand (with_subcommand lq_top (bare_command (codes "run")).top)
+    (bare_command (codes "threads")).top
+
+-- `run`, `threads`, and `check` with a formula
 abbrev pub lq_app : App
-lq_app = with_subcommand (with_subcommand lq_top (bare_command (codes "run")).top) check_app.top
+lq_app = with_subcommand scripts_app check_app.top

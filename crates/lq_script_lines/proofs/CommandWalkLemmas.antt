@@ -1,20 +1,17 @@
 -- What clap's walk does with the words that ask for something.
-use Rattle.std.proofs.Common.{arith, ◌≡◌, ◌∙◌, ◌⊎◌, inl, inr, ℕ, Bool, true, false, refl, sym, ap, ap₂, subst, codes, List, [], ◌∷◌, length, zero, suc, Option, Some, None, option_map}
+use Rattle.std.proofs.Common.{arith, ◌≡◌, ◌∙◌, ◌⊎◌, ℕ, Bool, true, false, refl, ap, ap₂, codes, List, [], ◌∷◌, length, zero, suc, Option, Some, None, option_map}
 use Rattle.std.specs.Prelude.{nat_eq, slice_get, drop, encode_utf8, unwrap_or}
 use Rattle.std.specs.List.{starts_with}
 use Rattle.std.specs.Str.{bytes_eq, chars}
-use Rattle.std.proofs.lemmas.Slice.Eq.{bytes_eq-Decides}
 use Rattle.std.proofs.lemmas.Bool.Decides.{nat_tests}
 use Rattle.clap.specs.Lexer.{long_of, short_of}
-use Rattle.clap.specs.Walk.{Text, Rule, Row, Names, Held, Walk, Step, idle, value, walk, walked, walk_from, nothing_held, subcommand_or_other, long_or_other, short_or_plain, after_flag, bundle_met, bundle_step, arg_by_index, arg_by_long, arg_by_short, after_step, done, finished, first_of, settled, long_met, plain, short_met, subcommand_met, to_positional, word_met}
-use Rattle.clap.specs.Simple.{Shape, built, is_simple, names_of, subcommand_of}
+use Rattle.clap.specs.Walk.{Text, Rule, Row, Names, Held, Walk, Step, idle, value, walk_from, nothing_held, subcommand_or_other, long_or_other, short_or_plain, after_flag, bundle_met, bundle_step, arg_by_long, arg_by_short, after_step, done, finished, first_of, settled, long_met, plain, short_met, word_met}
+use Rattle.clap.specs.Simple.{Shape, built, built_leaf, inherited, is_simple, marked_built, names_of, subcommand_of}
 use Rattle.clap.specs.Kinds.{Kinds, or_else}
-use Rattle.clap.specs.Faults.{entered_fault, fault_of, is_simple_and_free, check_fault, defaults_fault, settle_fault, step_fault, turn_fault, walk_fault, word_fault}
-use Rattle.clap.specs.declared.error.kind.ErrorKind.{ErrorKind}
+use Rattle.clap.specs.Faults.{fault_of, is_simple_and_free, check_fault, defaults_fault, settle_fault, step_fault, word_fault}
 use Rattle.clap.proofs.OnLiterals.{clap_on_literals}
-use Rattle.clap.proofs.WalkLemmas.{walk_stopped}
-use Rattle.lq_script.specs.CommandLine.{lq_app}
-use Rattle.lq_script.specs.Words.{IsCheckOf, IsRun, has_stray}
+use Rattle.lq_script_lines.specs.CommandLine.{bare_command, lq_app, lq_top}
+use Rattle.lq_script_lines.specs.Words.{IsCheckOf, IsRun, IsThreads}
 
 -- clap reads such a command as its clauses say
 pub is_free : is_simple_and_free lq_app ≡ true
@@ -31,6 +28,11 @@ pub run_passes : fault_of lq_app (codes "run" ∷ []) ≡ []
 unfolding clap_on_literals
 run_passes = refl
 
+-- nor is `threads`
+pub threads_passes : fault_of lq_app (codes "threads" ∷ []) ≡ []
+unfolding clap_on_literals
+threads_passes = refl
+
 -- a text whose first byte is no `-`
 not_dash : (x : ℕ) (xs : Text) → starts_with nat_eq (x ∷ xs) (codes "-") ≡ false
     → nat_eq x 45 ≡ false
@@ -46,17 +48,13 @@ top = (built lq_app).top
 abbrev pub names : Names
 names = names_of (built lq_app)
 
--- a subcommand by its place
-abbrev sub_at : ℕ → Shape
-sub_at k = unwrap_or (slice_get (built lq_app).subs k) top
-
--- the subcommand `run`
-abbrev pub run_shape : Shape
-run_shape = sub_at 0
+-- a subcommand without arguments, as it is built
+abbrev pub bare_shape : Text → Shape
+bare_shape name = built_leaf (inherited (marked_built lq_top.top) (bare_command name).top)
 
 -- the subcommand `check`
 abbrev pub check_shape : Shape
-check_shape = sub_at 1
+check_shape = unwrap_or (slice_get (built lq_app).subs 2) top
 
 -- where a walk stands between two words
 abbrev pub held_with : List Row → Option (Text × List Text) → Held
@@ -176,6 +174,11 @@ pub run_given : given (codes "run" ∷ []) ≡ Some (codes "run", None)
 unfolding clap_on_literals
 run_given = refl
 
+-- `threads` gives `threads` alone
+pub threads_given : given (codes "threads" ∷ []) ≡ Some (codes "threads", None)
+unfolding clap_on_literals
+threads_given = refl
+
 -- `check` with such a formula gives it
 pub check_given : (formula : Text) → starts_with nat_eq formula (codes "-") ≡ false
     → given (codes "check" ∷ formula ∷ []) ≡ Some (codes "check", Some formula)
@@ -192,3 +195,9 @@ pub behind_dashes_given : (formula : Text)
     → given (codes "check" ∷ codes "--" ∷ formula ∷ []) ≡ Some (codes "check", Some formula)
 unfolding clap_on_literals
 behind_dashes_given formula = refl
+
+-- the words ask for the subcommand of this name, with this formula
+abbrev pub Asks : List Text → Text × Option Text → Type 0
+Asks words p = (IsRun words × (p ≡ (codes "run", None)))
+    ⊎ ((IsThreads words × (p ≡ (codes "threads", None)))
+    ⊎ ((formula : Text) × (IsCheckOf words formula × (p ≡ (codes "check", Some formula)))))

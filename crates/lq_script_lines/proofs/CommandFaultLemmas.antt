@@ -1,21 +1,17 @@
 -- The only words that are no fault of the program's command.
-use Rattle.std.proofs.Common.{arith, ◌≡◌, ◌∙◌, ◌⊎◌, inl, inr, ℕ, Bool, true, false, refl, sym, ap, ap₂, subst, codes, List, [], ◌∷◌, length, zero, suc, Option, Some, None, option_map}
-use Rattle.std.specs.Prelude.{nat_eq, slice_get, drop, encode_utf8, unwrap_or}
-use Rattle.std.specs.List.{starts_with}
-use Rattle.std.specs.Str.{bytes_eq, chars}
+use Rattle.std.proofs.Common.{◌≡◌, ◌∙◌, inl, inr, ℕ, Bool, true, false, refl, sym, ap, subst, codes, List, [], ◌∷◌, Option, Some, None}
+use Rattle.std.specs.Str.{bytes_eq}
 use Rattle.std.proofs.lemmas.Slice.Eq.{bytes_eq-Decides}
-use Rattle.std.proofs.lemmas.Bool.Decides.{nat_tests}
-use Rattle.clap.specs.Lexer.{long_of, short_of}
-use Rattle.clap.specs.Walk.{Text, Rule, Row, Names, Held, Walk, Step, idle, value, walk, walked, walk_from, nothing_held, subcommand_or_other, long_or_other, short_or_plain, after_flag, bundle_met, bundle_step, arg_by_index, arg_by_long, arg_by_short, after_step, done, finished, first_of, settled, long_met, plain, short_met, subcommand_met, to_positional, word_met}
-use Rattle.clap.specs.Simple.{Shape, built, is_simple, names_of, subcommand_of}
+use Rattle.clap.specs.Walk.{Text, Names, Held, Walk, Step, idle, value, walk, walked, walk_from, nothing_held, subcommand_or_other, arg_by_index, after_step, subcommand_met, to_positional, word_met}
+use Rattle.clap.specs.Simple.{Shape, built}
 use Rattle.clap.specs.Kinds.{Kinds, or_else}
-use Rattle.clap.specs.Faults.{entered_fault, fault_of, is_simple_and_free, check_fault, defaults_fault, settle_fault, step_fault, turn_fault, walk_fault, word_fault}
+use Rattle.clap.specs.Faults.{entered_fault, fault_of, step_fault, turn_fault, walk_fault, word_fault}
 use Rattle.clap.specs.declared.error.kind.ErrorKind.{ErrorKind}
 use Rattle.clap.proofs.OnLiterals.{clap_on_literals}
 use Rattle.clap.proofs.WalkLemmas.{walk_stopped}
-use Rattle.lq_script.specs.CommandLine.{lq_app}
-use Rattle.lq_script.specs.Words.{IsCheckOf, IsRun, has_stray}
-use Rattle.lq_script.proofs.CommandWalkLemmas.{at_place, check_shape, held_with, names, run_shape, top, value_met}
+use Rattle.lq_script_lines.specs.CommandLine.{lq_app}
+use Rattle.lq_script_lines.specs.Words.{IsCheckOf, has_stray}
+use Rattle.lq_script_lines.proofs.CommandWalkLemmas.{Asks, at_place, bare_shape, check_shape, held_with, names, top, value_met}
 
 -- ---- the only words that are no fault
 
@@ -68,8 +64,9 @@ trailing_passes s names h position word rest e =
 
 -- the name of a subcommand is no value
 no_subcommand : (word : Text) → bytes_eq (codes "run") word ≡ false
-    → bytes_eq (codes "check") word ≡ false → subcommand_met names idle word ≡ None
-no_subcommand word run check = rw (run, check) refl
+    → bytes_eq (codes "threads") word ≡ false → bytes_eq (codes "check") word ≡ false
+    → subcommand_met names idle word ≡ None
+no_subcommand word run threads check = rw (run, threads, check) refl
 
 -- a fault of the top level's own words, and of those of the subcommand
 own_passes : (words : List Text) → fault_of lq_app words ≡ []
@@ -93,6 +90,14 @@ unfolding walked
 run_stops rest = sym (ap (λ (w : Walk). w.stopped)
     (walk_stopped top.rules names (walk_from nothing_held) (codes "run") [] rest))
 
+-- the top level stops at `threads`, with the words behind it
+threads_stops : (rest : List Text)
+    → (walk top.rules names nothing_held (codes "threads" ∷ rest)).stopped
+    ≡ Some (codes "threads", rest)
+unfolding walked
+threads_stops rest = sym (ap (λ (w : Walk). w.stopped)
+    (walk_stopped top.rules names (walk_from nothing_held) (codes "threads") [] rest))
+
 -- the top level stops at `check`, with the words behind it
 check_stops : (rest : List Text)
     → (walk top.rules names nothing_held (codes "check" ∷ rest)).stopped
@@ -103,9 +108,17 @@ check_stops rest = sym (ap (λ (w : Walk). w.stopped)
 
 -- where the words are no fault, those behind `run` are none
 run_below : (rest : List Text) → fault_of lq_app (codes "run" ∷ rest) ≡ []
-    → walk_fault run_shape [] (at_place nothing_held 1 false) rest ≡ []
-run_below rest e = first_passes (walk_fault run_shape [] (walk_from nothing_held) rest) _
+    → walk_fault (bare_shape (codes "run")) [] (at_place nothing_held 1 false) rest ≡ []
+run_below rest e =
+    first_passes (walk_fault (bare_shape (codes "run")) [] (walk_from nothing_held) rest) _
     (below_passes (codes "run" ∷ rest) rest (codes "run") (run_stops rest) e)
+
+-- where the words are no fault, those behind `threads` are none
+threads_below : (rest : List Text) → fault_of lq_app (codes "threads" ∷ rest) ≡ []
+    → walk_fault (bare_shape (codes "threads")) [] (at_place nothing_held 1 false) rest ≡ []
+threads_below rest e =
+    first_passes (walk_fault (bare_shape (codes "threads")) [] (walk_from nothing_held) rest) _
+    (below_passes (codes "threads" ∷ rest) rest (codes "threads") (threads_stops rest) e)
 
 -- where the words are no fault, those behind `check` are none
 check_below : (rest : List Text) → fault_of lq_app (codes "check" ∷ rest) ≡ []
@@ -121,11 +134,12 @@ no_kind k ks e = absurd (cc)
 is_dashes : (word : Text) → bytes_eq word (codes "--") ≡ true → word ≡ codes "--"
 is_dashes word e = (bytes_eq-Decides word (codes "--")).0 e
 
--- neither `run` nor `check`
+-- a word that names no subcommand is a fault
 other_word : (word : Text) (rest : List Text) → bytes_eq (codes "run") word ≡ false
-    → bytes_eq (codes "check") word ≡ false → fault_of lq_app (word ∷ rest) ≡ [] → ⊥
+    → bytes_eq (codes "threads") word ≡ false → bytes_eq (codes "check") word ≡ false
+    → fault_of lq_app (word ∷ rest) ≡ [] → ⊥
 unfolding clap_on_literals
-other_word word rest run check e = by_dashes (bytes_eq word (codes "--")) refl
+other_word word rest run threads check e = by_dashes (bytes_eq word (codes "--")) refl
   where
     behind : (more : List Text) → fault_of lq_app (codes "--" ∷ more) ≡ [] → ⊥
     behind [] f = no_kind _ _ f
@@ -138,27 +152,30 @@ other_word word rest run check e = by_dashes (bytes_eq word (codes "--")) refl
     by_dashes false t =
         let met : word_met top.rules names false idle 1 word nothing_held ≡ (nothing_held, value) =
         ap (λ (o : Option Text). subcommand_or_other top.rules o idle 1 word nothing_held)
-        (no_subcommand word run check) ∙ value_met [] (λ n. refl) (λ x. refl) word [] None 1 t in
+        (no_subcommand word run threads check) ∙ value_met [] (λ n. refl) (λ x. refl) word [] None 1 t in
         no_kind _ _
         (value_passes top names nothing_held 1 word rest met (own_passes (word ∷ rest) e)).0
 
--- nothing stands behind `run`
-run_alone : (word : Text) (rest : List Text) → has_stray (codes "run" ∷ word ∷ rest) ≡ false
-    → walk_fault run_shape [] (at_place nothing_held 1 false) (word ∷ rest) ≡ [] → ⊥
+-- nothing stands behind a subcommand without arguments
+alone : (name : Text) (words : List Text) → has_stray (name ∷ words) ≡ false
+    → walk_fault (bare_shape name) [] (at_place nothing_held 1 false) words ≡ [] → words ≡ []
 unfolding clap_on_literals
-run_alone word rest stray e = by_dashes (bytes_eq word (codes "--")) refl
+alone name [] stray e = refl
+alone name (word ∷ rest) stray e = absurd (by_dashes (bytes_eq word (codes "--")) refl)
   where
-    behind : (more : List Text) → has_stray (codes "run" ∷ codes "--" ∷ more) ≡ false
-        → walk_fault run_shape [] (at_place nothing_held 1 false) (codes "--" ∷ more) ≡ [] → ⊥
+    behind : (more : List Text) → has_stray (name ∷ codes "--" ∷ more) ≡ false
+        → walk_fault (bare_shape name) [] (at_place nothing_held 1 false) (codes "--" ∷ more) ≡ []
+        → ⊥
     behind [] s f = absurd (let bad : true ≡ false = s in cc)
-    behind (x ∷ xs) s f = no_kind _ _ (trailing_passes run_shape [] nothing_held 1 x xs f).0
+    behind (x ∷ xs) s f =
+        no_kind _ _ (trailing_passes (bare_shape name) [] nothing_held 1 x xs f).0
 
     by_dashes : (t : Bool) → bytes_eq word (codes "--") ≡ t → ⊥
     by_dashes true t = behind rest
-        (subst (λ (w : Text). has_stray (codes "run" ∷ w ∷ rest) ≡ false) (is_dashes word t) stray)
-        (subst (λ (w : Text). walk_fault run_shape [] (at_place nothing_held 1 false) (w ∷ rest)
-        ≡ []) (is_dashes word t) e)
-    by_dashes false t = no_kind _ _ (value_passes run_shape [] nothing_held 1 word rest
+        (subst (λ (w : Text). has_stray (name ∷ w ∷ rest) ≡ false) (is_dashes word t) stray)
+        (subst (λ (w : Text). walk_fault (bare_shape name) [] (at_place nothing_held 1 false)
+        (w ∷ rest) ≡ []) (is_dashes word t) e)
+    by_dashes false t = no_kind _ _ (value_passes (bare_shape name) [] nothing_held 1 word rest
         (value_met [] (λ n. refl) (λ x. refl) word [] None 1 t) e).0
 
 -- behind `check` stands a formula, or `--` and a formula
@@ -220,35 +237,54 @@ check_form (word ∷ next ∷ rest) stray e = by_dashes (bytes_eq word (codes "-
         (value_passes check_shape [] nothing_held 1 word (next ∷ rest) (value_met check_shape.rules
         (λ n. refl) (λ x. refl) word [] None 1 t) (check_below (word ∷ next ∷ rest) e)).1)
 
--- the words that clap takes
+-- the words that clap takes ask for a subcommand
 pub taken : (words : List Text) → has_stray words ≡ false → fault_of lq_app words ≡ []
-    → IsRun words ⊎ ((formula : Text) × IsCheckOf words formula)
+    → (p : Text × Option Text) × Asks words p
 unfolding clap_on_literals
 taken [] stray e = none e
   where
-    none : fault_of lq_app [] ≡ [] → IsRun [] ⊎ ((formula : Text) × IsCheckOf [] formula)
+    none : fault_of lq_app [] ≡ [] → (p : Text × Option Text) × Asks [] p
     none f = no_kind _ _ f
 taken (word ∷ rest) stray e = by_run (bytes_eq (codes "run") word) refl
   where
-    run_is : (more : List Text) → has_stray (codes "run" ∷ more) ≡ false
-        → fault_of lq_app (codes "run" ∷ more) ≡ [] → IsRun (codes "run" ∷ more)
-    run_is [] s f = refl
-    run_is (x ∷ xs) s f = absurd (run_alone x xs s (run_below (x ∷ xs) f))
+    Asked : List Text → Type 0
+    Asked words = (p : Text × Option Text) × Asks words p
+
+    -- the first word is this name
+    at_name : (name : Text) → bytes_eq name word ≡ true
+        → (has_stray (name ∷ rest) ≡ false → fault_of lq_app (name ∷ rest) ≡ []
+        → Asked (name ∷ rest)) → Asked (word ∷ rest)
+    at_name name t form =
+        let is : name ≡ word = (bytes_eq-Decides name word).0 t in
+        subst (λ (w : Text). Asked (w ∷ rest)) is
+        (form (subst (λ (w : Text). has_stray (w ∷ rest) ≡ false) (sym is) stray)
+        (subst (λ (w : Text). fault_of lq_app (w ∷ rest) ≡ []) (sym is) e))
 
     by_check : (t : Bool) → bytes_eq (codes "check") word ≡ t → bytes_eq (codes "run") word ≡ false
-        → IsRun (word ∷ rest) ⊎ ((formula : Text) × IsCheckOf (word ∷ rest) formula)
-    by_check true t r =
-        let is : codes "check" ≡ word = (bytes_eq-Decides (codes "check") word).0 t in
-        inr (subst (λ (w : Text). (formula : Text) × IsCheckOf (w ∷ rest) formula) is
-        (check_form rest (subst (λ (w : Text). has_stray (w ∷ rest) ≡ false) (sym is) stray)
-        (subst (λ (w : Text). fault_of lq_app (w ∷ rest) ≡ []) (sym is) e)))
-    by_check false t r = absurd (other_word word rest r t e)
+        → bytes_eq (codes "threads") word ≡ false → Asked (word ∷ rest)
+    by_check true t run threads = at_name (codes "check") t (λ s f.
+        let form = check_form rest s f in
+        ((codes "check", Some form.0), inr (inr (form.0, (form.1, refl)))))
+    by_check false t run threads = absurd (other_word word rest run threads t e)
 
-    by_run : (t : Bool) → bytes_eq (codes "run") word ≡ t
-        → IsRun (word ∷ rest) ⊎ ((formula : Text) × IsCheckOf (word ∷ rest) formula)
-    by_run true t =
-        let is : codes "run" ≡ word = (bytes_eq-Decides (codes "run") word).0 t in
-        inl (subst (λ (w : Text). IsRun (w ∷ rest)) is
-        (run_is rest (subst (λ (w : Text). has_stray (w ∷ rest) ≡ false) (sym is) stray)
-        (subst (λ (w : Text). fault_of lq_app (w ∷ rest) ≡ []) (sym is) e)))
-    by_run false t = by_check (bytes_eq (codes "check") word) refl t
+    by_threads : (t : Bool) → bytes_eq (codes "threads") word ≡ t
+        → bytes_eq (codes "run") word ≡ false → Asked (word ∷ rest)
+    by_threads true t run = at_name (codes "threads") t (λ s f. (
+      (codes "threads", None),
+      inr (inl (
+        ap (λ (w : List Text). codes "threads" ∷ w)
+            (alone (codes "threads") rest s (threads_below rest f)),
+        refl,
+      )),
+    ))
+    by_threads false t run = by_check (bytes_eq (codes "check") word) refl run t
+
+    by_run : (t : Bool) → bytes_eq (codes "run") word ≡ t → Asked (word ∷ rest)
+    by_run true t = at_name (codes "run") t (λ s f. (
+      (codes "run", None),
+      inl (
+        ap (λ (w : List Text). codes "run" ∷ w) (alone (codes "run") rest s (run_below rest f)),
+        refl,
+      ),
+    ))
+    by_run false t = by_threads (bytes_eq (codes "threads") word) refl t

@@ -1,8 +1,5 @@
--- What the program's arguments ask for, and what it writes to its output and to standard error.
-use Rattle.std.specs.Prelude.{◌≡◌, ◌⊎◌, ℕ, List, [], ◌∷◌, ◌++◌, Option, Bool, true, false, codes, map, nat_eq, not, ◌&&◌, String}
-use Rattle.std.specs.Str.{bytes_eq}
-use Rattle.std.specs.List.{starts_with}
-use Rattle.std.specs.String.{string_bytes}
+-- What the program writes to its output and to standard error.
+use Rattle.std.specs.Prelude.{◌≡◌, ◌⊎◌, ℕ, List, [], ◌∷◌, ◌++◌, Option, Bool, true, false, codes}
 use Rattle.std.specs.Fmt.{decimal}
 use Rattle.std.specs.Io.KnownBytes.{Appends}
 use Rattle.lq_predicate.specs.Query.{Query}
@@ -13,39 +10,6 @@ use Rattle.lq_script_lines.specs.Output.{Ended, Halted, NotBegun, Passed}
 use Rattle.lq_script_lines.specs.declared.run_fault.RunFault.{RunFault}
 use Rattle.lq_script_lines.specs.declared.run_fault.RunFault.TheVariants.{Read, Write, Limit, Memory, Thread}
 use Rattle.lq_script_desk.specs.Script.{script_session, world_rules}
-use Rattle.lq_script.specs.declared.command_line.Subcommand.{Subcommand}
-use Rattle.lq_script.specs.declared.command_line.Subcommand.TheVariants.{Run, Check}
-
--- the texts of the arguments
-abbrev pub texts_of : {Z : Type 0} → List (String Z) → List (List ℕ)
-texts_of words = map string_bytes words
-
--- `run`
-abbrev pub IsRun : List (List ℕ) → Type 0
-IsRun words = words ≡ codes "run" ∷ []
-
--- `check FORMULA`, where it doesn't begin with `-`, or `check -- FORMULA`
-abbrev pub IsCheckOf : List (List ℕ) → List ℕ → Type 0
-IsCheckOf words formula =
-    ((words ≡ codes "check" ∷ formula ∷ []) × (starts_with nat_eq formula (codes "-") ≡ false))
-    ⊎ (words ≡ codes "check" ∷ codes "--" ∷ formula ∷ [])
-
--- any other arguments
-pub record IsUsage (words : List (List ℕ)) : Type 0 where
-  pub not_run : ¬ IsRun words
-  pub not_check : (formula : List ℕ) → ¬ IsCheckOf words formula
-
--- the second of two arguments begins with `-`, or the third of three is `--` and the second isn't
-abbrev pub has_stray : List (List ℕ) → Bool
-has_stray (first ∷ second ∷ []) = starts_with nat_eq second (codes "-")
-has_stray (first ∷ second ∷ third ∷ []) =
-    not (bytes_eq second (codes "--")) && bytes_eq third (codes "--")
-has_stray words = false
-
--- the arguments ask for this
-abbrev pub IsAskedBy : List (List ℕ) → Subcommand → Type 0
-IsAskedBy words Run = IsRun words
-IsAskedBy words (Check formula) = IsCheckOf words formula.now
 
 -- a text and LF
 abbrev pub line_with : List ℕ → List ℕ
@@ -108,12 +72,3 @@ IsRunFault Memory left left' fails written written' failed stalled =
     × (Halted world_rules script_session left left' written written'
     ⊎ NotBegun left left' written written')
 IsRunFault Thread left left' fails written written' failed stalled = ⊥
-
--- `threads`
-abbrev pub IsThreads : List (List ℕ) → Type 0
-IsThreads words = words ≡ codes "threads" ∷ []
-
--- any arguments but `threads` and those that ask for something else
-pub record IsOther (words : List (List ℕ)) : Type 0 where
-  pub usage : IsUsage words
-  pub not_threads : ¬ IsThreads words

@@ -1,9 +1,9 @@
 //! The command line, read with clap.
-ghost use Rattle.std.specs.Prelude.{◌≡◌, false, codes, IfOk, IsErrOf};
-ghost use Rattle.clap.specs.Simple.{app_of, with_subcommand};
+ghost use Rattle.std.specs.Prelude.{◌≡◌, false, IfOk, IsErrOf};
+ghost use Rattle.clap.specs.Simple.{app_of};
 ghost use Rattle.clap.specs.declared.builder.command.Command.TheViews.{out-Command as fields_of};
-ghost use Rattle.lq_script.specs.CommandLine.{bare_command, check_app, lq_app, lq_top};
-ghost use Rattle.lq_script.specs.Words.{IsAskedBy, IsUsage, has_stray, texts_of};
+ghost use Rattle.lq_script_lines.specs.CommandLine.{bare_command, check_app, lq_app, scripts_app};
+ghost use Rattle.lq_script_lines.specs.Words.{IsAskedBy, IsUsage, has_stray, texts_of};
 
 use clap::error::ErrorKind;
 use clap::{Arg, ArgAction, Command};
@@ -14,6 +14,8 @@ use std::alloc::{AllocError, Global};
 pub enum Subcommand<'a> {
     /// `run`.
     Run,
+    /// `threads`.
+    Threads,
     /// `check FORMULA`.
     Check(&'a str),
 }
@@ -27,8 +29,9 @@ pub enum WordsFault {
 
 /// What these arguments ask for.
 ///
-/// Refused: `Usage` for all but `run`, `check FORMULA` and `check -- FORMULA`, so also for help and
-/// version; a FORMULA that begins with `-` has to follow `--`. `NoMemory` where memory runs out.
+/// Refused: `Usage` for all but `run`, `threads`, `check FORMULA` and `check -- FORMULA`, so also
+/// for help and version; a FORMULA that begins with `-` has to follow `--`. `NoMemory` where memory
+/// runs out.
 pub fn subcommand_of<'a>(alloc: Global, words: &'a [String]) -> Result<Subcommand<'a>, WordsFault>
     ensures ok { IfOk result (IsAskedBy (texts_of words.entry.now)) }
     ensures usage { IsErrOf result WordsFault.Usage → IsUsage (texts_of words.entry.now) }
@@ -50,6 +53,9 @@ pub fn subcommand_of<'a>(alloc: Global, words: &'a [String]) -> Result<Subcomman
     if name == "run" {
         return Ok(Subcommand::Run);
     }
+    if name == "threads" {
+        return Ok(Subcommand::Threads);
+    }
     match inner.get_str("formula") {
         Some(formula) => Ok(Subcommand::Check(formula)),
         None => Err(WordsFault::Usage),
@@ -67,24 +73,25 @@ fn has_stray_dashes(words: &[String]) -> bool
     }
 }
 
-// The program's command: `run`, or `check` with a formula.
+// The program's command: `run`, `threads`, or `check` with a formula.
 fn command_of<'a>(alloc: Global) -> Result<Command<'a>, AllocError>
     ensures { IfOk result (λ command. app_of command ≡ lq_app) }
 {
     let check = check_command(alloc)?;
-    let command = run_command(alloc)?;
+    let command = scripts_command(alloc)?;
     command.subcommand(check)
 }
 
-// The command with `run` alone. Its arguments begin after its name and have to name a subcommand.
-fn run_command<'a>(alloc: Global) -> Result<Command<'a>, AllocError>
-    ensures { IfOk result (λ command.
-        app_of command ≡ with_subcommand lq_top (bare_command (codes "run")).top) }
+// The command with `run` and `threads` alone. Its arguments begin after its name and have to name a
+// subcommand.
+fn scripts_command<'a>(alloc: Global) -> Result<Command<'a>, AllocError>
+    ensures { IfOk result (λ command. app_of command ≡ scripts_app) }
 {
     without_help(alloc, "lq")
         .no_binary_name(true)
         .subcommand_required(true)
-        .subcommand(without_help(alloc, "run"))
+        .subcommand(without_help(alloc, "run"))?
+        .subcommand(without_help(alloc, "threads"))
 }
 
 // The subcommand `check`, which requires a formula.
