@@ -1,24 +1,21 @@
--- Read in this order. Lists, words of bits and update lists: ListLemmas, WordLemmas, UpdateLemmas.
--- One slot: PutLemmas. All slots: SlotsLemmas, FewLemmas, PlaceLemmas, LoopLemmas, BitLemmas,
--- ReadyLemmas, FreeLemmas, MarkLemmas, WatchLemmas. A desk shows a world: SlotLemmas and EndLemmas
--- (one subscription), Shown (each event). Turns: RunLemmas, EventLemmas, SlotTurnLemmas,
--- TurnLemmas, ParcelLemmas. What a desk keeps stays as it has to be: Desks.
+-- Read in this order. Lists and update lists: ListLemmas, UpdateLemmas. One slot: PutLemmas. All
+-- slots: SlotsLemmas, FewLemmas, PlaceLemmas, PassLemmas, ReadyLemmas, WatchLemmas, MarkLemmas. A
+-- desk shows a world: SlotLemmas and EndLemmas (one subscription), Shown (each event). Turns:
+-- RunLemmas, EventLemmas, SlotTurnLemmas, TurnLemmas, ParcelLemmas. What a desk keeps stays as it
+-- has to be: Desks.
 pub mod ListLemmas
 pub mod UpdateLemmas
 pub mod PutLemmas
-pub mod WordLemmas
 pub mod SlotLemmas
 pub mod EndLemmas
 pub mod Shown
 pub mod SlotsLemmas
 pub mod FewLemmas
 pub mod PlaceLemmas
-pub mod LoopLemmas
-pub mod BitLemmas
+pub mod PassLemmas
 pub mod ReadyLemmas
-pub mod MarkLemmas
 pub mod WatchLemmas
-pub mod FreeLemmas
+pub mod MarkLemmas
 pub mod RunLemmas
 pub mod EventLemmas
 pub mod SlotTurnLemmas

@@ -130,3 +130,10 @@ pub set-seam : {A : Type 0} (xs : List A) (y x : A) (ys : List A)
     → slice_set (xs ++ y ∷ ys) (length xs) x ≡ (xs ++ x ∷ []) ++ ys
 set-seam [] y x ys = refl
 set-seam (z ∷ xs) y x ys = ap (λ zs. z ∷ zs) (set-seam xs y x ys)
+
+-- a place with an element is within the list
+pub get-within : {A : Type 0} (xs : List A) (i : ℕ) (x : A) → slice_get xs i ≡ Some x
+    → i < length xs
+get-within [] i x at = absurd (let no : ⊥ = cc in no)
+get-within (y ∷ xs) zero x at = omega arith
+get-within (y ∷ xs) (suc i) x at = let rest = get-within xs i x at in omega (arith, rest)

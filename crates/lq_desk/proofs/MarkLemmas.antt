@@ -1,124 +1,171 @@
--- The words of the slots: what marks them goes on marking them.
-use Rattle.std.proofs.Common.{◌≡◌, ℕ, ◌<◌, List, [], ◌∷◌, ◌++◌, refl, ap, map, length, ◌∙◌, sym, subst, Some, None, Option, Bool, true, false, inl, inr}
+-- The places of the slots, and the sets that mark them, stay as they have to be.
+use Rattle.std.proofs.Common.{◌≡◌, ◌≢◌, ◌∙◌, ℕ, zero, suc, ◌<◌, List, length, map, replicate, Bool, true, false, Option, Some, None, refl, sym, ap, subst, inl, inr, arith}
 use Rattle.std.specs.Prelude.{slice_get, slice_set, ◌||◌}
 use Rattle.std.specs.Option.{option_map, option_flatten}
-use Rattle.std.specs.Int.{bit_at}
-use Rattle.std.specs.Int.RustNames.{bit_or}
+use Rattle.std.proofs.lemmas.Bool.{both_ways, false_from_ne_true, or_left, or_right}
+use Rattle.std.proofs.lemmas.List.{length-map, length-set}
 use Rattle.std.proofs.lemmas.Option.{slice_get-map}
 use Rattle.lq_update.specs.declared.mark.Cause.TheVariants.{Closed}
 use Rattle.lq_update.specs.declared.parcel.Parcel.{Parcel}
+use Rattle.lq_desk_world.specs.Events.{Answer}
+use Rattle.lq_desk_sub.specs.declared.watch.Watch.{Watch}
 use Rattle.lq_desk_sub.specs.Held.{is_live, ended_by}
+use Rattle.lq_desk_sub.specs.SlotSet.{has}
+use Rattle.lq_desk_sub.specs.Visits.{Visits}
 use Rattle.lq_desk.specs.Slot.{KeptSlot, PreparedSlot, slot_of, can_move, close_if, filled, has_work, is_ending, noticed, passes, read_if}
 use Rattle.lq_desk.specs.Act.{close_turn, outcome_at, outcome_in, read_turn}
-use Rattle.lq_desk.specs.Words.{AreCommitted, AreMarked, IsMarked, SetsBit}
+use Rattle.lq_desk.specs.Words.{ArePlaces, AreWatched, IsMarked}
 use Rattle.lq_desk.proofs.ListLemmas.{get-set_in}
+use Rattle.lq_desk.proofs.PassLemmas.{visits-from}
 use Rattle.lq_desk.proofs.PutLemmas.{filled-ends, filled-still}
-use Rattle.lq_desk.proofs.ReadyLemmas.{CameFrom, committed-from}
-use Rattle.lq_desk.proofs.SlotsLemmas.{kept_slot, committed-ends, noticed-quiet, noticed-still}
-use Rattle.lq_desk.proofs.WordLemmas.{either-left, either-right, marked-map, marked-push, marked-set}
+use Rattle.lq_desk.proofs.SlotsLemmas.{kept_slot, noticed-still}
+use Rattle.lq_desk.proofs.WatchLemmas.{KeepsQuery, get-put, watched-acted, watched-from}
 
--- a test isn't true and false
-and_cases : (x : Bool) → x ≡ true → x ≡ false → ⊥
-and_cases true p q = cc
-and_cases false p q = cc
+-- a slot that isn't in the set fails the test
+pub unmarked : (test : KeptSlot → Bool) (set : ℕ) (xs : List (Option PreparedSlot)) (i : ℕ)
+    (x : PreparedSlot) → IsMarked test set (map kept_slot xs) → slice_get xs i ≡ Some (Some x)
+    → has set i ≡ false → test (slot_of x) ≡ false
+unmarked test set xs i x marked at none = false_from_ne_true (test (slot_of x)) (λ is.
+    both_ways _ none (marked i (slot_of x) (slice_get-map kept_slot xs i
+    ∙ ap (option_map kept_slot) at) is))
 
--- messages are told
-pub marks-committed : (ending movable told : ℕ) (xs ys : List (Option PreparedSlot))
-    → AreCommitted told xs ys → AreMarked ending movable (map kept_slot xs)
-    → AreMarked ending (bit_or movable told) (map kept_slot ys)
-marks-committed ending movable told xs ys does marked = record {
-  ends = marked-map is_ending slot_of ending ys
-      (λ i q at is. ends i q (come i q at) is);
-  moves = marked-map can_move slot_of (bit_or movable told) ys
-      (λ i q at is. moves i q (come i q at) is);
+-- ---- a pass
+
+-- Visits of the slots of a set leave the places as they have to be, where each visit and each slot
+-- without one does.
+pub places-passed : {S : Type 0} (allows : S → ℕ → PreparedSlot → Type 0)
+    (did : S → ℕ → PreparedSlot → PreparedSlot → Type 0) (p : ℕ → Bool)
+    (xs ys : List (Option PreparedSlot)) (s t : S) → Visits allows did p xs ys s t
+    → length ys ≡ 64 → (ends moves ends' moves' : ℕ) (w : Watch)
+    → ((i : ℕ) (x y : PreparedSlot) → did t i x y → y.sub.held.query ≡ x.sub.held.query)
+    → ((i : ℕ) (x y : PreparedSlot) → p i ≡ true → did t i x y
+    → (is_ending (slot_of x) ≡ true → has ends i ≡ true) → is_ending (slot_of y) ≡ true
+    → has ends' i ≡ true)
+    → ((i : ℕ) → p i ≡ false → has ends i ≡ true → has ends' i ≡ true)
+    → ((i : ℕ) (x y : PreparedSlot) → p i ≡ true → did t i x y → can_move (slot_of y) ≡ true
+    → has moves' i ≡ true)
+    → ((i : ℕ) → p i ≡ false → has moves i ≡ true → has moves' i ≡ true)
+    → ArePlaces ends moves w (map kept_slot xs) → ArePlaces ends' moves' w (map kept_slot ys)
+places-passed allows did p xs ys s t v wide ends moves ends' moves' w query end left move idle all =
+    record {
+      wide = length-map ys kept_slot ∙ wide;
+      ends = λ i k at is. let y = kept-from ys i k at in
+          let f = visits-from allows did p xs ys s t v i y.0 y.1 in
+          let ends_y : is_ending (slot_of y.0) ≡ true = ap is_ending y.2 ∙ is in
+          elim f.2 [
+            | inl d ↦ end i f.0 y.0 d.0 d.1 (all.ends i (slot_of f.0) (there i f.0 f.1)) ends_y
+            | inr d ↦ left i d.0 (all.ends i (slot_of f.0) (there i f.0 f.1)
+                (ap (λ (q : PreparedSlot). is_ending (slot_of q)) d.1 ∙ ends_y))
+          ];
+      moves = λ i k at is. let y = kept-from ys i k at in
+          let f = visits-from allows did p xs ys s t v i y.0 y.1 in
+          let moves_y : can_move (slot_of y.0) ≡ true = ap can_move y.2 ∙ is in
+          elim f.2 [
+            | inl d ↦ move i f.0 y.0 d.0 d.1 moves_y
+            | inr d ↦ idle i d.0 (all.moves i (slot_of f.0) (there i f.0 f.1)
+                (ap (λ (q : PreparedSlot). can_move (slot_of q)) d.1 ∙ moves_y))
+          ];
+      watched = watched-from w (map kept_slot xs) (map kept_slot ys) (λ i k at.
+          let y = kept-from ys i k at in
+          let f = visits-from allows did p xs ys s t v i y.0 y.1 in (
+            slot_of f.0,
+            there i f.0 f.1,
+            (ap (λ (j : KeptSlot). j.held.query) (sym y.2)
+                ∙ elim f.2 [
+                  | inl d ↦ query i f.0 y.0 d.1
+                  | inr d ↦ ap (λ (q : PreparedSlot). q.sub.held.query) (sym d.1)
+                ]),
+          )) all.watched;
+    }
+  where
+    kept-from : (zs : List (Option PreparedSlot)) (i : ℕ) (k : KeptSlot)
+        → slice_get (map kept_slot zs) i ≡ Some (Some k)
+        → (x : PreparedSlot) × (slice_get zs i ≡ Some (Some x)) × (slot_of x ≡ k)
+    kept-from zs i k at = by (slice_get zs i) refl (sym (slice_get-map kept_slot zs i) ∙ at)
+      where
+        by : (o : Option (Option PreparedSlot)) → slice_get zs i ≡ o
+            → option_map kept_slot o ≡ Some (Some k)
+            → (x : PreparedSlot) × (slice_get zs i ≡ Some (Some x)) × (slot_of x ≡ k)
+        by None was is = absurd (let no : ⊥ = cc in no)
+        by (Some None) was is = absurd (let no : ⊥ = cc in no)
+        by (Some (Some x)) was is = (x, was, let same : slot_of x ≡ k = cc in same)
+
+    there : (i : ℕ) (x : PreparedSlot) → slice_get xs i ≡ Some (Some x)
+        → slice_get (map kept_slot xs) i ≡ Some (Some (slot_of x))
+    there i x at = slice_get-map kept_slot xs i ∙ ap (option_map kept_slot) at
+
+-- ---- free places
+
+-- 64 free places
+pub places-none : (ends moves : ℕ) (w : Watch)
+    → ArePlaces ends moves w (map kept_slot (replicate 64 None))
+places-none ends moves w = record {
+  wide = refl;
+  ends = λ i k at is. absurd (free 64 i k at);
+  moves = λ i k at is. absurd (free 64 i k at);
+  watched = λ c i k at clear. absurd (free 64 i k at);
 }
   where
-    come : (i : ℕ) (q : PreparedSlot) → slice_get ys i ≡ Some (Some q) → CameFrom told xs i q
-    come i q at = committed-from told xs ys does i q at
+    free : (n i : ℕ) (k : KeptSlot) → slice_get (map kept_slot (replicate n None)) i
+        ≡ Some (Some k) → ⊥
+    free zero i k at = cc
+    free (suc n) zero k at = cc
+    free (suc n) (suc i) k at = free n i k at
 
-    there : (i : ℕ) (p : PreparedSlot) → slice_get xs i ≡ Some (Some p)
-        → slice_get (map kept_slot xs) i ≡ Some (Some (slot_of p))
-    there i p at = slice_get-map kept_slot xs i ∙ ap (option_map kept_slot) at
+-- ---- one place
 
-    ends : (i : ℕ) (q : PreparedSlot) → CameFrom told xs i q → is_ending (slot_of q) ≡ true
-        → bit_at ending i ≡ 1
-    ends i q (inl h) is = marked.ends i (slot_of h.0) (there i h.0 h.2) (committed-ends h.0
-        (ap (λ (r : PreparedSlot). is_ending (slot_of r)) h.3 ∙ is))
-    ends i q (inr at) is = marked.ends i (slot_of q) (there i q at) is
-
-    moves : (i : ℕ) (q : PreparedSlot) → CameFrom told xs i q → can_move (slot_of q) ≡ true
-        → bit_at (bit_or movable told) i ≡ 1
-    moves i q (inl h) is = either-right movable told i h.1
-    moves i q (inr at) is =
-        either-left movable told i (marked.moves i (slot_of q) (there i q at) is)
-
--- ends are noticed
-pub marks-noticed : (number ending movable : ℕ) (ks js : List (Option KeptSlot))
-    → js ≡ map (option_map (noticed number)) ks → AreMarked ending movable ks
-    → AreMarked 0 (bit_or movable ending) js
-marks-noticed number ending movable ks js does marked =
-    subst (λ hs. AreMarked 0 (bit_or movable ending) hs) (sym does) (record {
-      ends = marked-map is_ending (noticed number) 0 ks
-          (λ i k at is. absurd (and_cases _ is (noticed-still number k)));
-      moves = marked-map can_move (noticed number) (bit_or movable ending) ks
-          (λ i k at is. by i k at is (is_ending k) refl);
-    })
-  where
-    by : (i : ℕ) (k : KeptSlot) → slice_get ks i ≡ Some (Some k)
-        → can_move (noticed number k) ≡ true → (x : Bool) → is_ending k ≡ x
-        → bit_at (bit_or movable ending) i ≡ 1
-    by i k at is true ends = either-right movable ending i (marked.ends i k at ends)
-    by i k at is false ends = either-left movable ending i
-        (marked.moves i k at (ap can_move (sym (noticed-quiet number k ends)) ∙ is))
-
--- ports are filled
-pub marks-filled : (ending movable : ℕ) (ks js : List (Option KeptSlot))
-    → js ≡ map (option_map filled) ks → AreMarked ending movable ks → AreMarked ending 0 js
-marks-filled ending movable ks js does marked =
-    subst (λ hs. AreMarked ending 0 hs) (sym does) (record {
-      ends = marked-map is_ending filled ending ks
-          (λ i k at is. marked.ends i k at (sym (filled-ends k) ∙ is));
-      moves = marked-map can_move filled 0 ks
-          (λ i k at is. absurd (and_cases _ is (filled-still k)));
-    })
+-- a set goes on marking the slots, after another thing was written at a place
+marked-set : (test : KeptSlot → Bool) (old new : ℕ) (ks : List (Option KeptSlot)) (place : ℕ)
+    (o : Option KeptSlot) → ((i : ℕ) → i ≢ place → has new i ≡ has old i)
+    → (passes test o ≡ true → has new place ≡ true) → IsMarked test old ks
+    → IsMarked test new (slice_set ks place o)
+marked-set test old new ks place o others here marked i k at is =
+    elim (get-put ks place i o (Some k) at) [
+      | inl there ↦ ap (has new) there.0 ∙ here (ap (passes test) (sym there.1) ∙ is)
+      | inr other ↦ others i other.0 ∙ marked i k other.1 is
+    ]
 
 -- another thing stands at a place
-pub marks-set : (ending movable ending' movable' : ℕ) (ks js : List (Option KeptSlot)) (place : ℕ)
-    (o : Option KeptSlot) → js ≡ slice_set ks place o
-    → SetsBit ending place (passes is_ending o) ending'
-    → SetsBit movable place (passes can_move o) movable' → AreMarked ending movable ks
-    → AreMarked ending' movable' js
-marks-set ending movable ending' movable' ks js place o does e m marked =
-    subst (λ hs. AreMarked ending' movable' hs) (sym does) (record {
-      ends = marked-set is_ending ending ending' ks place o marked.ends e.others e.here;
-      moves = marked-set can_move movable movable' ks place o marked.moves m.others m.here;
-    })
-
--- after an act at a slot its bits are set anew, and no other
-pub marks-acted : (ending movable ending' movable' : ℕ) (ks js : List (Option KeptSlot)) (place : ℕ)
-    (o : Option KeptSlot) → place < length ks → js ≡ slice_set ks place o
-    → SetsBit ending place (passes is_ending (option_flatten (slice_get js place))) ending'
-    → SetsBit movable place (passes can_move (option_flatten (slice_get js place))) movable'
-    → AreMarked ending movable ks → AreMarked ending' movable' js
-marks-acted ending movable ending' movable' ks js place o lt does e m marked =
-    let there : option_flatten (slice_get js place) ≡ o =
-    ap (λ hs. option_flatten (slice_get hs place)) does
-    ∙ ap option_flatten (get-set_in ks place o lt) in
-    marks-set ending movable ending' movable' ks js place o does
-    (subst (λ g. SetsBit ending place (passes is_ending g) ending') there e)
-    (subst (λ g. SetsBit movable place (passes can_move g) movable') there m) marked
-
--- a bit that is needed by no test stays
-stays : (old place : ℕ) (x : Bool) → x ≡ false → SetsBit old place x old
-stays old place x unset = record {
-  here = λ set. absurd (and_cases x set unset);
-  none = λ _. refl;
-  others = λ i is. is;
-  same = λ i other. refl;
+pub places-set : (ends moves ends' moves' : ℕ) (w w' : Watch) (ks : List (Option KeptSlot))
+    (place : ℕ) (o : Option KeptSlot) → ((i : ℕ) → i ≢ place → has ends' i ≡ has ends i)
+    → (passes is_ending o ≡ true → has ends' place ≡ true)
+    → ((i : ℕ) → i ≢ place → has moves' i ≡ has moves i)
+    → (passes can_move o ≡ true → has moves' place ≡ true) → AreWatched w' (slice_set ks place o)
+    → ArePlaces ends moves w ks → ArePlaces ends' moves' w' (slice_set ks place o)
+places-set ends moves ends' moves' w w' ks place o others here others' here' watched all = record {
+  wide = length-set ks place o ∙ all.wide;
+  ends = marked-set is_ending ends ends' ks place o others here all.ends;
+  moves = marked-set can_move moves moves' ks place o others' here' all.moves;
+  watched = watched;
 }
 
+-- what is at the place of a slot after something was done there
+pub acted-at : (does : KeptSlot → Answer × Option KeptSlot) (ks js : List (Option KeptSlot))
+    (place : ℕ) → js ≡ (outcome_in does ks place).1 → place < length ks
+    → option_flatten (slice_get js place)
+    ≡ (outcome_at does (option_flatten (slice_get ks place))).1
+acted-at does ks js place is lt = ap (λ hs. option_flatten (slice_get hs place)) is
+    ∙ ap option_flatten (get-set_in ks place _ lt)
+
+-- something was done at a place, and the sets have it again just if it is needed
+pub places-acted : (does : KeptSlot → Answer × Option KeptSlot) → KeepsQuery does
+    → (ends moves ends' moves' : ℕ) (w : Watch) (ks js : List (Option KeptSlot)) (place : ℕ)
+    → js ≡ (outcome_in does ks place).1 → place < 64
+    → ((i : ℕ) → i ≢ place → has ends' i ≡ has ends i)
+    → (passes is_ending (option_flatten (slice_get js place)) ≡ true → has ends' place ≡ true)
+    → ((i : ℕ) → i ≢ place → has moves' i ≡ has moves i)
+    → (passes can_move (option_flatten (slice_get js place)) ≡ true → has moves' place ≡ true)
+    → ArePlaces ends moves w ks → ArePlaces ends' moves' w js
+places-acted does keeps ends moves ends' moves' w ks js place is lt others here others' here' all =
+    let o = (outcome_at does (option_flatten (slice_get ks place))).1 in
+    let there = acted-at does ks js place is (omega (arith, lt, all.wide)) in
+    subst (ArePlaces ends' moves' w) (sym is) (places-set ends moves ends' moves' w w ks place o
+    others (λ e. here (ap (passes is_ending) there ∙ e)) others'
+    (λ e. here' (ap (passes can_move) there ∙ e))
+    (subst (AreWatched w) is (watched-acted w does keeps ks js place is all.watched)) all)
+
 -- after a read with its turn no slot is ending
-read-ends : (number : ℕ) (o : Option KeptSlot)
+pub read-ends : (number : ℕ) (o : Option KeptSlot)
     → passes is_ending (outcome_at (read_turn number) o).1 ≡ false
 read-ends number None = refl
 read-ends number (Some k) = by (slice_get t.queue 0)
@@ -133,22 +180,8 @@ read-ends number (Some k) = by (slice_get t.queue 0)
     by None = still
     by (Some p) = still
 
--- a read with its turn
-pub marks-read : (number ending movable movable' : ℕ) (ks js : List (Option KeptSlot)) (place : ℕ)
-    → place < length ks → js ≡ (outcome_in (read_turn number) ks place).1
-    → SetsBit movable place (passes can_move (option_flatten (slice_get js place))) movable'
-    → AreMarked ending movable ks → AreMarked ending movable' js
-marks-read number ending movable movable' ks js place lt does m marked =
-    let o = (outcome_at (read_turn number) (option_flatten (slice_get ks place))).1 in
-    let there : option_flatten (slice_get js place) ≡ o =
-    ap (λ hs. option_flatten (slice_get hs place)) does
-    ∙ ap option_flatten (get-set_in ks place o lt) in
-    marks-acted ending movable ending movable' ks js place o lt does
-    (stays ending place _ (ap (passes is_ending) there
-    ∙ read-ends number (option_flatten (slice_get ks place)))) m marked
-
 -- after a close with its turn a slot isn't ending, and nothing can move into its port
-close-rests : (number : ℕ) (o : Option KeptSlot)
+pub close-rests : (number : ℕ) (o : Option KeptSlot)
     → (passes is_ending (outcome_at (close_turn number) o).1 ≡ false)
     × (passes can_move (outcome_at (close_turn number) o).1 ≡ false)
 close-rests number None = (refl, refl)
@@ -164,35 +197,20 @@ close-rests number (Some k) = by (is_live u.held)
         (filled-ends t, filled-still t)
     by false = (filled-ends u ∙ noticed-still number k, filled-still u)
 
--- a close with its turn
-pub marks-closed : (number ending movable : ℕ) (ks js : List (Option KeptSlot)) (place : ℕ)
-    → js ≡ (outcome_in (close_turn number) ks place).1
-    → AreMarked ending movable ks → AreMarked ending movable js
-marks-closed number ending movable ks js place does marked =
-    let rests = close-rests number (option_flatten (slice_get ks place)) in
-    marks-set ending movable ending movable ks js place _ does
-    (stays ending place _ rests.0) (stays movable place _ rests.1) marked
-
--- a slot with work has its bit in one of the words
-pub work-marked : (ending movable : ℕ) (ks : List (Option KeptSlot)) → AreMarked ending movable ks
-    → IsMarked has_work (bit_or ending movable) ks
-work-marked ending movable ks marked = λ i k at is. by i k at (is_ending k) refl is
+-- a slot with work is in one of the sets
+pub work-marked : (ends moves : ℕ) (w : Watch) (ks : List (Option KeptSlot)) (place : ℕ)
+    → ArePlaces ends moves w ks → passes has_work (option_flatten (slice_get ks place)) ≡ true
+    → (has ends place || has moves place) ≡ true
+work-marked ends moves w ks place all is = by (slice_get ks place) refl is
   where
-    by : (i : ℕ) (k : KeptSlot) → slice_get ks i ≡ Some (Some k) → (x : Bool) → is_ending k ≡ x
-        → (x || can_move k) ≡ true → bit_at (bit_or ending movable) i ≡ 1
-    by i k at true ends is = either-left ending movable i (marked.ends i k at ends)
-    by i k at false ends is = either-right ending movable i (marked.moves i k at is)
+    taken : (k : KeptSlot) → slice_get ks place ≡ Some (Some k) → (x : Bool) → is_ending k ≡ x
+        → (x || can_move k) ≡ true → (has ends place || has moves place) ≡ true
+    taken k at true e works = or_left _ _ (all.ends place k at e)
+    taken k at false e works = or_right _ _ (all.moves place k at works)
 
--- one slot more
-pub marks-pushed : (ending movable ending' movable' : ℕ) (ks js : List (Option KeptSlot))
-    (place : ℕ) (o : Option KeptSlot) → place ≡ length ks → js ≡ ks ++ o ∷ []
-    → SetsBit ending place (passes is_ending o) ending'
-    → SetsBit movable place (passes can_move o) movable' → AreMarked ending movable ks
-    → AreMarked ending' movable' js
-marks-pushed ending movable ending' movable' ks js place o last does e m marked =
-    subst (λ hs. AreMarked ending' movable' hs) (sym does) (record {
-      ends = marked-push is_ending ending ending' ks o marked.ends e.others
-          (λ is. ap (bit_at ending') (sym last) ∙ e.here is);
-      moves = marked-push can_move movable movable' ks o marked.moves m.others
-          (λ is. ap (bit_at movable') (sym last) ∙ m.here is);
-    })
+    by : (o : Option (Option KeptSlot)) → slice_get ks place ≡ o
+        → passes has_work (option_flatten o) ≡ true
+        → (has ends place || has moves place) ≡ true
+    by None at works = absurd (let no : ⊥ = cc in no)
+    by (Some None) at works = absurd (let no : ⊥ = cc in no)
+    by (Some (Some k)) at works = taken k at (is_ending k) refl works

@@ -3,10 +3,10 @@ use Rattle.std.proofs.Common.{◌≡◌, ℕ, zero, suc, ◌+◌, ◌-◌, ◌�
 use Rattle.std.proofs.Common.{get_or, inl, inr, map}
 use Rattle.std.specs.Prelude.{◌&&◌, ◌||◌, ◌==◌, not, nat_lt, is_some, if◌then◌else◌, slice_get}
 use Rattle.std.specs.Int.{bit_at}
-use Rattle.std.specs.Option.{option_flatten}
-use Rattle.std.proofs.lemmas.Bool.{and_parts, cases_lt, ltb-true}
+use Rattle.std.specs.Option.{option_flatten, option_map}
+use Rattle.std.proofs.lemmas.Bool.{and_parts, cases_eq, cases_lt, ltb-true}
 use Rattle.std.proofs.lemmas.Bool.Decides.{nat_tests}
-use Rattle.std.proofs.lemmas.List.{length-map}
+use Rattle.std.proofs.lemmas.Option.{slice_get-map}
 use Rattle.lq_update.specs.declared.message.Message.{Message}
 use Rattle.lq_update.specs.declared.mark.Mark.{Mark}
 use Rattle.lq_update.specs.declared.mark.Cause.TheVariants.{HungUp}
@@ -20,9 +20,7 @@ use Rattle.lq_desk.specs.DeskState.{DeskState, at_index, kept_at}
 use Rattle.lq_desk.specs.Ready.{MarksParcels, has_parcel, is_parcel}
 use Rattle.lq_desk.specs.KeptTurn.{kept_turn_outcome}
 use Rattle.lq_desk.specs.Words.{SetsBit}
-use Rattle.lq_desk.proofs.BitLemmas.{which}
-use Rattle.lq_desk.proofs.LoopLemmas.{get-is, get_or-map}
-use Rattle.lq_desk.proofs.SlotsLemmas.{kept_slot}
+use Rattle.lq_desk.proofs.SlotsLemmas.{kept_slot, one-get}
 use Rattle.lq_desk.proofs.PutLemmas.{filled-quiet, one-longer, put-quiet}
 use Rattle.lq_desk.proofs.SlotTurnLemmas.{read-events}
 
@@ -166,8 +164,7 @@ turn-tells k slot =
 pub kept-item : (xs : List (Option PreparedSlot)) (i : ℕ) (x : Option PreparedSlot)
     → i < length xs → x ≡ get_or xs i x → slice_get (map kept_slot xs) i ≡ Some (kept_slot x)
 kept-item xs i x lt at =
-    get-is (map kept_slot xs) i (kept_slot x) (omega (arith, lt, length-map xs kept_slot))
-    (ap kept_slot at ∙ sym (get_or-map kept_slot xs i x))
+    slice_get-map kept_slot xs i ∙ ap (option_map kept_slot) (one-get xs i x lt at)
 
 -- one slot more is marked
 pub marks-more : (ks : List (Option KeptSlot)) (n old new : ℕ) (x : Option KeptSlot) (has : Bool)
@@ -176,7 +173,7 @@ pub marks-more : (ks : List (Option KeptSlot)) (n old new : ℕ) (x : Option Kep
     ≡ passes has_parcel (option_flatten (slice_get ks i)))
     → ((i : ℕ) → n ≤ i → bit_at old i ≡ 0) → (i : ℕ) → i < n + 1
     → (bit_at new i == 1) ≡ passes has_parcel (option_flatten (slice_get ks i))
-marks-more ks n old new x has at is sets done clear i lt = elim (which i n) [
+marks-more ks n old new x has at is sets done clear i lt = elim (cases_eq i n) [
   | inl there ↦
       ap (λ j. bit_at new j == 1) there
       ∙ (here has sets ∙ (is

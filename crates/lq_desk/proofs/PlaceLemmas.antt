@@ -1,7 +1,9 @@
 -- What is done at a slot of the list is done at the desk's slot.
-use Rattle.std.proofs.Common.{◌≡◌, ℕ, zero, suc, ◌-◌, List, [], ◌∷◌, refl, ap, ◌∙◌, sym, Some, None, Option, Bool, true, false}
-use Rattle.std.specs.Prelude.{slice_get, slice_set, if◌then◌else◌, ◌==◌}
+use Rattle.std.proofs.Common.{◌≡◌, ℕ, zero, suc, ◌+◌, ◌-◌, ◌≤◌, ◌<◌, List, [], ◌∷◌, length, refl, ap, ◌∙◌, sym, Some, None, Option, Bool, true, false, arith, inl, inr}
+use Rattle.std.specs.Prelude.{slice_get, slice_set, if◌then◌else◌, ◌==◌, ◌⊎◌}
 use Rattle.std.specs.Option.{option_flatten}
+use Rattle.std.proofs.lemmas.Bool.Decides.{nat_tests}
+use Rattle.std.proofs.lemmas.Option.{slice_get_past}
 use Rattle.lq_desk_world.specs.Events.{Answer, Refused, event_at}
 use Rattle.lq_value.specs.declared.refusal.Refusal.TheVariants.{NotOpen}
 use Rattle.lq_desk_world.specs.declared.event.Act.{Act}
@@ -28,6 +30,30 @@ pub set-free : (ks : List (Option KeptSlot)) (i : ℕ) → option_flatten (slice
 set-free [] i is = refl
 set-free (k ∷ ks) zero is = ap (λ j. j ∷ ks) (sym is)
 set-free (k ∷ ks) (suc i) is = ap (λ js. k ∷ js) (set-free ks i is)
+
+-- a slot's number is one more than its index
+pub of-in : (does : KeptSlot → Answer × Option KeptSlot) (ks : List (Option KeptSlot))
+    (slot place : ℕ) → place + 1 ≡ slot → outcome_in does ks place ≡ outcome_of does ks slot
+of-in does ks slot place is =
+    let some : (slot == 0) ≡ false = grind (arith, nat_tests, is) in
+    let index : place ≡ slot - 1 = omega (arith, is) in
+    ap (outcome_in does ks) index
+    ∙ ap (λ x. if x then (Refused NotOpen, ks) else outcome_in does ks (slot - 1)) (sym some)
+
+-- what is done at a number that no slot has is refused
+pub of-past : (does : KeptSlot → Answer × Option KeptSlot) (ks : List (Option KeptSlot)) (slot : ℕ)
+    → length ks ≡ 64 → (slot ≡ 0) ⊎ (64 < slot) → (Refused NotOpen, ks) ≡ outcome_of does ks slot
+of-past does ks slot wide (inl none) = ap (λ n. outcome_of does ks n) (sym none)
+of-past does ks slot wide (inr past) =
+    let after : length ks ≤ slot - 1 = omega (arith, wide, past) in
+    let free : option_flatten (slice_get ks (slot - 1)) ≡ None =
+    ap option_flatten (slice_get_past ks (slot - 1) after) in
+    ap (λ js. (Refused NotOpen, js)) (sym (set-free ks (slot - 1) free))
+    ∙ (ap (λ (o : Option KeptSlot). (
+      (outcome_at does o).0,
+      slice_set ks (slot - 1) (outcome_at does o).1,
+    )) (sym free)
+    ∙ of-in does ks slot (slot - 1) (let e : slot - 1 + 1 ≡ slot = omega (arith, past) in e))
 
 -- what is done at a slot
 pub at-same : (k : DeskState) (does : KeptSlot → Answer × Option KeptSlot) (slot : ℕ) (r : Answer)

@@ -1,33 +1,25 @@
 -- The slots of a desk, as contracts see them.
 use Rattle.std.proofs.Common.{◌≡◌, ℕ, zero, suc, ◌+◌, ◌-◌, ◌≤◌, ◌<◌, ◌^◌, List, [], ◌∷◌, ◌++◌, refl, ap, map, get_or, length, ◌∙◌, sym, subst, append-nil, arith, Some, None, Option, Bool, true, false}
-use Rattle.std.specs.Prelude.{slice_get, slice_set, if◌then◌else◌, ◌&&◌, ◌||◌, nat_lt}
+use Rattle.std.specs.Prelude.{slice_get, slice_set, if◌then◌else◌, ◌&&◌, ◌||◌}
 use Rattle.std.specs.Option.{option_map, option_flatten}
 use Rattle.std.specs.List.{AllByRecursion}
-use Rattle.std.proofs.lemmas.Bool.Decides.{nat_tests}
-use Rattle.std.proofs.lemmas.Bool.{and_parts}
-use Rattle.std.proofs.lemmas.List.{map-set, set_past}
+use Rattle.std.proofs.lemmas.Bool.{and_parts, both_ways}
+use Rattle.std.proofs.lemmas.List.{map-set}
 use Rattle.std.proofs.lemmas.Option.{slice_get-map}
 use Rattle.lq_update.specs.declared.mark.Cause.TheVariants.{HungUp}
 use Rattle.lq_update.specs.declared.message.Message.{Message}
 use Rattle.lq_desk_world.specs.Events.{Answer, Refused}
 use Rattle.lq_value.specs.declared.refusal.Refusal.TheVariants.{NotOpen}
-use Rattle.lq_desk_sub.specs.Held.{Held, Prepared, is_live, committed, ended_by, after_messages}
+use Rattle.lq_desk_sub.specs.Held.{Held, is_live, committed, ended_by, after_messages}
 use Rattle.lq_desk.specs.Slot.{KeptSlot, PreparedSlot, slot_of, committed_slot, can_move, filled, has_work, is_ending, noticed, read_slot}
 use Rattle.lq_desk.specs.Act.{outcome_at, outcome_in, read_turn}
 use Rattle.lq_desk.specs.DeskState.{IsFew}
-use Rattle.lq_desk.specs.DeskState as kept
-use Rattle.lq_desk.proofs.ListLemmas.{set-same}
+use Rattle.lq_desk.proofs.ListLemmas.{all-get}
 use Rattle.lq_desk.proofs.PutLemmas.{filled-quiet}
 
 -- what is kept of what may be in a slot
 abbrev pub kept_slot : Option PreparedSlot → Option KeptSlot
 kept_slot = option_map slot_of
-
--- ---- one of a list
-
--- the list, with the one at an index changed in this way
-abbrev pub done_at : {T : Type 0} → (T → T) → List (Option T) → ℕ → List (Option T)
-done_at f xs i = slice_set xs i (option_map f (option_flatten (slice_get xs i)))
 
 -- a slot that was read has made few messages, where all have
 pub one-few : (n : ℕ) (ys : List (Option PreparedSlot)) (i : ℕ) (d : Option PreparedSlot)
@@ -47,14 +39,6 @@ sent-there ys i p d lt at is h =
     subst (λ (o : Option PreparedSlot). IsFew (2 ^ 63 - 1) (kept_slot o)) is
     (one-few (2 ^ 63 - 1) ys i d lt at h) in
     omega (arith, few)
-
--- and so has the one at a place
-pub few-at : (n : ℕ) (ys : List (Option PreparedSlot)) (i : ℕ) (d : Option PreparedSlot)
-    → i < length ys → AllByRecursion (IsFew n) (map kept_slot ys)
-    → IsFew n (kept_slot (get_or ys i d))
-few-at n [] i d lt h = absurd (omega arith)
-few-at n (y ∷ ys) zero d lt h = h.0
-few-at n (y ∷ ys) (suc i) d lt h = few-at n ys i d (omega arith) h.1
 
 -- a slot that was read at a place within the list is there
 pub one-get : (xs : List (Option PreparedSlot)) (i : ℕ) (d : Option PreparedSlot) → i < length xs
@@ -93,45 +77,22 @@ pub kept-get : (xs : List (Option PreparedSlot)) (i : ℕ) (d : Option PreparedS
 kept-get xs i d lt at = ap option_flatten (slice_get-map kept_slot xs i
     ∙ ap (option_map kept_slot) (one-get xs i d lt at))
 
--- what is done at one of them
-pub done_in-same : (f : KeptSlot → KeptSlot) (xs : List (Option PreparedSlot)) (i : ℕ)
-    (x d : Option PreparedSlot) → i < length xs → d ≡ get_or xs i d
-    → kept_slot x ≡ option_map f (kept_slot d)
-    → map kept_slot (slice_set xs i x) ≡ done_at f (map kept_slot xs) i
-done_in-same f xs i x d lt at is =
-    map-set kept_slot xs i x
-    ∙ ap (slice_set (map kept_slot xs) i) (is ∙ ap (option_map f) (sym (kept-get xs i d lt at)))
-
--- the list after something was done to one of them
-pub done-in : (f : PreparedSlot → PreparedSlot) (xs : List (Option PreparedSlot)) (i : ℕ)
-    (x d : Option PreparedSlot) → i < length xs → d ≡ get_or xs i d → x ≡ option_map f d
-    → slice_set xs i x ≡ done_at f xs i
-done-in f xs i x d lt at is = ap (slice_set xs i)
-    (is ∙ ap (λ o. option_map f (option_flatten o)) (sym (one-get xs i d lt at)))
-
--- beyond the list nothing is done
-pub done-past : {T : Type 0} (f : T → T) (xs : List (Option T)) (i : ℕ) → length xs ≤ i
-    → xs ≡ done_at f xs i
-done-past f xs i past = sym (set_past xs i _ past)
-
--- a slot with messages made ready is held as before
-pub kept-readied : (q p : PreparedSlot) (new : Prepared) → new.held ≡ q.sub.held → q ≡ p
-    → kept_slot (Some (record q { sub = new })) ≡ kept_slot (Some p)
-kept-readied q p new is same =
-    ap (λ (h : Held). Some (record (slot_of q) { held = h })) is
-    ∙ ap (λ (r : PreparedSlot). kept_slot (Some r)) same
-
--- another subscription with the same contents is written at one of them
-pub kept-written : (xs : List (Option PreparedSlot)) (i : ℕ) (x d : Option PreparedSlot)
-    → i < length xs → d ≡ get_or xs i d → kept_slot x ≡ kept_slot d
-    → map kept_slot (slice_set xs i x) ≡ map kept_slot xs
-kept-written xs i x d lt at is =
-    map-set kept_slot xs i x
-    ∙ (ap (slice_set (map kept_slot xs) i) is
-    ∙ set-same (map kept_slot xs) i (kept_slot d) (slice_get-map kept_slot xs i
-    ∙ ap (option_map kept_slot) (one-get xs i d lt at)))
+-- a slot has made few messages, where all have
+pub few-there : (xs : List (Option PreparedSlot)) (i : ℕ) (p : PreparedSlot)
+    → AllByRecursion (IsFew (2 ^ 63 - 1)) (map kept_slot xs) → slice_get xs i ≡ Some (Some p)
+    → p.sub.held.sent < 2 ^ 63
+few-there xs i p few at =
+    let one : p.sub.held.sent ≤ 2 ^ 63 - 1 =
+    all-get (IsFew (2 ^ 63 - 1)) (map kept_slot xs) i (Some (slot_of p)) few
+    (slice_get-map kept_slot xs i ∙ ap (option_map kept_slot) at) in
+    omega (arith, one)
 
 -- ---- slots with nothing to do
+
+-- what would set a flag isn't so, where the flag is clear
+pub unset-by : (x may : Bool) → (x ≡ true → may ≡ true) → may ≡ false → x ≡ false
+unset-by false may sets is = refl
+unset-by true may sets is = absurd (both_ways may is (sets refl))
 
 -- a noticing leaves a slot whose end wasn't asked for, or that has ended
 pub noticed-quiet : (n : ℕ) (k : KeptSlot) → is_ending k ≡ false → noticed n k ≡ k
@@ -167,11 +128,6 @@ pub told-none : (h : Held) (ready : List Message) (before : ℕ) → ready ≡ [
 told-none h ready before none = ap (λ ms. after_messages h ms before) none
     ∙ held-none h (h.sent + 0) (h.messages ++ []) (omega arith) (append-nil h.messages)
 
--- messages whose number isn't above zero are none
-pub no-messages : (ms : List Message) → nat_lt 0 (length ms) ≡ false → ms ≡ []
-no-messages [] none = refl
-no-messages (m ∷ ms) none = absurd (grind (arith, nat_tests, none))
-
 -- telling messages makes no slot ending
 pub committed-ends : (p : PreparedSlot) → is_ending (slot_of (committed_slot p)) ≡ true
     → is_ending (slot_of p) ≡ true
@@ -184,12 +140,3 @@ committed-ends p is = by (is_live p.sub.held) refl is
         ∙ (and_parts (is_live (after_messages p.sub.held p.sub.ready p.sub.before))
         p.hang_up_asked is).1
     by false live is = is
-
--- ---- the first free slot
-
--- the first free slot is one of them, or the one behind them
-pub first_free-front : (xs : List (Option PreparedSlot))
-    → kept.first_free (map kept_slot xs) ≤ length xs
-first_free-front [] = omega arith
-first_free-front (None ∷ xs) = omega arith
-first_free-front (Some p ∷ xs) = omega (arith, first_free-front xs)

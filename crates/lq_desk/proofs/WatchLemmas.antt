@@ -1,10 +1,9 @@
 -- Which slots a change may have messages for: what is watched stays watched, since no act alters a
 -- query.
-use Rattle.std.proofs.Common.{◌≡◌, ◌≢◌, ℕ, zero, suc, List, [], ◌∷◌, ◌++◌, refl, ap, map, length, ◌∙◌, sym, subst, Some, None, Option, Bool, true, false, inl, inr}
+use Rattle.std.proofs.Common.{◌≡◌, ◌≢◌, ℕ, zero, suc, List, [], ◌∷◌, refl, ap, length, ◌∙◌, sym, subst, Some, None, Option, Bool, true, false, inl, inr}
 use Rattle.std.specs.Prelude.{slice_get, slice_set, ◌&&◌, nat_lt, ◌⊎◌, if◌then◌else◌}
 use Rattle.std.specs.Option.{option_map, option_flatten}
 use Rattle.std.specs.Int.{bit_at}
-use Rattle.std.proofs.lemmas.Option.{slice_get-map}
 use Rattle.lq_predicate.specs.Query.{Query}
 use Rattle.lq_volume.specs.declared.change.Change.{Change}
 use Rattle.lq_update.specs.declared.mark.Cause.TheVariants.{Closed, HungUp}
@@ -17,13 +16,11 @@ use Rattle.lq_desk_sub.specs.declared.watch.Watch.{Watch}
 use Rattle.lq_desk_sub.specs.Held.{Prepared, is_live, ended_by, after_messages_by, overruns, next_parcel}
 use Rattle.lq_desk_sub.specs.Passing.{TellsNothing}
 use Rattle.lq_desk_sub.specs.Watch.{slots_for}
-use Rattle.lq_desk.specs.Slot.{KeptSlot, PreparedSlot, close_if, committed_slot, filled, finish_if, is_ending, is_read, noticed, notice_if, put_if, read_if, slot_of}
+use Rattle.lq_desk.specs.Slot.{KeptSlot, PreparedSlot, close_if, committed_slot, filled, finish_if, is_ending, is_read, noticed, notice_if, put_if, read_if}
 use Rattle.lq_desk.specs.Act.{act_of, close_turn, outcome_at, outcome_in, read_turn}
-use Rattle.lq_desk.specs.Words.{AreCommitted, AreWatched}
+use Rattle.lq_desk.specs.Words.{AreWatched}
 use Rattle.lq_desk.proofs.ListLemmas.{get-set}
 use Rattle.lq_desk.proofs.PutLemmas.{puts-keep}
-use Rattle.lq_desk.proofs.ReadyLemmas.{CameFrom, committed-from}
-use Rattle.lq_desk.proofs.SlotsLemmas.{kept_slot}
 
 -- ---- what keeps a query
 
@@ -129,23 +126,14 @@ watched-acted w does keeps ks js place is watched = subst (AreWatched w) (sym is
         subst (λ q. TellsNothing q c) (sym (keeps j k left))
         (watched c place j at (ap (bit_at (slots_for w c)) (sym here) ∙ clear))
 
--- something is done at each place
-pub watched-mapped : (w : Watch) (f : KeptSlot → KeptSlot)
-    → ((k : KeptSlot) → (f k).held.query ≡ k.held.query) → (ks js : List (Option KeptSlot))
-    → js ≡ map (option_map f) ks → AreWatched w ks → AreWatched w js
-watched-mapped w f keeps ks js is watched = subst (AreWatched w) (sym is)
-    (λ c i k at clear. by c i k (slice_get ks i) refl
-    (sym (slice_get-map (option_map f) ks i) ∙ at) clear)
-  where
-    by : (c : Change) (i : ℕ) (k : KeptSlot) (o : Option (Option KeptSlot)) → slice_get ks i ≡ o
-        → option_map (option_map f) o ≡ Some (Some k) → bit_at (slots_for w c) i ≡ 0
-        → TellsNothing k.held.query c
-    by c i k None at is clear = absurd (let no : ⊥ = cc in no)
-    by c i k (Some None) at is clear = absurd (let no : ⊥ = cc in no)
-    by c i k (Some (Some j)) at is clear =
-        let same : f j ≡ k = cc in
-        subst (λ q. TellsNothing q c) (sym (keeps j) ∙ ap (λ (l : KeptSlot). l.held.query) same)
-        (watched c i j at clear)
+-- each slot has the query of one that was at its place
+pub watched-from : (w : Watch) (ks js : List (Option KeptSlot))
+    → ((i : ℕ) (j : KeptSlot) → slice_get js i ≡ Some (Some j)
+    → (k : KeptSlot) × (slice_get ks i ≡ Some (Some k)) × (j.held.query ≡ k.held.query))
+    → AreWatched w ks → AreWatched w js
+watched-from w ks js from watched c i j at clear =
+    let f = from i j at in
+    subst (λ q. TellsNothing q c) (sym f.2) (watched c i f.0 f.1 clear)
 
 -- a subscription is watched at a place, in place of the one that was there
 abbrev pub Watches : Watch → ℕ → Query → Watch → Type 0
@@ -166,7 +154,7 @@ watches old new place p sub is here others = (
 )
 
 -- what is found where one place was written: what was written, or what was at another place
-get-put : {A : Type 0} (xs : List A) (i j : ℕ) (y z : A) → slice_get (slice_set xs i y) j ≡ Some z
+pub get-put : {A : Type 0} (xs : List A) (i j : ℕ) (y z : A) → slice_get (slice_set xs i y) j ≡ Some z
     → ((j ≡ i) × (z ≡ y)) ⊎ ((j ≢ i) × (slice_get xs j ≡ Some z))
 get-put [] i j y z h = absurd (let no : ⊥ = cc in no)
 get-put (x ∷ xs) zero zero y z h = inl (refl, let same : z ≡ y = cc in same)
@@ -191,35 +179,8 @@ watched-set old new ks js place k is w watched = subst (AreWatched new) (sym is)
         → TellsNothing j.held.query c
     by c j same clear = subst (λ q. TellsNothing q c) (query-of same) (w.0 c clear)
 
--- what is found in a list with one more: that one, or one of before
-get-behind : {A : Type 0} (xs : List A) (y : A) (j : ℕ) (z : A)
-    → slice_get (xs ++ y ∷ []) j ≡ Some z
-    → ((j ≡ length xs) × (z ≡ y)) ⊎ ((j ≢ length xs) × (slice_get xs j ≡ Some z))
-get-behind [] y zero z h = inl (refl, let same : z ≡ y = cc in same)
-get-behind [] y (suc j) z h = absurd (let no : ⊥ = cc in no)
-get-behind (x ∷ xs) y zero z h = inr ((λ is. let no : ⊥ = cc in no), h)
-get-behind (x ∷ xs) y (suc j) z h = elim (get-behind xs y j z h) [
-  | inl here ↦ inl (ap suc here.0, here.1)
-  | inr other ↦ inr ((λ is. let same : j ≡ length xs = cc in other.0 same), other.1)
-]
-
--- it stands behind the others
-pub watched-pushed : (old new : Watch) (ks js : List (Option KeptSlot)) (place : ℕ) (k : KeptSlot)
-    → place ≡ length ks → js ≡ ks ++ Some k ∷ [] → Watches old place k.held.query new
-    → AreWatched old ks → AreWatched new js
-watched-pushed old new ks js place k last is w watched = subst (AreWatched new) (sym is)
-    (λ c i j at clear. elim (get-behind ks (Some k) i (Some j) at) [
-      | inl there ↦ by c j there.1
-          (ap (bit_at (slots_for new c)) (last ∙ sym there.0) ∙ clear)
-      | inr other ↦ watched c i j other.1 (w.1 c i (λ here. other.0 (here ∙ last)) clear)
-    ])
-  where
-    by : (c : Change) (j : KeptSlot) → Some j ≡ Some k → bit_at (slots_for new c) place ≡ 0
-        → TellsNothing j.held.query c
-    by c j same clear = subst (λ q. TellsNothing q c) (query-of same) (w.0 c clear)
-
 -- messages are committed
-committed-query : (p : PreparedSlot) → (committed_slot p).sub.held.query ≡ p.sub.held.query
+pub committed-query : (p : PreparedSlot) → (committed_slot p).sub.held.query ≡ p.sub.held.query
 committed-query p = by (is_live p.sub.held) (overruns p.sub.held p.sub.ready)
   where
     by : (live over : Bool) → (if live then record p {
@@ -231,30 +192,3 @@ committed-query p = by (is_live p.sub.held) (overruns p.sub.held p.sub.ready)
     by true true = refl
     by true false = refl
     by false over = refl
-
--- and leave all watched
-pub watched-committed : (w : Watch) (told : ℕ) (xs ys : List (Option PreparedSlot))
-    → AreCommitted told xs ys → AreWatched w (map kept_slot xs) → AreWatched w (map kept_slot ys)
-watched-committed w told xs ys does watched = λ c i k at clear.
-    by c i k (slice_get ys i) refl (sym (slice_get-map kept_slot ys i) ∙ at) clear
-  where
-    there : (i : ℕ) (p : PreparedSlot) → slice_get xs i ≡ Some (Some p)
-        → slice_get (map kept_slot xs) i ≡ Some (Some (slot_of p))
-    there i p at = slice_get-map kept_slot xs i ∙ ap (option_map kept_slot) at
-
-    from : (c : Change) (i : ℕ) (q : PreparedSlot) → CameFrom told xs i q
-        → bit_at (slots_for w c) i ≡ 0 → TellsNothing q.sub.held.query c
-    from c i q (inl h) clear = subst (λ p. TellsNothing p c)
-        (sym (committed-query h.0) ∙ ap (λ (r : PreparedSlot). r.sub.held.query) h.3)
-        (watched c i (slot_of h.0) (there i h.0 h.2) clear)
-    from c i q (inr at) clear = watched c i (slot_of q) (there i q at) clear
-
-    by : (c : Change) (i : ℕ) (k : KeptSlot) (o : Option (Option PreparedSlot))
-        → slice_get ys i ≡ o → option_map kept_slot o ≡ Some (Some k) → bit_at (slots_for w c) i ≡ 0
-        → TellsNothing k.held.query c
-    by c i k None at is clear = absurd (let no : ⊥ = cc in no)
-    by c i k (Some None) at is clear = absurd (let no : ⊥ = cc in no)
-    by c i k (Some (Some q)) at is clear =
-        let same : slot_of q ≡ k = cc in
-        subst (λ (l : KeptSlot). TellsNothing l.held.query c) same
-        (from c i q (committed-from told xs ys does i q at) clear)

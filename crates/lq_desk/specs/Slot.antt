@@ -1,5 +1,5 @@
 -- The contents of a taken slot, a subscription and its port, and what each act does there.
-use Rattle.std.specs.Prelude.{ℕ, zero, suc, ◌-◌, List, [], ◌∷◌, ◌++◌, length, drop, replicate, Bool, true, false, ◌&&◌, ◌||◌, ◌==◌, nat_lt, Option, Some, None, is_some, unwrap_or, slice_get, if◌then◌else◌}
+use Rattle.std.specs.Prelude.{ℕ, zero, suc, List, [], ◌∷◌, ◌++◌, length, drop, Bool, true, false, ◌&&◌, ◌||◌, ◌==◌, nat_lt, Option, Some, None, is_some, unwrap_or, slice_get, if◌then◌else◌}
 use Rattle.lq_value.specs.declared.refusal.Refusal.TheVariants.{NotOpen, StillOpen}
 use Rattle.lq_predicate.specs.Query.{Query}
 use Rattle.lq_volume.specs.declared.change.Change.{Change}
@@ -32,10 +32,6 @@ slot_of p = record {
   queue = p.queue;
   hang_up_asked = p.hang_up_asked;
 }
-
--- these slots, then free ones up to 64
-abbrev pub with_free : List (Option PreparedSlot) → List (Option PreparedSlot)
-with_free slots = slots ++ replicate (64 - length slots) None
 
 -- a slot as an opening makes it
 abbrev pub fresh_slot : Query → Bool → ℕ → ℕ → ℕ → KeptSlot

@@ -11,6 +11,7 @@ mod bits;
 mod desk;
 mod engine;
 mod laws;
+mod passes;
 mod reply;
 mod slot;
 mod slot_list;

@@ -2,7 +2,7 @@
 ghost use Rattle.std.specs.Prelude.{◌≡◌, ◌<◌, ◌≤◌, ◌^◌, ◌-◌, true, Some, IfOk};
 ghost use Rattle.lq_value.specs.Refusal.{FailsOnlyForMemory};
 ghost use Rattle.std.specs.Option.{option_map};
-ghost use Rattle.lq_desk.specs.Slot.{slot_of, committed_slot, can_move, close_slot, filled, is_ending, noticed, passes};
+ghost use Rattle.lq_desk.specs.Slot.{slot_of, committed_slot, can_move, close_slot, filled, is_ending, noticed};
 ghost use Rattle.lq_desk.specs.DeskState.{IsFew};
 ghost use Rattle.lq_desk.specs.Act.{act_of, outcome_at};
 ghost use Rattle.lq_desk.specs.Ready.{has_parcel};
@@ -218,20 +218,5 @@ pub fn act_at(slot: &mut Option<Slot>, act: Act, number: u64) -> Reply
                 Reply::Refused(Refusal::StillOpen)
             }
         }
-    }
-}
-
-/// Notices the end of a slot's subscription, if the flag says that it may have been asked for.
-pub fn notice_at(slot: &mut Option<Slot>, may_end: bool, number: u64)
-    requires few { IsFew (2 ^ 63 - 1) (option_map slot_of slot.old) }
-    requires ends { passes is_ending (option_map slot_of slot.old) ≡ true → may_end ≡ true }
-    ensures { option_map slot_of slot.new
-        ≡ option_map (noticed number) (option_map slot_of slot.old) }
-{
-    if !may_end {
-        return;
-    }
-    if let Some(there) = slot {
-        let _ = there.notice(number);
     }
 }

@@ -1,6 +1,5 @@
-//! The slots that are stored: the first that is free, and what is done at one of them.
-ghost use Rattle.std.specs.Prelude.{◌≡◌, ◌<◌, ◌≤◌, ◌^◌, ◌-◌, None, Some, true, map, length, slice_get, slice_set, vec_len};
-ghost use Rattle.std.specs.Vec.{vec_capacity};
+//! The list of the slots: the first that is free, and what is done at one of them.
+ghost use Rattle.std.specs.Prelude.{◌≡◌, ◌<◌, ◌≤◌, ◌^◌, ◌-◌, None, Some, true, map, length, slice_get, slice_set};
 ghost use Rattle.std.specs.List.{AllByRecursion};
 ghost use Rattle.std.specs.Option.{option_map, option_flatten};
 ghost use Rattle.lq_desk.specs.Slot.{slot_of, can_move, has_work, is_ending, passes};
@@ -32,9 +31,7 @@ pub fn first_free(slots: &[Option<Slot>]) -> usize
 /// Puts a subscription into the slot at an index.
 pub fn occupy(slots: &mut Vec<Option<Slot>>, place: usize, slot: Slot)
     requires { place < length slots.old.items }
-    ensures items { slots.new.items ≡ slice_set slots.old.items place (Some slot) }
-    ensures len { vec_len slots.new ≡ vec_len slots.old }
-    ensures room { vec_capacity slots.new ≡ vec_capacity slots.old }
+    ensures { slots.new.items ≡ slice_set slots.old.items place (Some slot) }
 {
     slots[place] = Some(slot);
 }
@@ -94,10 +91,8 @@ pub fn read_in(slots: &mut Vec<Option<Slot>>, place: usize, may_work: bool, numb
     requires few { AllByRecursion (IsFew (2 ^ 63 - 1)) (map (option_map slot_of) slots.old.items) }
     requires work { passes has_work (option_flatten (slice_get (map (option_map slot_of)
         slots.old.items) place)) ≡ true → may_work ≡ true }
-    ensures does { (answer_of result, map (option_map slot_of) slots.new.items) ≡
+    ensures { (answer_of result, map (option_map slot_of) slots.new.items) ≡
         outcome_in (read_turn number) (map (option_map slot_of) slots.old.items) place }
-    ensures len { vec_len slots.new ≡ vec_len slots.old }
-    ensures room { vec_capacity slots.new ≡ vec_capacity slots.old }
 {
     let Some(there) = &mut slots[place] else {
         return Reply::Refused(Refusal::NotOpen);
@@ -114,10 +109,8 @@ pub fn read_in(slots: &mut Vec<Option<Slot>>, place: usize, may_work: bool, numb
 pub fn close_in(slots: &mut Vec<Option<Slot>>, place: usize, number: u64) -> Reply
     requires place { place < length slots.old.items }
     requires few { AllByRecursion (IsFew (2 ^ 63 - 1)) (map (option_map slot_of) slots.old.items) }
-    ensures does { (answer_of result, map (option_map slot_of) slots.new.items) ≡
+    ensures { (answer_of result, map (option_map slot_of) slots.new.items) ≡
         outcome_in (close_turn number) (map (option_map slot_of) slots.old.items) place }
-    ensures len { vec_len slots.new ≡ vec_len slots.old }
-    ensures room { vec_capacity slots.new ≡ vec_capacity slots.old }
 {
     let Some(there) = &mut slots[place] else {
         return Reply::Refused(Refusal::NotOpen);
@@ -132,10 +125,8 @@ pub fn close_in(slots: &mut Vec<Option<Slot>>, place: usize, number: u64) -> Rep
 pub fn act_in(slots: &mut Vec<Option<Slot>>, place: usize, act: Act, number: u64) -> Reply
     requires place { place < length slots.old.items }
     requires few { AllByRecursion (IsFew (2 ^ 63 - 1)) (map (option_map slot_of) slots.old.items) }
-    ensures does { (answer_of result, map (option_map slot_of) slots.new.items) ≡
+    ensures { (answer_of result, map (option_map slot_of) slots.new.items) ≡
         outcome_in (act_of number act) (map (option_map slot_of) slots.old.items) place }
-    ensures len { vec_len slots.new ≡ vec_len slots.old }
-    ensures room { vec_capacity slots.new ≡ vec_capacity slots.old }
 {
     act_at(&mut slots[place], act, number)
 }

@@ -3,3 +3,5 @@ pub mod Messages
 pub mod Passing
 pub mod Watch
 pub mod Laws
+pub mod SlotSet
+pub mod Visits

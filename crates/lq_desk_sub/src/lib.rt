@@ -1,9 +1,9 @@
 //! A single subscription: its query, the messages that it holds and its mark, without port or
-//! thread.
+//! thread; and sets of the 64 slots, with one loop over the taken slots of a set.
 //!
 //! Contracts see how it was opened, the messages that it holds and its mark (`specs/Held`). The
 //! desk puts its parcels into its own port, the server for threads into a shared one. Nothing here
-//! waits. Begin with `sub`, then `prepare_commit`, then `watch`.
+//! waits. Begin with `sub`, then `prepare_commit`, then `watch`; for the sets, `slot_set`, `visit`.
 #![tactic(auto)]
 
 mod bits;
@@ -12,10 +12,16 @@ mod live_query;
 mod messages;
 mod prepare_commit;
 mod read;
+mod slot_index;
+mod slot_set;
 mod sub;
+mod visit;
 mod watch;
 
 pub use laws::putting_back_undoes;
 pub use read::Read;
+pub use slot_index::SlotIndex;
+pub use slot_set::SlotSet;
 pub use sub::{MAX_BACKLOG, Sub};
+pub use visit::{Visit, visit_in};
 pub use watch::Watch;

@@ -1,7 +1,6 @@
 use Rattle.std.proofs.Common.{refl}
 use Rattle.std.specs.Int.{w64}
 use Rattle.std.proofs.lemmas.Nat.Bits.{bit_at_set_other, bit_at_set_same}
-use Rattle.lq_desk.proofs.WordLemmas.{either-left}
 use Rattle.lq_desk.proofs.bits.with_bit.Goals as goal
 
 pub returns-then-not-is_set : goal.returns-then-not-is_set
@@ -9,7 +8,6 @@ returns-then-not-is_set c =
     record {
       here = λ is. absurd (let set = c.if-not-is_set.true in let no : ⊥ = cc in no);
       none = λ is. refl;
-      others = λ i is. is;
       same = λ i other. refl;
     }
 
@@ -17,6 +15,5 @@ pub returns : goal.returns
 returns c = record {
   here = λ is. bit_at_set_same w64 c.args.word c.args.place c.requires;
   none = λ is. absurd (let set = c.if-not-is_set.false in let no : ⊥ = cc in no);
-  others = either-left c.args.word _;
   same = λ i other. bit_at_set_other w64 c.args.word c.args.place c.requires i other;
 }

@@ -8,8 +8,8 @@ use Rattle.lq_desk.proofs.SlotsLemmas.{kept_slot, act_in-none, act_in-same, sent
 use Rattle.lq_desk.proofs.FewLemmas.{sent-noticed}
 use Rattle.lq_desk.proofs.slot_list.close_in.Goals as goal
 
-pub returns-in_default-clause-does : goal.returns-in_default-clause-does
-returns-in_default-clause-does c =
+pub returns-in_default : goal.returns-in_default
+returns-in_default c =
     act_in-none (close_turn c.args.number) c.args.slots.now.items c.args.place
     c.index_mut.result.now c.requires.place c.index_mut.ensures.value c.in_default.is
 
@@ -22,8 +22,8 @@ close-reply-requires c = sent-noticed c.args.number (slot_of c.in-Some.there) c.
     c.notice.ensures.slot (sent-there c.args.slots.now.items c.args.place c.in-Some.there
     c.index_mut.result.now c.requires.place c.index_mut.ensures.value c.in-Some.is c.requires.few)
 
-pub returns-clause-does : goal.returns-clause-does
-returns-clause-does c =
+pub returns : goal.returns
+returns c =
     let number = c.args.number in
     act_in-same (close_turn number) c.args.slots.now.items c.args.place _ c.index_mut.result.now _
     c.requires.place c.index_mut.ensures.value

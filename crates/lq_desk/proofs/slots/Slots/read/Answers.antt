@@ -1,73 +1,63 @@
-use Rattle.std.proofs.Common.{◌<◌, ◌≤◌, ◌^◌, ◌-◌, ap, ◌∙◌, subst, map, length, arith, List, Option}
-use Rattle.std.specs.Prelude.{◌≢◌}
+use Rattle.std.proofs.Common.{◌∙◌, ◌^◌, ◌-◌, List, Option, map, ap, arith, refl, subst, sym}
+use Rattle.std.specs.List.{AllByRecursion}
+use Rattle.std.specs.Option.{option_flatten}
+use Rattle.std.specs.Prelude.{slice_get}
+use Rattle.std.proofs.lemmas.Bool.{both_ways}
 use Rattle.std.proofs.lemmas.List.{length-map}
 use Rattle.lq_desk_world.specs.Events.{Answer}
-use Rattle.lq_desk.specs.Act.{read_turn}
-use Rattle.lq_desk.specs.Slot.{KeptSlot, has_work}
-use Rattle.lq_desk.specs.Words.{SetsBit}
-use Rattle.lq_desk.specs.Reply.{answer_of}
+use Rattle.lq_desk.specs.Act.{read_turn, outcome_in, outcome_of}
+use Rattle.lq_desk.specs.DeskState.{IsFew}
+use Rattle.lq_desk.specs.Slot.{KeptSlot, PreparedSlot, can_move, has_work, is_ending, passes}
+use Rattle.lq_desk.proofs.MarkLemmas.{acted-at, places-acted, read-ends, work-marked}
+use Rattle.lq_desk.proofs.PlaceLemmas.{of-in, of-past}
 use Rattle.lq_desk.proofs.SlotsLemmas.{kept_slot}
-use Rattle.lq_desk.proofs.FreeLemmas.{act-free, act-stored, few-stored}
-use Rattle.lq_desk.proofs.MarkLemmas.{marks-read, work-marked}
-use Rattle.std.specs.Int.RustNames.{bit_or}
-use Rattle.lq_desk.proofs.WordLemmas.{marked-flat}
-use Rattle.lq_desk.proofs.WatchLemmas.{read_turn-query, watched-acted}
-use Rattle.lq_desk.proofs.slots.Slots.read.Goals.{then-slot-eq0-via-then-slot-eq0, then-slot-eq0-via-else-slot-eq0+then-slot-len}
+use Rattle.lq_desk.proofs.WatchLemmas.{read_turn-query}
 use Rattle.lq_desk.proofs.slots.Slots.read.Goals as goal
 
-pub returns-then-slot-eq0 : goal.returns-then-slot-eq0
-returns-then-slot-eq0 c =
-    let xs = c.self.inside.stored.items in
-    let past : c.args.slot ≢ 0 → length xs < c.args.slot = λ some. elim c.then-slot-eq0.branch [
-      | then-slot-eq0-via-then-slot-eq0 w ↦ absurd (some w.if-slot-eq0.true)
-      | then-slot-eq0-via-else-slot-eq0+then-slot-len w ↦
-          omega (arith, w.if-slot-len.true, w.len.ensures)
-    ] in
-    act-free (read_turn c.args.number) xs c.args.self.now c.args.slot c.self.view_is past
+pub returns-in_default : goal.returns-in_default
+returns-in_default c =
+    let xs = c.args.self.now in
+    of-past (read_turn c.args.number) (map kept_slot xs) c.args.slot
+    (length-map xs kept_slot ∙ c.index_of.ensures.wide) c.in_default.ensures.index
 
 pub read_in-reply-requires-clause-few : goal.read_in-reply-requires-clause-few
-read_in-reply-requires-clause-few c =
-    few-stored (2 ^ 63 - 1) c.self.inside.stored.items c.args.self.now c.self.view_is c.requires
+read_in-reply-requires-clause-few c = subst (λ (zs : List (Option PreparedSlot)).
+    AllByRecursion (IsFew (2 ^ 63 - 1)) (map kept_slot zs)) (sym c.self.view_is) c.requires
 
 pub returns : goal.returns
 returns c =
-    let xs = c.self.inside.stored.items in
-    let within : c.args.slot ≤ length xs = omega (arith, c.if-slot-len.false, c.len.ensures) in
-    act-stored (read_turn c.args.number) xs c.read_in-reply.new.slots.items c.args.self.now
-    c.args.slot (answer_of c.read_in-reply.result) c.self.view_is c.if-slot-eq0.false within
-    c.read_in-reply.ensures.does
+    let does = read_turn c.args.number in
+    c.read_in-reply.ensures
+    ∙ (ap (outcome_in does (map kept_slot c.self.inside.places.items)) c.place.ensures.value
+    ∙ (of-in does _ c.args.slot c.in-Some.index.place c.in-Some.ensures.index
+    ∙ ap (λ (zs : List (Option PreparedSlot)). outcome_of does (map kept_slot zs) c.args.slot)
+    c.self.view_is))
 
 pub invariant_of-self : goal.invariant_of-self
 invariant_of-self c =
-    let xs = c.self.inside.stored.items in
-    let ks = map kept_slot xs in
-    let within : c.args.slot - 1 < length ks =
-    omega (
-      arith,
-      c.if-slot-len.false,
-      c.if-slot-eq0.false,
-      c.len.ensures,
-      length-map xs kept_slot,
-    ) in (
-      omega (arith, c.self.invariant.0, c.read_in-reply.ensures.len),
-      omega (arith, c.self.invariant.1, c.read_in-reply.ensures.room),
-      marks-read c.args.number c.self.inside.ending c.self.inside.movable
-          c.with_bit-self-inside.result ks
-          (map kept_slot c.read_in-reply.new.slots.items) (c.args.slot - 1) within
-          (ap (λ (p : Answer × List (Option KeptSlot)). p.1) c.read_in-reply.ensures.does)
-          (subst (λ b. SetsBit c.self.inside.movable (c.args.slot - 1) b
-          c.with_bit-self-inside.result) c.can_move_in.ensures c.with_bit-self-inside.ensures)
-          c.self.invariant.2,
-      watched-acted c.self.inside.watch (read_turn c.args.number) (read_turn-query c.args.number) ks
-          (map kept_slot c.read_in-reply.new.slots.items) (c.args.slot - 1)
-          (ap (λ (p : Answer × List (Option KeptSlot)). p.1) c.read_in-reply.ensures.does)
-          c.self.invariant.3,
-    )
+    let does = read_turn c.args.number in
+    let ks = map kept_slot c.self.inside.places.items in
+    let js = map kept_slot c.read_in-reply.new.slots.items in
+    let place = c.in-Some.index.place in
+    let kept = ap (λ (p : Answer × List (Option KeptSlot)). p.1)
+    (c.read_in-reply.ensures ∙ ap (outcome_in does ks) c.place.ensures.value) in
+    let there = acted-at does ks js place kept
+    (omega (arith, c.in-Some.index.within, c.self.invariant.wide)) in
+    places-acted does (read_turn-query c.args.number) c.self.inside.ending.word
+    c.self.inside.movable.word _ _ c.self.inside.watch ks js place kept c.in-Some.index.within
+    (λ i ne. refl)
+    (λ is. absurd (both_ways _ (ap (passes is_ending) there
+    ∙ read-ends c.args.number (option_flatten (slice_get ks place))) is))
+    c.put.ensures.others
+    (λ is. c.put.ensures.here ∙ (c.can_move_in.ensures
+    ∙ (ap (λ i. passes can_move (option_flatten (slice_get js i))) c.place-2.ensures.value ∙ is)))
+    c.self.invariant
 
 pub read_in-reply-requires-clause-work : goal.read_in-reply-requires-clause-work
-read_in-reply-requires-clause-work c = λ test.
-    let ks = map kept_slot c.self.inside.stored.items in
-    c.has_bit-may_work.ensures
-    ∙ marked-flat has_work (bit_or c.self.inside.ending c.self.inside.movable) ks
-    (c.args.slot - 1) (work-marked c.self.inside.ending c.self.inside.movable ks c.self.invariant.2)
-    test
+read_in-reply-requires-clause-work c is =
+    let ks = map kept_slot c.self.inside.places.items in
+    let place = c.in-Some.index.place in
+    c.contains-may_work.ensures ∙ (c.union.ensures place
+    ∙ work-marked c.self.inside.ending.word c.self.inside.movable.word c.self.inside.watch ks
+    place c.self.invariant (ap (λ j. passes has_work (option_flatten (slice_get ks j)))
+    (sym c.place.ensures.value) ∙ is))
