@@ -1,22 +1,27 @@
 -- Who made each change, where one change more is made, or one seat more goes out.
-use Rattle.std.proofs.Common.{◌≡◌, ◌≢◌, ℕ, ◌+◌, ◌<◌, List, [], ◌∷◌, ◌++◌, length, refl, sym, ap, ◌∙◌, subst, arith, length-append, Contains}
+use Rattle.std.proofs.Common.{◌≡◌, ◌≢◌, ℕ, ◌+◌, List, [], ◌∷◌, ◌++◌, length, refl, sym, ap, ◌∙◌, subst, arith, length-append, Contains}
 use Rattle.lq_volume.specs.declared.change.Change.{Change}
 use Rattle.lq_volume.specs.Book.{Book, grown}
 use Rattle.lq_board.specs.declared.token_views.Author.{Author}
 use Rattle.lq_board.specs.declared.token_views.Register.{Register}
 use Rattle.lq_board.specs.Roll.{changes_by}
-use Rattle.lq_board.specs.Author.{IsSigned, IsAuthor, AreDisjoint, with_seat, new_author, with_author, with_change}
+use Rattle.lq_board.specs.Author.{IsSigned, IsAuthor, AreDisjoint, new_author, with_author, with_change}
 use Rattle.lq_board.proofs.RollLemmas.{own_more, else_more, seats_more, seats_later, none_by, one_author}
 
--- the register, where one seat more has a number
-pub signed_seat : (book : Book) (r : Register) → IsSigned book r → IsSigned book (with_seat r)
-signed_seat book r s =
+-- the register, where one seat more has a number, and so many openings are counted
+abbrev pub numbered : (ℕ → ℕ) → Register → Register
+numbered f r = record r { seats = r.seats + 1; openings = f r.openings }
+
+-- it is signed as before
+pub signed_seat : (f : ℕ → ℕ) (book : Book) (r : Register) → IsSigned book r
+    → IsSigned book (numbered f r)
+signed_seat f book r s =
     record { each = s.each; seats = seats_later r.seats r.authors s.seats }
 
 -- that seat as an author
-pub author_new : (book : Book) (r : Register) → IsSigned book r
-    → IsAuthor (new_author r) (with_seat r)
-author_new book r s =
+pub author_new : (f : ℕ → ℕ) (book : Book) (r : Register) → IsSigned book r
+    → IsAuthor (new_author r) (numbered f r)
+author_new f book r s =
     record {
       least = omega arith;
       most = omega arith;
@@ -62,8 +67,9 @@ author_else r a other ne mine =
     }
 
 -- the same, where one seat more has a number
-pub author_later : (r : Register) (a : Author) → IsAuthor a r → IsAuthor a (with_seat r)
-author_later r a mine =
+pub author_later : (f : ℕ → ℕ) (r : Register) (a : Author) → IsAuthor a r
+    → IsAuthor a (numbered f r)
+author_later f r a mine =
     let most = mine.most in
     record {
       least = mine.least;

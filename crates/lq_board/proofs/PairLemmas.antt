@@ -1,17 +1,18 @@
 -- Two seats that a call takes keep the rule, whether it compares, enlists or dismisses.
-use Rattle.std.proofs.Common.{◌≡◌, ◌≢◌, ℕ, ◌<◌, true, false, List, [], ◌∷◌, length, refl, sym, ap, ◌∙◌, subst, ⊎_elim, arith}
+use Rattle.std.proofs.Common.{◌≡◌, ◌≢◌, ℕ, ◌<◌, true, false, List, [], ◌∷◌, ◌++◌, length, refl, sym, ap, ◌∙◌, subst, ⊎_elim, arith}
 use Rattle.std.specs.Prelude.{slice_set}
 use mathlib.Core.Option.{none, some}
 use lib.ListN.{get_elem?}
 use Rattle.atomic_table.specs.Table.{keeps, Me, Step, step, Allows, Splits, Joins}
 use Rattle.atomic_table.proofs.Lists.{at_set}
+use Rattle.lq_board.specs.declared.token_views.Moment.{Moment}
 use Rattle.lq_board.specs.declared.token_views.Sitting.{Sitting}
 use Rattle.lq_board.specs.declared.token_views.TokenView.{TokenView}
 use Rattle.lq_board.specs.declared.token_views.TokenView.TheVariants.{Seat, Pair, Spent}
 use Rattle.lq_board.specs.Roll.{IsMerged, is_listed, without_number, changes_of_others}
 use Rattle.lq_board.specs.Author.{with_signs, with_roll}
-use Rattle.lq_board.specs.View.{sitting_of, paired, of_no_slot, first_seat, second_seat}
-use Rattle.lq_board.specs.Rule.{ViewFits, Roll, Owns, ViewSigns, IsKept}
+use Rattle.lq_board.specs.View.{sitting_of, paired, of_no_slot, first_seat, second_seat, second_noted}
+use Rattle.lq_board.specs.Rule.{ViewFits, Roll, ViewSigns, IsKept}
 use Rattle.lq_board.specs.Step.{Compares, Enlists, Dismisses}
 use Rattle.lq_board.proofs.RollLemmas.{seats_without, has_here, has_else, without_here, without_else, others_enlisted, others_dismissed}
 use Rattle.lq_board.proofs.AuthorLemmas.{author_same, share_none}
@@ -256,12 +257,13 @@ module _ {M : Type 0} where
         ),
       )
 
-  -- a pair becomes two seats, the first of no slot
-  unpairs : (id : ℕ) (a b : Sitting M)
-      → Splits IsKept id (Pair a b) (first_seat (Pair a b)) (second_seat (Pair a b))
-  unpairs id a b s kept at =
+  -- a pair becomes two seats, the first of no slot, and the second with these moments
+  unpairs : (id : ℕ) (a b : Sitting M) (moments : List (Moment M))
+      → Splits IsKept id (Pair a b) (first_seat (Pair a b))
+      (Seat (record b { moments = moments }))
+  unpairs id a b moments s kept at =
       let w : TokenView M = Seat (of_no_slot a) in
-      let new : TokenView M = Seat b in
+      let new : TokenView M = Seat (record b { moments = moments }) in
       let n : ℕ = length (slice_set s.views id w) in
       let here = kept.fits id (Pair a b) at in
       let own = kept.signs id (Pair a b) at in
@@ -368,4 +370,12 @@ module _ {M : Type 0} where
       → Splits IsKept id now.0 (first_seat now.0) (second_seat now.0)
   unpairs_as id now a b more is =
       subst (λ (u : TokenView M). Splits IsKept id u (first_seat u) (second_seat u))
-      (sym (ap (λ m. m.0) is)) (unpairs id a b)
+      (sym (ap (λ m. m.0) is)) (unpairs id a b b.moments)
+
+  -- the second notes the first's moments
+  pub notes_as : (id : ℕ) (now : Me ℕ (TokenView M)) (a b : Sitting M) (more : List (ℕ × ℕ))
+      → now ≡ (Pair a b, more)
+      → Splits IsKept id now.0 (first_seat now.0) (second_noted now.0)
+  notes_as id now a b more is =
+      subst (λ (u : TokenView M). Splits IsKept id u (first_seat u) (second_noted u))
+      (sym (ap (λ m. m.0) is)) (unpairs id a b (b.moments ++ a.moments))

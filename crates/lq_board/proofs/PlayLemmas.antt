@@ -105,6 +105,7 @@ module _ {M : Type 0} where
               asks = v.back.asks;
               name = v.back.name;
               author = made;
+              moments = v.back.moments;
             };
         was = v.was;
       }) in
@@ -242,6 +243,7 @@ module _ {M : Type 0} where
         asks = w.asks;
         name = w.name;
         author = w.author;
+        moments = w.moments;
       } in (
         Seat now,
         keeps,
@@ -403,6 +405,7 @@ module _ {M : Type 0} where
         asks = w.asks + 1;
         name = w.name;
         author = w.author;
+        moments = w.moments;
       } in (
         Seat now,
         keeps,

@@ -1,6 +1,6 @@
 -- The numbers of changes, by who made them, and the numbers of seats.
-use Rattle.std.proofs.Common.{◌≡◌, ◌≢◌, ℕ, zero, suc, ◌+◌, ◌<◌, ◌≤◌, Bool, true, false, true≢false, cond, eqb, eqb-true, eq-eqb, ne_eqb, Contains, ◌⊎◌, inl, inr, ⊎_elim, List, [], ◌∷◌, ◌++◌, length, refl, sym, ap, ◌∙◌, subst, arith}
-use Rattle.lq_board.specs.Roll.{changes_after, changes_by, AreSeats, is_listed, without_number, others_after, changes_of_others, numbers_after, numbers, times, IsMerged}
+use Rattle.std.proofs.Common.{◌≡◌, ◌≢◌, ℕ, zero, suc, ◌+◌, ◌<◌, ◌≤◌, Bool, true, false, true≢false, cond, eqb, eqb-true, eq-eqb, ne_eqb, Contains, ◌⊎◌, inl, inr, ⊎_elim, List, [], ◌∷◌, ◌++◌, length, refl, sym, ap, ◌∙◌, arith}
+use Rattle.lq_board.specs.Roll.{changes_after, changes_by, AreSeats, is_listed, without_number, others_after, changes_of_others, numbers_after, numbers, IsMerged}
 
 -- what follows a list that may have one more at its head
 cond_more : (b : Bool) (x : ℕ) (p q l : List ℕ) → p ≡ q ++ l

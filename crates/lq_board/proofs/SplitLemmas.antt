@@ -8,17 +8,17 @@ use Rattle.lq_volume.specs.Book.{Book, Extends}
 use Rattle.lq_board.specs.declared.token_views.Author.{Author}
 use Rattle.lq_board.specs.declared.token_views.Register.{Register}
 use Rattle.lq_board.specs.declared.token_views.KnownSlot.{KnownSlot}
+use Rattle.lq_board.specs.declared.token_views.Moment.{Moment}
 use Rattle.lq_board.specs.declared.token_views.Sitting.{Sitting}
 use Rattle.lq_board.specs.declared.token_views.Keeping.{Keeping}
 use Rattle.lq_board.specs.declared.token_views.TokenView.{TokenView}
 use Rattle.lq_board.specs.declared.token_views.TokenView.TheVariants.{Keeper, Seat}
-use Rattle.lq_board.specs.Roll.{changes_by, changes_of_others}
-use Rattle.lq_board.specs.Author.{IsSigned, IsAuthor, no_register, leader, leader_register, with_seat, new_author}
+use Rattle.lq_board.specs.Author.{no_register, leader, leader_register, with_seat, with_opening, new_author}
 use Rattle.lq_board.specs.Slot.{slot_at, go_out}
-use Rattle.lq_board.specs.View.{plain, keeper, with_new_seat, copy_of, led, lead_of, with_slot_seat, seated, parted, again_of}
+use Rattle.lq_board.specs.View.{plain, keeper, moment_in, with_new_seat, copy_of, led, lead_of, with_slot_seat, seated, parted, again_of}
 use Rattle.lq_board.specs.Rule.{ViewFits, Roll, Owns, ViewSigns, IsKept}
 use Rattle.lq_board.proofs.RollLemmas.{seats_later, none_has}
-use Rattle.lq_board.proofs.AuthorLemmas.{signed_seat, author_new}
+use Rattle.lq_board.proofs.AuthorLemmas.{numbered, signed_seat, author_new}
 use Rattle.lq_board.proofs.BookLemmas.{extends_self}
 use Rattle.lq_board.proofs.SlotLemmas.{slot_here, agrees_slot}
 use Rattle.lq_board.proofs.ViewLemmas.{at_end, owner_set, owner_here, owner_else, moved, owns_moved, owns_later, owns_here, fits_set, came_self, sits_slot, fits_other, signs_other}
@@ -36,7 +36,7 @@ module _ {M : Type 0} where
   -- a seat of no slot is split off: the books and the slots
   fits_plain : (id : ℕ) (v : Keeping M) (s : State ℕ (TokenView M)) (kept : IsKept s)
       → get_elem? s.views id ≡ some (Keeper v) → (r : Register) (asks : ℕ) (name : Option M)
-      (author : Author) (by : ℕ) (u : TokenView M)
+      (author : Author) (moments : List (Moment M)) (by : ℕ) (u : TokenView M)
       → get_elem? (slice_set s.views id (keeper v.book v.slots r)
       ++ Seat (record {
         slot = 0;
@@ -44,13 +44,21 @@ module _ {M : Type 0} where
         asks = asks;
         name = name;
         author = author;
+        moments = moments;
       }) ∷ []) by ≡ some u
       → ViewFits kept.id kept.book kept.slots kept.owner s.words by u
-  fits_plain id v s kept at r asks name author by u e =
+  fits_plain id v s kept at r asks name author moments by u e =
       let mine = kept.fits id (Keeper v) at in
       let w : TokenView M = keeper v.book v.slots r in
       let new : TokenView M =
-      Seat (record { slot = 0; book = v.book; asks = asks; name = name; author = author }) in
+      Seat (record {
+        slot = 0;
+        book = v.book;
+        asks = asks;
+        name = name;
+        author = author;
+        moments = moments;
+      }) in
       ⊎_elim
       (λ was. fits_set (ViewFits kept.id kept.book kept.slots kept.owner s.words) s.views id w
       (λ by' u' apart e'. kept.fits by' u' e')
@@ -66,16 +74,24 @@ module _ {M : Type 0} where
   fits_slot : (id k : ℕ) (name : Option M) (v : Keeping M) (s : State ℕ (TokenView M))
       (kept : IsKept s) → get_elem? s.views id ≡ some (Keeper v) → 0 < k → k < 65
       → (slot_at v.slots k).out ≡ false → (r : Register) (asks : ℕ)
-      → asks ≡ (slot_at v.slots k).asks → (author : Author) (by : ℕ) (u : TokenView M)
+      → asks ≡ (slot_at v.slots k).asks → (author : Author) (moments : List (Moment M)) (by : ℕ)
+      (u : TokenView M)
       → (let q : KnownSlot M =
       record { out = true; asks = (slot_at v.slots k).asks; name = name } in
       let w : TokenView M = keeper v.book (slice_set v.slots k q) r in
       let new : Sitting M =
-      record { slot = k; book = v.book; asks = asks; name = name; author = author } in
+      record {
+        slot = k;
+        book = v.book;
+        asks = asks;
+        name = name;
+        author = author;
+        moments = moments;
+      } in
       get_elem? (slice_set s.views id w ++ Seat new ∷ []) by ≡ some u
       → ViewFits kept.id kept.book (slice_set kept.slots k q)
       (owner_set kept.owner k (length (slice_set s.views id w))) s.words by u)
-  fits_slot id k name v s kept at pos within free r asks just author by u e =
+  fits_slot id k name v s kept at pos within free r asks just author moments by u e =
       let mine = kept.fits id (Keeper v) at in
       let p : KnownSlot M = slot_at v.slots k in
       let q : KnownSlot M = record { out = true; asks = p.asks; name = name } in
@@ -86,7 +102,14 @@ module _ {M : Type 0} where
       slot_here kept.slots k q (omega (arith, kept.agrees.places, within)) in
       let w : TokenView M = keeper v.book (slice_set v.slots k q) r in
       let new : Sitting M =
-      record { slot = k; book = v.book; asks = asks; name = name; author = author } in
+      record {
+        slot = k;
+        book = v.book;
+        asks = asks;
+        name = name;
+        author = author;
+        moments = moments;
+      } in
       let n : ℕ = length (slice_set s.views id w) in
       let owner : ℕ → ℕ = owner_set kept.owner k n in
       ⊎_elim
@@ -126,23 +149,23 @@ module _ {M : Type 0} where
       (at_end (slice_set s.views id w) (Seat new) u by e)
 
   -- a new seat is split off: the authors
-  signs_new : (id : ℕ) (v : Keeping M) (s : State ℕ (TokenView M)) (kept : IsKept s)
+  signs_new : (f : ℕ → ℕ) (id : ℕ) (v : Keeping M) (s : State ℕ (TokenView M)) (kept : IsKept s)
       → get_elem? s.views id ≡ some (Keeper v) → (slots : List (KnownSlot M)) (new : Sitting M)
       → new.author ≡ new_author v.register → (by : ℕ) (u : TokenView M)
-      → (let w : TokenView M = keeper v.book slots (with_seat v.register) in
+      → (let w : TokenView M = keeper v.book slots (numbered f v.register) in
       get_elem? (slice_set s.views id w ++ Seat new ∷ []) by ≡ some u
-      → ViewSigns kept.id (with_seat kept.register)
+      → ViewSigns kept.id (numbered f kept.register)
       (moved kept.roll (kept.register.seats + 1) (length (slice_set s.views id w))) by u)
-  signs_new id v s kept at slots new is by u e =
+  signs_new f id v s kept at slots new is by u e =
       let own = kept.signs id (Keeper v) at in
-      let w : TokenView M = keeper v.book slots (with_seat v.register) in
+      let w : TokenView M = keeper v.book slots (numbered f v.register) in
       let n : ℕ = length (slice_set s.views id w) in
       let k : ℕ = kept.register.seats + 1 in
-      let r : Register = with_seat kept.register in
+      let r : Register = numbered f kept.register in
       let roll : Roll = moved kept.roll k n in
       let mine : Owns r roll n (new_author kept.register) =
       record {
-        author = author_new kept.book kept.register kept.signed;
+        author = author_new f kept.book kept.register kept.signed;
         only = sym (owner_here kept.roll.who k n k refl);
         signs = λ counted.
             counted
@@ -153,9 +176,9 @@ module _ {M : Type 0} where
       (λ was. fits_set (ViewSigns kept.id r roll) s.views id w
       (λ by' u' apart e'.
       signs_other kept.id kept.register r kept.roll roll by' u'
-      (λ a o. owns_later kept.register kept.roll n by' a o)
+      (λ a o. owns_later f kept.register kept.roll n by' a o)
       (λ is. apart (is ∙ sym own.0)) (kept.signs by' u' e'))
-      (own.0, ap with_seat own.1, λ (lt : 0 < 0). absurd (omega arith))
+      (own.0, ap (numbered f) own.1, λ (lt : 0 < 0). absurd (omega arith))
       by u was)
       (λ (t : (Seat new ≡ u) × (by ≡ n)).
       subst (ViewSigns kept.id r roll by) t.0
@@ -200,7 +223,8 @@ module _ {M : Type 0} where
   pub copies : (id : ℕ) (v : Keeping M)
       → Splits IsKept id (Keeper v) (with_new_seat (Keeper v)) (copy_of (Keeper v))
   copies id v s kept at =
-      let new : Sitting M = plain v.book (new_author v.register) in
+      let new : Sitting M =
+      record (plain v.book (new_author v.register)) { moments = moment_in v ∷ [] } in
       record {
         id = kept.id;
         book = kept.book;
@@ -209,15 +233,16 @@ module _ {M : Type 0} where
         number = kept.number;
         full = kept.full;
         agrees = kept.agrees;
-        fits = fits_plain id v s kept at (with_seat v.register) new.asks new.name new.author;
+        fits = fits_plain id v s kept at (with_seat v.register) new.asks new.name new.author
+            new.moments;
         register = with_seat kept.register;
         roll =
             moved kept.roll (kept.register.seats + 1)
             (length (slice_set s.views id (with_new_seat (Keeper v))));
-        signed = signed_seat kept.book kept.register kept.signed;
+        signed = signed_seat (λ (n : ℕ). n) kept.book kept.register kept.signed;
         enlisted = seats_later kept.register.seats kept.roll.enlisted kept.enlisted;
         gathered = kept.gathered;
-        signs = signs_new id v s kept at v.slots new refl;
+        signs = signs_new (λ (n : ℕ). n) id v s kept at v.slots new refl;
       }
 
   -- the leading seat
@@ -238,7 +263,7 @@ module _ {M : Type 0} where
         number = kept.number;
         full = kept.full;
         agrees = kept.agrees;
-        fits = fits_plain id v s kept at leader_register new.asks new.name new.author;
+        fits = fits_plain id v s kept at leader_register new.asks new.name new.author [];
         register = leader_register;
         roll = roll;
         signed = record {
@@ -285,6 +310,7 @@ module _ {M : Type 0} where
         asks = p.asks;
         name = name;
         author = new_author v.register;
+        moments = [];
       } in
       let n : ℕ = length (slice_set s.views id (with_slot_seat k name (Keeper v))) in
       let most : q.asks ≤ slice_index s.words k =
@@ -299,14 +325,14 @@ module _ {M : Type 0} where
         full = kept.full;
         agrees =
             agrees_slot s.words kept.slots k q most (λ out. absurd (true≢false out)) kept.agrees;
-        fits = fits_slot id k name v s kept at pos within free (with_seat v.register) p.asks refl
-            new.author;
-        register = with_seat kept.register;
+        fits = fits_slot id k name v s kept at pos within free (with_opening v.register)
+            p.asks refl new.author new.moments;
+        register = with_opening kept.register;
         roll = moved kept.roll (kept.register.seats + 1) n;
-        signed = signed_seat kept.book kept.register kept.signed;
+        signed = signed_seat (λ (n : ℕ). n + 1) kept.book kept.register kept.signed;
         enlisted = seats_later kept.register.seats kept.roll.enlisted kept.enlisted;
         gathered = kept.gathered;
-        signs = signs_new id v s kept at (slice_set v.slots k q) new refl;
+        signs = signs_new (λ (n : ℕ). n + 1) id v s kept at (slice_set v.slots k q) new refl;
       }
 
   -- the latest seat that came back, by cases on its slot
@@ -320,6 +346,7 @@ module _ {M : Type 0} where
         asks = v.back.asks;
         name = name;
         author = v.back.author;
+        moments = v.back.moments;
       }))
   again_at id name v zero number within was s kept at =
       let new : Sitting M =
@@ -329,6 +356,7 @@ module _ {M : Type 0} where
         asks = v.back.asks;
         name = name;
         author = v.back.author;
+        moments = v.back.moments;
       } in
       record {
         id = kept.id;
@@ -338,7 +366,8 @@ module _ {M : Type 0} where
         number = kept.number;
         full = kept.full;
         agrees = kept.agrees;
-        fits = fits_plain id v s kept at v.register v.back.asks name v.back.author;
+        fits = fits_plain id v s kept at v.register v.back.asks name v.back.author
+            v.back.moments;
         register = kept.register;
         roll =
             moved kept.roll v.back.author.number
@@ -362,6 +391,7 @@ module _ {M : Type 0} where
         asks = v.back.asks;
         name = name;
         author = v.back.author;
+        moments = v.back.moments;
       } in
       let w : TokenView M = keeper v.book (slice_set v.slots (suc k) q) v.register in
       let n : ℕ = length (slice_set s.views id w) in
@@ -379,7 +409,7 @@ module _ {M : Type 0} where
             agrees_slot s.words kept.slots (suc k) q most (λ out. absurd (true≢false out))
             kept.agrees;
         fits = fits_slot id (suc k) name v s kept at pos within (was pos).0 v.register v.back.asks
-            (was pos).1 v.back.author;
+            (was pos).1 v.back.author v.back.moments;
         register = kept.register;
         roll = moved kept.roll v.back.author.number n;
         signed = kept.signed;

@@ -12,11 +12,11 @@ use Rattle.lq_board.specs.declared.token_views.Sitting.{Sitting}
 use Rattle.lq_board.specs.declared.token_views.TokenView.{TokenView}
 use Rattle.lq_board.specs.declared.token_views.TokenView.TheVariants.{Keeper, Seat, Pair, Spent}
 use Rattle.lq_board.specs.Roll.{is_listed}
-use Rattle.lq_board.specs.Author.{no_author, with_seat, with_author}
+use Rattle.lq_board.specs.Author.{no_author, with_author}
 use Rattle.lq_board.specs.Slot.{unused}
 use Rattle.lq_board.specs.View.{plain}
 use Rattle.lq_board.specs.Rule.{CameBack, Sits, SeatFits, ViewFits, Roll, LeadsBoard, Owns, ViewSigns}
-use Rattle.lq_board.proofs.AuthorLemmas.{author_else, author_later}
+use Rattle.lq_board.proofs.AuthorLemmas.{numbered, author_else, author_later}
 use Rattle.lq_board.proofs.BookLemmas.{extends_self}
 use Rattle.lq_board.proofs.SlotLemmas.{slot_else}
 
@@ -80,18 +80,18 @@ owns_moved r roll j k by a ne o =
     }
 
 -- an author, where one seat more has a number
-pub owns_later : (r : Register) (roll : Roll) (k by : ℕ) (a : Author) → Owns r roll by a
-    → Owns (with_seat r) (moved roll (r.seats + 1) k) by a
-owns_later r roll k by a o =
+pub owns_later : (f : ℕ → ℕ) (r : Register) (roll : Roll) (k by : ℕ) (a : Author)
+    → Owns r roll by a → Owns (numbered f r) (moved roll (r.seats + 1) k) by a
+owns_later f r roll k by a o =
     let most = o.author.most in
     record {
-      author = author_later r a o.author;
+      author = author_later f r a o.author;
       only =
           o.only
           ∙ sym (owner_else roll.who (r.seats + 1) k a.number (λ e. omega (arith, e, most)));
       signs = o.signs;
       leads = λ is.
-          leads_same r (with_seat r) roll (moved roll (r.seats + 1) k) a refl refl refl
+          leads_same r (numbered f r) roll (moved roll (r.seats + 1) k) a refl refl refl
           (o.leads is);
     }
 

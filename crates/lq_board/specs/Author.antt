@@ -40,7 +40,7 @@ no_author =
     }
 
 abbrev pub no_register : Register
-no_register = record { authors = []; seats = 0; free = true }
+no_register = record { authors = []; seats = 0; openings = 0; free = true }
 
 -- the first seat of a counted board, which leads
 abbrev pub leader : Author
@@ -56,11 +56,15 @@ leader =
     }
 
 abbrev pub leader_register : Register
-leader_register = record { authors = []; seats = 1; free = false }
+leader_register = record { authors = []; seats = 1; openings = 0; free = false }
 
 -- one seat more, and that seat, which made no change
 abbrev pub with_seat : Register → Register
 with_seat r = record r { seats = r.seats + 1 }
+
+-- one seat more, which went out to a slot
+abbrev pub with_opening : Register → Register
+with_opening r = record r { seats = r.seats + 1; openings = r.openings + 1 }
 
 abbrev pub new_author : Register → Author
 new_author r =

@@ -4,7 +4,7 @@ use Rattle.lq_volume.specs.declared.change.Change.{Change}
 use Rattle.lq_volume.specs.Change.{after}
 use Rattle.lq_volume.specs.Book.{Extends, grown, state_of}
 use Rattle.lq_board.specs.declared.token_views.KnownSlot.{KnownSlot}
-use Rattle.lq_board.specs.Author.{new_author, with_author, with_change, with_seat}
+use Rattle.lq_board.specs.Author.{new_author, with_author, with_change, with_opening}
 use Rattle.lq_board.specs.Book.{IsFullBook}
 use Rattle.lq_board.specs.Slot.{slot_at, gone_out, go_out, come_back}
 use Rattle.lq_board.specs.Token.{KeeperToken, SeatToken}
@@ -22,6 +22,7 @@ module _ {M : Type 0} where
           asks = (slot_at old.slots slot).asks;
           name = name;
           author = new_author old.register;
+          moments = [];
         }
     pub signs : s.author.signs ≡ old.board.free
     pub full : IsFullBook s.book
@@ -30,7 +31,7 @@ module _ {M : Type 0} where
           board = old.board;
           book = old.book;
           slots = gone_out old.slots slot name;
-          register = with_seat old.register;
+          register = with_opening old.register;
         }
 
   -- the slot's seat was out under the name that the keeper knew, and had asked at least as often as
@@ -54,6 +55,7 @@ module _ {M : Type 0} where
           asks = s.asks;
           name = name;
           author = s.author;
+          moments = s.moments;
         }
     pub keeper : new
         ≡ record {
@@ -79,6 +81,7 @@ module _ {M : Type 0} where
           asks = s.asks;
           name = s.name;
           author = with_change s.author number;
+          moments = s.moments;
         }
     pub keeper : new
         ≡ record {

@@ -34,6 +34,7 @@ module _ {M : Type 0} where
                 asks = was.back.asks;
                 name = was.back.name;
                 author = author;
+                moments = was.back.moments;
               };
           was = was.was;
         }),
@@ -56,6 +57,7 @@ module _ {M : Type 0} where
           asks = was.asks;
           name = was.name;
           author = was.author;
+          moments = was.moments;
         }),
         m.1,
       ))
@@ -93,6 +95,7 @@ module _ {M : Type 0} where
           asks = was.asks + 1;
           name = was.name;
           author = was.author;
+          moments = was.moments;
         }),
         m.1,
       ))

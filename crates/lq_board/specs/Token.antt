@@ -7,6 +7,7 @@ use Rattle.lq_volume.specs.Book.{Book}
 use Rattle.lq_board.specs.declared.token_views.Author.{Author}
 use Rattle.lq_board.specs.declared.token_views.Register.{Register}
 use Rattle.lq_board.specs.declared.token_views.KnownSlot.{KnownSlot}
+use Rattle.lq_board.specs.declared.token_views.Moment.{Moment}
 use Rattle.lq_board.specs.declared.token_views.TokenView.{TokenView}
 use Rattle.lq_board.specs.declared.token_views.TokenView.TheVariants.{Spent}
 use Rattle.lq_board.specs.View.{keeping_of, sitting_of}
@@ -25,8 +26,8 @@ pub record KeeperToken (M : Type 0) : Type 0 where
   pub slots : List (KnownSlot M)
   pub register : Register
 
--- a seat: the book that it knows, its slot or 0, how often it has asked, its name, and what it is
--- as an author
+-- a seat: the book that it knows, its slot or 0, how often it has asked, its name, what it is as an
+-- author, and the moments of the keeper that it has noted, in order
 pub record SeatToken (M : Type 0) : Type 0 where
   pub board : BoardName
   pub slot : ℕ
@@ -34,6 +35,7 @@ pub record SeatToken (M : Type 0) : Type 0 where
   pub asks : ℕ
   pub name : Option M
   pub author : Author
+  pub moments : List (Moment M)
 
 -- the name of no board
 abbrev pub no_table : TableId
@@ -74,7 +76,12 @@ module _ {M : Type 0} where
         asks = (sitting_of me.0).asks;
         name = (sitting_of me.0).name;
         author = (sitting_of me.0).author;
+        moments = (sitting_of me.0).moments;
       }
+
+  -- what a keeper has at a moment: its book, what it knows of the slots, and the openings so far
+  abbrev pub moment_of : KeeperToken M → Moment M
+  moment_of k = record { book = k.book; slots = k.slots; openings = k.register.openings }
 
   -- a seat's view of the words, which is absent only within a call
   abbrev pub table_of : Option (Seat ℕ (TokenView M)) → TableId

@@ -1,24 +1,25 @@
 -- What a token knows, before and after a step.
-use Rattle.std.specs.Prelude.{◌≡◌, ℕ, ◌<◌, List, [], length, Option, None, IsSome}
+use Rattle.std.specs.Prelude.{◌≡◌, ℕ, ◌<◌, List, [], ◌∷◌, ◌++◌, length, Option, None, IsSome}
 use Rattle.atomic_table.specs.Table.{Me}
 use Rattle.lq_volume.specs.State.{State}
 use Rattle.lq_volume.specs.Book.{Book}
 use Rattle.lq_board.specs.declared.token_views.Author.{Author}
 use Rattle.lq_board.specs.declared.token_views.Register.{Register}
 use Rattle.lq_board.specs.declared.token_views.KnownSlot.{KnownSlot}
+use Rattle.lq_board.specs.declared.token_views.Moment.{Moment}
 use Rattle.lq_board.specs.declared.token_views.Sitting.{Sitting}
 use Rattle.lq_board.specs.declared.token_views.Keeping.{Keeping}
 use Rattle.lq_board.specs.declared.token_views.TokenView.{TokenView}
 use Rattle.lq_board.specs.declared.token_views.TokenView.TheVariants.{Keeper, Seat, Pair, Spent}
 use Rattle.lq_board.specs.Book.{no_book, IsFullBook}
-use Rattle.lq_board.specs.Author.{no_author, no_register, leader, leader_register, with_seat, new_author}
+use Rattle.lq_board.specs.Author.{no_author, no_register, leader, leader_register, with_seat, with_opening, new_author}
 use Rattle.lq_board.specs.Slot.{unused, unused_slots, slot_at, gone_out, go_out, come_back}
 
 module _ {M : Type 0} where
   -- a seat of no slot
   abbrev pub plain : Book → Author → Sitting M
   plain book author =
-      record { slot = 0; book = book; asks = 0; name = None; author = author }
+      record { slot = 0; book = book; asks = 0; name = None; author = author; moments = [] }
 
   -- a keeper to which no seat came back since the latest one went out
   abbrev pub keeping : Book → List (KnownSlot M) → Register → Keeping M
@@ -69,19 +70,32 @@ module _ {M : Type 0} where
   abbrev pub of_no_slot : Sitting M → Sitting M
   of_no_slot w = record w { slot = 0 }
 
+  -- the second has noted the first's moments too
+  abbrev pub second_noted : TokenView M → TokenView M
+  second_noted v =
+      let b = second_of v in
+      Seat (record b { moments = b.moments ++ (first_sitting v).moments })
+
   abbrev pub first_seat : TokenView M → TokenView M
   first_seat v = Seat (of_no_slot (first_sitting v))
 
   abbrev pub second_seat : TokenView M → TokenView M
   second_seat v = Seat (second_of v)
 
-  -- the keeper and the seat after a new seat of no slot is split off
+  -- what a keeper has at a moment
+  abbrev pub moment_in : Keeping M → Moment M
+  moment_in v = record { book = v.book; slots = v.slots; openings = v.register.openings }
+
+  -- the keeper and the seat after a new seat of no slot is split off, which has noted this moment
   abbrev pub with_new_seat : TokenView M → TokenView M
   with_new_seat v =
       keeper (keeping_of v).book (keeping_of v).slots (with_seat (keeping_of v).register)
 
   abbrev pub copy_of : TokenView M → TokenView M
-  copy_of v = Seat (plain (keeping_of v).book (new_author (keeping_of v).register))
+  copy_of v =
+      Seat (record (plain (keeping_of v).book (new_author (keeping_of v).register)) {
+        moments = moment_in (keeping_of v) ∷ [];
+      })
 
   -- the keeper and the seat after the leading seat is split off
   abbrev pub led : TokenView M → TokenView M
@@ -94,7 +108,7 @@ module _ {M : Type 0} where
   abbrev pub with_slot_seat : ℕ → Option M → TokenView M → TokenView M
   with_slot_seat k name v =
       keeper (keeping_of v).book (gone_out (keeping_of v).slots k name)
-      (with_seat (keeping_of v).register)
+      (with_opening (keeping_of v).register)
 
   abbrev pub seated : ℕ → Option M → TokenView M → TokenView M
   seated k name v =
@@ -104,6 +118,7 @@ module _ {M : Type 0} where
         asks = (slot_at (keeping_of v).slots k).asks;
         name = name;
         author = new_author (keeping_of v).register;
+        moments = [];
       })
 
   -- the keeper and the seat after the latest seat that came back is split off again, under this
@@ -122,6 +137,7 @@ module _ {M : Type 0} where
         asks = back.asks;
         name = name;
         author = back.author;
+        moments = back.moments;
       })
 
   -- the keeper after a seat comes back

@@ -1,12 +1,12 @@
 //! The board.
-ghost use Rattle.std.specs.Prelude.{◌≡◌, ◌+◌, ◌<◌, ◌≤◌, [], length, IfOk, true, false, Some, None};
+ghost use Rattle.std.specs.Prelude.{◌≡◌, ◌+◌, ◌<◌, ◌≤◌, [], ◌∷◌, length, IfOk, true, false, Some, None};
 ghost use Rattle.lq_value.specs.Refusal.{FailsOnlyForMemory};
 ghost use Rattle.lq_volume.specs.Book.{Extends};
 ghost use Rattle.lq_board.specs.Author.{IsWhole, leader, leader_register, no_register, with_seat, new_author};
 ghost use Rattle.lq_board.specs.Book.{IsFullBook};
 ghost use Rattle.lq_board.specs.Meeting.{GoesOut};
 ghost use Rattle.lq_board.specs.Slot.{unused_slots, slot_at, come_back, counted};
-ghost use Rattle.lq_board.specs.Token.{counted_board};
+ghost use Rattle.lq_board.specs.Token.{counted_board, moment_of};
 
 use crate::step_types::{Ask, Count, See};
 use crate::token_views::{Law, TokenView};
@@ -77,6 +77,7 @@ impl<M> Board<M> {
           asks = 0;
           name = None;
           author = leader;
+          moments = [];
         } }
         ensures full { IsFullBook result.book }
         ensures keeper { keeper.new ≡ record keeper.old {
@@ -92,7 +93,8 @@ impl<M> Board<M> {
         }
     }
 
-    /// A seat of no slot, with a new number, which knows the keeper's book. It takes no memory.
+    /// A seat of no slot, with a new number, which knows the keeper's book and has noted this moment
+    /// of the keeper. It takes no memory.
     ///
     /// It may make changes just where no seat leads.
     pub fn seat(&self, keeper: &mut Keeper<M>) -> Seat<M>
@@ -104,6 +106,7 @@ impl<M> Board<M> {
           asks = 0;
           name = None;
           author = new_author keeper.old.register;
+          moments = moment_of keeper.old ∷ [];
         } }
         ensures signs { result.author.signs ≡ keeper.old.board.free }
         ensures full { IsFullBook result.book }

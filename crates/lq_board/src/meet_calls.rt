@@ -1,11 +1,12 @@
 //! Calls in which a seat meets the keeper, or another seat.
-ghost use Rattle.std.specs.Prelude.{◌≡◌, ◌≢◌, ◌+◌, ◌<◌, [], ◌∷◌, length, Some, true, false};
+ghost use Rattle.std.specs.Prelude.{◌≡◌, ◌≢◌, ◌+◌, ◌<◌, [], ◌∷◌, ◌++◌, length, Some, true, false};
 ghost use Rattle.lq_volume.specs.Book.{grown, state_of, Extends};
 ghost use Rattle.lq_volume.specs.Change.{after, IsLawful};
 ghost use Rattle.lq_board.specs.Author.{AreDisjoint, with_seat, with_author, with_signs, with_roll};
 ghost use Rattle.lq_board.specs.Book.{IsFullBook};
 ghost use Rattle.lq_board.specs.Meeting.{HasAdded, HasMet};
 ghost use Rattle.lq_board.specs.Roll.{IsMerged, without_number};
+ghost use Rattle.lq_board.specs.Token.{moment_of};
 
 use crate::board::Board;
 use crate::tokens::{Keeper, Seat};
@@ -96,6 +97,27 @@ impl<M> Board<M> {
         let (number, again) = self.met::<Brand>(keeper, token);
         seat.token = Some(again);
         number
+    }
+
+    /// The seat notes this moment of the keeper: its book, what it knows of the slots, and how many
+    /// seats went out to a slot.
+    ///
+    /// For contracts alone: a moment that a seat has noted is one that the keeper had. One number
+    /// more is given out. It takes no memory.
+    pub fn note(&self, keeper: &mut Keeper<M>, seat: &mut Seat<M>)
+        requires board { (keeper.old.board ≡ self.now) × (seat.old.board ≡ self.now) }
+        ensures seat { seat.new ≡ record seat.old {
+          moments = seat.old.moments ++ moment_of keeper.old ∷ [];
+        } }
+        ensures keeper { keeper.new ≡ record keeper.old {
+          register = with_seat keeper.old.register;
+        } }
+    {
+        let first = self.plain_token(keeper);
+        let Some(second) = seat.token.take() else {
+            unreachable!()
+        };
+        seat.token = Some(self.noted(first, second));
     }
 
     /// Compares two seats, for contracts alone: they are two authors. The first is of no slot.

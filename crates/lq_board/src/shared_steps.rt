@@ -1,11 +1,11 @@
 //! Steps on a board's words that several calls share, or that a call chooses.
-ghost use Rattle.std.specs.Prelude.{◌≡◌, ◌≢◌, ◌<◌, [], ◌∷◌, length, true, false, Some};
+ghost use Rattle.std.specs.Prelude.{◌≡◌, ◌≢◌, ◌<◌, [], ◌∷◌, ◌++◌, length, true, false, Some};
 ghost use Rattle.lq_volume.specs.Book.{grown, state_of};
 ghost use Rattle.lq_volume.specs.Change.{after, IsLawful};
-ghost use Rattle.lq_board.specs.Author.{AreDisjoint, IsWhole, leader, leader_register, no_register, with_seat, new_author, with_author, with_change, with_signs, with_roll};
+ghost use Rattle.lq_board.specs.Author.{AreDisjoint, IsWhole, leader, leader_register, no_register, with_seat, with_opening, new_author, with_author, with_change, with_signs, with_roll};
 ghost use Rattle.lq_board.specs.Book.{IsFullBook};
 ghost use Rattle.lq_board.specs.Slot.{slot_at, gone_out, come_back};
-ghost use Rattle.lq_board.specs.Token.{counted_board};
+ghost use Rattle.lq_board.specs.Token.{counted_board, moment_of};
 ghost use Rattle.lq_board.specs.View.{sitting_of, plain, of_no_slot};
 ghost use Rattle.lq_board.specs.Return.{GoesOutAgain};
 ghost use Rattle.lq_board.specs.Roll.{IsMerged, without_number};
@@ -13,7 +13,8 @@ ghost use Rattle.lq_board.specs.Rule.{CameBack};
 
 use crate::board::Board;
 use crate::step_types::{
-    Add, Again, Back, Check, Chosen, Compare, Dismiss, Enlist, Lead, Open, Part, Plain, Together,
+    Add, Again, Back, Check, Chosen, Compare, Dismiss, Enlist, Lead, Note, Open, Part, Plain,
+    Together,
 };
 use crate::token_views::TokenView;
 use crate::tokens::{Keeper, Token};
@@ -27,7 +28,12 @@ impl<M> Board<M> {
             ≡ keeper.old.board }
         ensures free { keeper.old.register.free ≡ keeper.old.board.free }
         ensures view { result.me
-            ≡ (TokenView.Seat (plain keeper.old.book (new_author keeper.old.register)), []) }
+            ≡ (
+              TokenView.Seat (record (plain keeper.old.book (new_author keeper.old.register)) {
+                moments = moment_of keeper.old ∷ [];
+              }),
+              [],
+            ) }
         ensures full { IsFullBook keeper.old.book }
         ensures keeper { keeper.new ≡ record keeper.old {
           register = with_seat keeper.old.register;
@@ -68,6 +74,7 @@ impl<M> Board<M> {
             asks = (slot_at keeper.old.slots slot).asks;
             name = W.name;
             author = new_author keeper.old.register;
+            moments = [];
           }),
           [],
         ) }
@@ -76,7 +83,7 @@ impl<M> Board<M> {
           board = keeper.old.board;
           book = keeper.old.book;
           slots = gone_out keeper.old.slots slot W.name;
-          register = with_seat keeper.old.register;
+          register = with_opening keeper.old.register;
         } }
     {
         let _ = slot;
@@ -190,6 +197,22 @@ impl<M> Board<M> {
         self.table.shared.load::<Compare>(&mut pair, 0);
         let other = self.table.shared.split_seat::<Part>(&mut pair);
         (pair, other)
+    }
+
+    // Joins two seats and parts them. The second has then noted the first's moments too.
+    pub(crate) fn noted(&self, one: Token<M>, two: Token<M>) -> Token<M>
+        requires board { (one.table_id ≡ self.now.table) × (two.table_id ≡ self.now.table) }
+        requires one { one.me ≡ (TokenView.Seat (sitting_of one.me.0), []) }
+        requires two { two.me ≡ (TokenView.Seat (sitting_of two.me.0), []) }
+        ensures board { result.table_id ≡ one.table_id }
+        ensures two { let b = sitting_of two.me.0 in result.me ≡ (
+          TokenView.Seat (record b { moments = b.moments ++ (sitting_of one.me.0).moments }),
+          [],
+        ) }
+    {
+        let mut pair = one;
+        self.table.shared.join_seat::<Together>(&mut pair, two);
+        self.table.shared.split_seat::<Note>(&mut pair)
     }
 
     // Joins two seats, the first enlists the second, and parts them.

@@ -182,3 +182,14 @@ impl<M> Split<TokenView<M>> for Part {
 
     ghost right = { second_seat };
 }
+
+// Parts the two. The second has then noted the first's moments too.
+pub(crate) struct Note;
+
+impl<M> Split<TokenView<M>> for Note {
+    ghost use Rattle.lq_board.specs.View.{first_seat, second_noted};
+
+    ghost left = { first_seat };
+
+    ghost right = { second_noted };
+}

@@ -43,21 +43,32 @@ pub struct Author {
     pub gathered: LinkedList<u64>,
 }
 
-/// Who made a book: the number of each change's author, how many seats have a number, and whether
-/// each seat may make changes, or just those that the leading seat enlists.
+/// Who made a book: the number of each change's author, how many seats have a number, how many of
+/// them went out to a slot, and whether each seat may make changes, or just those that the leading
+/// seat enlists.
 pub struct Register {
     pub authors: LinkedList<u64>,
     pub seats: u64,
+    pub openings: u64,
     pub free: bool,
 }
 
-/// What a seat knows. A seat of no slot has slot 0.
+/// The keeper at one moment: its book, what it knew of each slot, and how many seats had gone out to
+/// a slot by then.
+pub struct Moment<M> {
+    pub book: Pages,
+    pub slots: LinkedList<KnownSlot<M>>,
+    pub openings: u64,
+}
+
+/// What a seat knows. A seat of no slot has slot 0. `moments` are those that it has noted.
 pub struct Sitting<M> {
     pub slot: u64,
     pub book: Pages,
     pub asks: u64,
     pub name: Option<M>,
     pub author: Author,
+    pub moments: LinkedList<Moment<M>>,
 }
 
 /// What the keeper knows. `back` is the seat that came back last, `was` the slot that it had.

@@ -10,6 +10,7 @@ use Rattle.lq_volume.specs.State.{State}
 use Rattle.lq_volume.specs.Book.{Book, Extends}
 use Rattle.lq_server_slots.specs.Events.{opening_refusals}
 use Rattle.lq_board.specs.declared.token_views.Author.{Author}
+use Rattle.lq_board.specs.declared.token_views.Moment.{Moment}
 use Rattle.lq_board.specs.Token.{BoardName, SeatToken}
 use Rattle.lq_update.specs.declared.message.Message.{Message}
 use Rattle.lq_update.specs.declared.parcel.Parcel.TheVariants.{Update as update}
@@ -31,7 +32,7 @@ use Rattle.lq_server_slots.specs.Opening.{IdentityFits, IsOpenedName, IsOpened, 
 use Rattle.lq_server.specs.Hold.{ReaderHold}
 use Rattle.lq_server.specs.Own.{IsOwn, StaysOwn}
 use Rattle.lq_server.specs.Closed.{IsCloseAnswer, IsClosing}
-use Rattle.lq_server.specs.Opened.{IsAnsweredOver, IsNewReader}
+use Rattle.lq_server.specs.Opened.{HasNoted, IsAnsweredOver, IsNewReader}
 use Rattle.lq_server.specs.Syncing.{IsSynced, IsRead, IsUnread}
 use Rattle.lq_server.specs.declared.server.Synced.{Synced}
 use Rattle.lq_server.proofs.SyncLemmas.{synced}
@@ -81,11 +82,36 @@ own_knows r seat book same own =
     subst (λ (s : SeatToken Identity). IsOwn (record r { seat = s })) (sym same)
     (record { low = own.low; high = own.high; slot = own.slot; name = own.name })
 
+-- a seat that knows a book and has noted moments, by its own book
+pub seat_knows : (old new : SeatToken Identity) (book : Book) (moments : List (Moment Identity))
+    → new ≡ record old { book = book; moments = moments }
+    → new ≡ record old { book = new.book; moments = moments }
+seat_knows old new book moments e =
+    e ∙ ap (λ (b : Book). let s : SeatToken Identity =
+    record old { book = b; moments = moments } in s)
+    (sym (ap (λ (s : SeatToken Identity). s.book) e))
+
+-- the same of the moments alone
+pub seat_noted : (old new : SeatToken Identity) (book : Book) (moments : List (Moment Identity))
+    → new ≡ record old { book = book; moments = moments }
+    → new ≡ record old { book = book; moments = new.moments }
+seat_noted old new book moments e =
+    e ∙ ap (λ (ms : List (Moment Identity)). let s : SeatToken Identity =
+    record old { book = book; moments = ms } in s)
+    (sym (ap (λ (s : SeatToken Identity). s.moments) e))
+
 -- a reader stays own while its seat is lent to a call that changes no more than the seat's book and
 -- its changes
 pub stays_own : (old new : SeatToken Identity) (book : Book) (author : Author)
     → new ≡ record old { book = book; author = author } → StaysOwn old new
 stays_own old new book author same reading slot asked own =
+    subst (λ (s : SeatToken Identity). IsOwn (hold reading s slot asked)) (sym same)
+    (record { low = own.low; high = own.high; slot = own.slot; name = own.name })
+
+-- the same of a call that changes no more than the seat's book and the moments that it has noted
+pub stays_noted : (old new : SeatToken Identity) (book : Book) (moments : List (Moment Identity))
+    → new ≡ record old { book = book; moments = moments } → StaysOwn old new
+stays_noted old new book moments same reading slot asked own =
     subst (λ (s : SeatToken Identity). IsOwn (hold reading s slot asked)) (sym same)
     (record { low = own.low; high = own.high; slot = own.slot; name = own.name })
 
@@ -265,14 +291,16 @@ new_reader o board book q mv port backlog s = record {
 -- what slots answered before a seat met the keeper, those after it answer as well
 pub answered_over : (old under : ServerSlots) (start : State) (was now : SeatToken Identity)
     (port backlog : ℕ) (result : Result ReaderHold Refusal) → SameButKnown old under
-    → AreConsistent under under.keeper.book → now ≡ record was { book = old.keeper.book }
-    → old.openings ≤ start.limit → IsOpeningTabled old start.limit port backlog result
+    → AreConsistent under under.keeper.book
+    → now ≡ record was { book = old.keeper.book; moments = now.moments }
+    → HasNoted was now under → old.openings ≤ start.limit
+    → IsOpeningTabled old start.limit port backlog result
     → IfOk result (λ (r : ReaderHold).
     (j : ℕ) → 0 < j → j < r.slot → IsSome (slot_in old.subscriptions.items j))
     → IfOk result (λ (r : ReaderHold). r.reading.port.floor.book.value ≡ under.keeper)
-    → IsAnsweredOver under start now.book port backlog result
-answered_over old under start was now port backlog result same stands seat within table lowest
-    keeper =
+    → IsAnsweredOver under start was now port backlog result
+answered_over old under start was now port backlog result same stands seat noted within table
+    lowest keeper =
     let keeps : under.keeper.book ≡ now.book =
     same.book ∙ sym (ap (λ (s : SeatToken Identity). s.book) seat) in
     let items : old.subscriptions.items ≡ under.subscriptions.items =
@@ -287,6 +315,7 @@ answered_over old under start was now port backlog result same stands seat withi
     record {
       keeps = keeps;
       stands = subst (AreConsistent under) keeps stands;
+      noted = noted;
       openings = subst (λ (n : ℕ). n ≤ start.limit) (sym same.openings) within;
       table = subst (IsRefusedBy result) tests table;
       lowest = subst

@@ -22,6 +22,7 @@ leading_seat board start =
       asks = 0;
       name = None;
       author = leader;
+      moments = [];
     }
 
 -- an accepted call: its change, its answer, and what its seat knew before and after it

@@ -1,10 +1,11 @@
 -- A reader that was just opened.
-use Rattle.std.specs.Prelude.{◌≡◌, ◌≤◌, ◌<◌, ℕ, Bool, false, IfOk, IsSome, Result}
+use Rattle.std.specs.Prelude.{◌≡◌, ◌≤◌, ◌<◌, [], ◌∷◌, ◌++◌, ℕ, Bool, false, IfOk, IsSome, Result}
 use Rattle.lq_value.specs.declared.refusal.Refusal.{Refusal}
 use Rattle.lq_predicate.specs.Query.{Query}
 use Rattle.lq_volume.specs.State.{State}
 use Rattle.lq_volume.specs.Book.{Book}
-use Rattle.lq_board.specs.Token.{BoardName}
+use Rattle.lq_board.specs.Token.{BoardName, SeatToken, moment_of}
+use Rattle.lq_server_slots.specs.declared.identity.Identity.{Identity}
 use Rattle.lq_server_slots.specs.declared.open.Opened.{Opened}
 use Rattle.lq_server_slots.specs.declared.slots.ServerSlots.{ServerSlots}
 use Rattle.lq_server_slots.specs.Opening.{IsOpened, IsOpeningTabled}
@@ -23,13 +24,22 @@ pub record IsNewReader (r : ReaderHold) (board : BoardName) (book : Book) (q : Q
   pub hang_up_asked : r.hang_up_asked ≡ false
   pub opened : IsOpened (opened_of r) board book q mv port backlog
 
--- Over these slots an opening is answered so. They stand over this book, no more were opened than
--- the limit, and a slot that is given is the lowest that is free. Then they are those of the keeper
--- that the reader's floor has, so which of them are taken is what the keeper knew.
-pub record IsAnsweredOver (under : ServerSlots) (start : State) (book : Book) (port backlog : ℕ)
-    (result : Result ReaderHold Refusal) : Type 0 where
-  pub keeps : under.keeper.book ≡ book
-  pub stands : AreConsistent under book
+-- The seat, `old` before and `new` after, has noted one moment more: that of the keeper of these
+-- slots, which has counted their openings.
+pub record HasNoted (old new : SeatToken Identity) (under : ServerSlots) : Type 0 where
+  pub moments : new.moments ≡ old.moments ++ moment_of under.keeper ∷ []
+  pub counted : under.openings ≡ under.keeper.register.openings
+
+-- Over these slots an opening by this seat is answered so, whether it is refused or not. They stand
+-- over the book that the seat then knows, no more were opened than the limit, and a slot that is
+-- given is the lowest that is free. They are those of the keeper whose moment the seat has noted in
+-- the call, which is the one that the reader's floor has: so which of them are taken is what that
+-- keeper knew, and the openings are those that it had counted.
+pub record IsAnsweredOver (under : ServerSlots) (start : State) (old new : SeatToken Identity)
+    (port backlog : ℕ) (result : Result ReaderHold Refusal) : Type 0 where
+  pub keeps : under.keeper.book ≡ new.book
+  pub stands : AreConsistent under new.book
+  pub noted : HasNoted old new under
   pub openings : under.openings ≤ start.limit
   pub table : IsOpeningTabled under start.limit port backlog result
   pub lowest : IfOk result (λ r.

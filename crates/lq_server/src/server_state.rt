@@ -1,9 +1,10 @@
 //! The state under the lock.
-ghost use Rattle.std.specs.Prelude.{◌≡◌, ◌+◌, ◌-◌, ◌<◌, ◌≤◌, [], length, IfOk, IfErr, OnOk, OnErr};
+ghost use Rattle.std.specs.Prelude.{◌≡◌, ◌+◌, ◌-◌, ◌<◌, ◌≤◌, [], ◌∷◌, ◌++◌, length, IfOk, IfErr, OnOk, OnErr};
 ghost use Rattle.lq_value.specs.declared.refusal.Refusal.TheVariants.{NoSeat};
 ghost use Rattle.lq_volume.specs.Book.{Extends, state_of};
 ghost use Rattle.lq_board.specs.Book.{IsFullBook};
 ghost use Rattle.lq_board.specs.Slot.{slot_at};
+ghost use Rattle.lq_board.specs.Token.{moment_of};
 ghost use Rattle.lq_server_slots.specs.Slots.{SameButKnown, AreConsistent};
 
 mod subscriptions;
@@ -73,7 +74,8 @@ impl<N: Named> Model for ServerState<N> {
         × (l.slots.keeper.book.start ≡ N.start)
         × (l.volume.limit ≡ N.start.limit)
         × (l.slots.openings ≤ l.volume.limit)
-        × AreConsistent l.slots l.slots.keeper.book };
+        × AreConsistent l.slots l.slots.keeper.book
+        × (l.slots.openings ≡ l.slots.keeper.register.openings) };
 }
 
 impl<N: Named> ServerState<N> {
@@ -84,6 +86,7 @@ impl<N: Named> ServerState<N> {
         requires full { IsFullBook slots.keeper.book }
         requires start { (slots.keeper.book.start ≡ N.start) × (volume.limit ≡ N.start.limit) }
         requires openings { slots.openings ≡ 0 }
+        requires counted { slots.keeper.register.openings ≡ 0 }
         requires holding { AreConsistent slots slots.keeper.book }
         ensures slots { result.slots ≡ slots }
         ensures seats { result.seats ≡ 0 }
@@ -151,6 +154,21 @@ impl<N: Named> ServerState<N> {
             return board.meet(&mut self.slots.keeper, seat);
         }
         meet_in(board, &mut self.slots, seat)
+    }
+
+    // As `meet`, and the seat notes this moment of the keeper, for contracts alone.
+    fn note(&mut self, board: &Board<Identity>, seat: &mut Seat<Identity>)
+        requires { (board.now ≡ N.board) × (seat.old.board ≡ N.board) }
+        ensures same { SameButKnown self.old.slots self.new.slots }
+        ensures seat { seat.new ≡ record seat.old {
+          book = self.old.slots.keeper.book;
+          moments = seat.old.moments ++ moment_of self.new.slots.keeper ∷ [];
+        } }
+        ensures later { Extends seat.new.book seat.old.book }
+        ensures seats { self.new.seats ≡ self.old.seats }
+    {
+        self.meet(board, seat);
+        board.note(&mut self.slots.keeper, seat);
     }
 
     /// The keeper and the volume.

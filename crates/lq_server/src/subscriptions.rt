@@ -24,7 +24,8 @@ impl<N: Named> Server<N> {
     ///
     /// The port has `port` places, 1 to 1,024. At most `backlog` messages are held before it, up to
     /// 65,536. With `moved`, one message reports a move of an entry that matches before and after
-    /// it. The seat then knows the book that the reader begins with. Refused, the first that fits:
+    /// it. The seat then knows the book that the reader begins with, and has noted which slots were
+    /// out and how many openings there were. Refused, the first that fits by what it has noted:
     /// `BadPort`, `BadBacklog`, `NoSlot` where 64 are taken, `Exhausted` where the openings have
     /// reached the volume's limit on changes, `NoMemory`.
     pub fn open<R: Wait>(
@@ -37,7 +38,10 @@ impl<N: Named> Server<N> {
         moved: bool,
     ) -> Result<Reader, Refusal>
         requires { seat.old.board ≡ N.board }
-        ensures seat { seat.new ≡ record seat.old { book = seat.new.book } }
+        ensures seat { seat.new ≡ record seat.old {
+          book = seat.new.book;
+          moments = seat.new.moments;
+        } }
         ensures own { StaysOwn seat.old seat.new }
         ensures later { Extends seat.new.book seat.old.book }
         ensures opened { IfOk result (λ r.
@@ -47,9 +51,10 @@ impl<N: Named> Server<N> {
         ensures refused { IfSome (size_refusal port backlog) (λ e. result ≡ Err e) }
         ensures others { IfNone (size_refusal port backlog) (IfErr result IsOpeningRefused) }
 
-        // The first that fits, by the slots that stood under the lock then, and no other.
+        // The first that fits and no other, by the slots that stood under the lock in this call: the
+        // seat has noted their keeper, also where it is refused.
         ensures table { (under : SlotsOf)
-            × IsAnsweredOver under N.start seat.new.book port backlog result }
+            × IsAnsweredOver under N.start seat.old seat.new port backlog result }
     {
         let asked = OpenRequest {
             predicate,

@@ -41,6 +41,7 @@ pub record IsPrepared (v : State) (change : Change) (result : Result (Unit {0}) 
   pub ready : OnOk result (AllReady new.subscriptions.items v change)
   pub noticed : OnOk result (SlotsAre IsNoticed new.subscriptions.items new.keeper.slots)
   pub board : new.keeper.board ≡ old.keeper.board
+  pub counted : new.keeper.register.openings ≡ old.keeper.register.openings
   pub book : new.keeper.book ≡ old.keeper.book
   pub openings : new.openings ≡ old.openings
   pub holding : AreConsistent new new.keeper.book

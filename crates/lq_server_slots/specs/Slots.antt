@@ -121,9 +121,10 @@ pub record AreUnchanged (old new : ServerSlots) : Type 0 where
   pub taken : new.taken.items ≡ old.taken.items
   pub openings : new.openings ≡ old.openings
 
--- only what the keeper knows of the slots may differ
+-- only what the keeper knows of the slots may differ, and how many seats have a number
 pub record SameButKnown (old new : ServerSlots) : Type 0 where
   pub board : new.keeper.board ≡ old.keeper.board
+  pub counted : new.keeper.register.openings ≡ old.keeper.register.openings
   pub book : new.keeper.book ≡ old.keeper.book
   pub subscriptions : new.subscriptions ≡ old.subscriptions
   pub taken : new.taken.items ≡ old.taken.items

@@ -46,6 +46,8 @@ pub fn change_in<R: Wait>(
     ensures made { IsChangeMade change.now result volume.old volume.new
         slots.old.keeper.book slots.new.keeper.book seat.old seat.new }
     ensures board { slots.new.keeper.board ≡ slots.old.keeper.board }
+    ensures counted { slots.new.keeper.register.openings
+        ≡ slots.old.keeper.register.openings }
     ensures openings { slots.new.openings ≡ slots.old.openings }
     ensures stands { IsConsistentWith slots.new volume.new }
     ensures served { SlotsAre IsServed slots.new.subscriptions.items slots.new.keeper.slots }
@@ -88,6 +90,8 @@ fn add(
     ensures noticed { OnOk result
         (SlotsAre IsNoticed slots.new.subscriptions.items slots.new.keeper.slots) }
     ensures board { slots.new.keeper.board ≡ slots.old.keeper.board }
+    ensures counted { slots.new.keeper.register.openings
+        ≡ slots.old.keeper.register.openings }
     ensures openings { slots.new.openings ≡ slots.old.openings }
     ensures volume { volume.new ≡ state_of slots.new.keeper.book }
     ensures full { IsFullBook slots.new.keeper.book }

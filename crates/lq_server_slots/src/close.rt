@@ -34,6 +34,7 @@ fn close_slot(
     ensures closes { result ≡ true → (name_or seat.old.name).first_close ≡ Never }
     ensures late { slot.old.asks < seat.old.asks → result ≡ false }
     ensures board { keeper.new.board ≡ keeper.old.board }
+    ensures counted { keeper.new.register.openings ≡ keeper.old.register.openings }
     ensures book { keeper.new.book ≡ keeper.old.book }
     ensures only { OnlyAt keeper.old.slots keeper.new.slots seat.old.slot }
     ensures taken { IsTakenSlot slot.new (slot_at keeper.new.slots seat.old.slot) keeper.new.book }
@@ -63,6 +64,7 @@ fn end_slot(
     ensures closes { result ≡ true → (name_or seat.old.name).first_close ≡ Never }
     ensures late { IsSome slot.old.sub.held.mark → result ≡ false }
     ensures board { keeper.new.board ≡ keeper.old.board }
+    ensures counted { keeper.new.register.openings ≡ keeper.old.register.openings }
     ensures book { keeper.new.book ≡ keeper.old.book }
     ensures only { OnlyAt keeper.old.slots keeper.new.slots seat.old.slot }
     ensures taken { IsTakenSlot slot.new (slot_at keeper.new.slots seat.old.slot) keeper.new.book }
@@ -94,6 +96,7 @@ fn close_at(
     requires fits { SlotStands slot.old (slot_at keeper.old.slots seat.old.slot) keeper.old.book }
     ensures closed { IsClosed keeper.old.book seat.old seat.new result }
     ensures board { keeper.new.board ≡ keeper.old.board }
+    ensures counted { keeper.new.register.openings ≡ keeper.old.register.openings }
     ensures book { keeper.new.book ≡ keeper.old.book }
     ensures only { OnlyAt keeper.old.slots keeper.new.slots seat.old.slot }
     ensures fits { SlotStands slot.new (slot_at keeper.new.slots seat.old.slot) keeper.new.book }
@@ -123,6 +126,8 @@ pub fn close_in(
     requires holding { AreConsistent slots.old slots.old.keeper.book }
     ensures closed { IsClosed slots.old.keeper.book seat.old seat.new result }
     ensures board { slots.new.keeper.board ≡ slots.old.keeper.board }
+    ensures counted { slots.new.keeper.register.openings
+        ≡ slots.old.keeper.register.openings }
     ensures book { slots.new.keeper.book ≡ slots.old.keeper.book }
     ensures openings { slots.new.openings ≡ slots.old.openings }
     ensures holding { AreConsistent slots.new slots.new.keeper.book }
@@ -145,6 +150,7 @@ fn free_at(
     requires seat { IsSomeAnd seat.name (λ t. seat.asks ≡ asks_after t.asks asked) }
     requires fits { SlotStands slot.old (slot_at keeper.old.slots seat.slot) keeper.old.book }
     ensures board { keeper.new.board ≡ keeper.old.board }
+    ensures counted { keeper.new.register.openings ≡ keeper.old.register.openings }
     ensures book { keeper.new.book ≡ keeper.old.book }
     ensures only { OnlyAt keeper.old.slots keeper.new.slots seat.slot }
     ensures taken { IsSome slot.old }
@@ -191,6 +197,8 @@ pub fn free_in(board: &Board<Identity>, slots: &mut ServerSlots, seat: Seat<Iden
         × IsSomeAnd seat.name (λ t. seat.asks ≡ asks_after t.asks asked) }
     requires holding { AreConsistent slots.old slots.old.keeper.book }
     ensures board { slots.new.keeper.board ≡ slots.old.keeper.board }
+    ensures counted { slots.new.keeper.register.openings
+        ≡ slots.old.keeper.register.openings }
     ensures book { slots.new.keeper.book ≡ slots.old.keeper.book }
     ensures openings { slots.new.openings ≡ slots.old.openings }
     ensures holding { AreConsistent slots.new slots.new.keeper.book }

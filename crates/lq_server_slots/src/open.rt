@@ -1,5 +1,5 @@
 //! An opening under the lock.
-ghost use Rattle.std.specs.Prelude.{◌≡◌, ◌+◌, ◌<◌, ◌≤◌, length, ℕ, IfOk, IfErr, OnOk, OnErr, IfSome, IfNone, IsSome, is_none, Some, None, Err, false};
+ghost use Rattle.std.specs.Prelude.{◌≡◌, ◌+◌, ◌<◌, ◌≤◌, [], length, ℕ, IfOk, IfErr, OnOk, OnErr, IfSome, IfNone, IsSome, is_none, Some, None, Err, false};
 ghost use Rattle.lq_value.specs.Refusal.{FailsOnlyForMemory};
 ghost use Rattle.lq_volume.specs.Book.{state_of};
 ghost use Rattle.lq_board.specs.Author.{new_author};
@@ -116,6 +116,7 @@ fn sit_named(
     requires place { (0 < place) × (place < 65) }
     requires free { (slot_at keeper.old.slots place).out ≡ false }
     ensures board { keeper.new.board ≡ keeper.old.board }
+    ensures counted { keeper.new.register.openings ≡ keeper.old.register.openings + 1 }
     ensures book { keeper.new.book ≡ keeper.old.book }
     ensures slots { keeper.new.slots
         ≡ gone_out keeper.old.slots place (Some (identity_of slot.now)) }
@@ -126,6 +127,7 @@ fn sit_named(
       asks = (slot_at keeper.old.slots place).asks;
       name = Some (identity_of slot.now);
       author = new_author keeper.old.register;
+      moments = [];
     } }
     ensures signs { result.author.signs ≡ keeper.old.board.free }
 {
@@ -145,6 +147,7 @@ fn sit(
     requires place { (0 < place) × (place < 65) }
     requires free { (slot_at keeper.old.slots place).out ≡ false }
     ensures board { keeper.new.board ≡ keeper.old.board }
+    ensures counted { keeper.new.register.openings ≡ keeper.old.register.openings + 1 }
     ensures book { keeper.new.book ≡ keeper.old.book }
     ensures slots { keeper.new.slots
         ≡ gone_out keeper.old.slots place (Some (identity_of slot.now)) }
@@ -155,6 +158,7 @@ fn sit(
       asks = (slot_at keeper.old.slots place).asks;
       name = Some (identity_of slot.now);
       author = new_author keeper.old.register;
+      moments = [];
     } }
     ensures signs { result.author.signs ≡ keeper.old.board.free }
 {
@@ -180,6 +184,8 @@ fn settle(
     ensures refused { FailsOnlyForMemory result }
     ensures err { OnErr result (AreUnchanged slots.old slots.new) }
     ensures board { slots.new.keeper.board ≡ slots.old.keeper.board }
+    ensures counted { OnOk result (slots.new.keeper.register.openings
+        ≡ slots.old.keeper.register.openings + 1) }
     ensures book { slots.new.keeper.book ≡ slots.old.keeper.book }
     ensures openings { OnOk result (slots.new.openings ≡ slots.old.openings + 1) }
     ensures holding { AreConsistent slots.new slots.new.keeper.book }
@@ -219,6 +225,8 @@ pub fn open_in(
     requires stands { IsConsistentWith slots.old volume.now }
     requires limit { slots.old.openings ≤ volume.now.limit }
     ensures board { slots.new.keeper.board ≡ slots.old.keeper.board }
+    ensures counted { OnOk result (slots.new.keeper.register.openings
+        ≡ slots.old.keeper.register.openings + 1) }
     ensures book { slots.new.keeper.book ≡ slots.old.keeper.book }
     ensures limit { slots.new.openings ≤ volume.now.limit }
     ensures openings { OnOk result (slots.new.openings ≡ slots.old.openings + 1) }

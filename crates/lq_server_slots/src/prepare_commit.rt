@@ -28,6 +28,7 @@ fn ready_at(
     requires fits { SlotStands slot.old (slot_at keeper.old.slots place) keeper.old.book }
     ensures refused { FailsOnlyForMemory result }
     ensures board { keeper.new.board ≡ keeper.old.board }
+    ensures counted { keeper.new.register.openings ≡ keeper.old.register.openings }
     ensures book { keeper.new.book ≡ keeper.old.book }
     ensures only { OnlyAt keeper.old.slots keeper.new.slots place }
     ensures fits { SlotStands slot.new (slot_at keeper.new.slots place) keeper.new.book }
@@ -59,6 +60,8 @@ pub(crate) fn ready_all(
     requires holding { AreConsistent slots.old slots.old.keeper.book }
     ensures refused { FailsOnlyForMemory result }
     ensures board { slots.new.keeper.board ≡ slots.old.keeper.board }
+    ensures counted { slots.new.keeper.register.openings
+        ≡ slots.old.keeper.register.openings }
     ensures book { slots.new.keeper.book ≡ slots.old.keeper.book }
     ensures openings { slots.new.openings ≡ slots.old.openings }
     ensures holding { AreConsistent slots.new slots.new.keeper.book }

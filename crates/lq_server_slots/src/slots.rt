@@ -77,6 +77,7 @@ pub(crate) fn notice_slot(
     requires number { number ≡ length keeper.old.book.changes }
     requires taken { IsTakenSlot slot.old (slot_at keeper.old.slots place) keeper.old.book }
     ensures board { keeper.new.board ≡ keeper.old.board }
+    ensures counted { keeper.new.register.openings ≡ keeper.old.register.openings }
     ensures book { keeper.new.book ≡ keeper.old.book }
     ensures slots { keeper.new.slots ≡ counted keeper.old.slots place result }
     ensures asks { (slot_at keeper.old.slots place).asks ≤ result }
@@ -118,6 +119,7 @@ fn serve_at<R: Wait>(
     requires number { number ≡ length keeper.old.book.changes }
     requires fits { SlotStands slot.old (slot_at keeper.old.slots place) keeper.old.book }
     ensures board { keeper.new.board ≡ keeper.old.board }
+    ensures counted { keeper.new.register.openings ≡ keeper.old.register.openings }
     ensures book { keeper.new.book ≡ keeper.old.book }
     ensures only { OnlyAt keeper.old.slots keeper.new.slots place }
     ensures fits { SlotStands slot.new (slot_at keeper.new.slots place) keeper.new.book }
@@ -143,6 +145,8 @@ pub(crate) fn serve_all<R: Wait>(
     requires number { number ≡ length slots.old.keeper.book.changes }
     requires holding { AreConsistent slots.old slots.old.keeper.book }
     ensures board { slots.new.keeper.board ≡ slots.old.keeper.board }
+    ensures counted { slots.new.keeper.register.openings
+        ≡ slots.old.keeper.register.openings }
     ensures book { slots.new.keeper.book ≡ slots.old.keeper.book }
     ensures openings { slots.new.openings ≡ slots.old.openings }
     ensures holding { AreConsistent slots.new slots.new.keeper.book }

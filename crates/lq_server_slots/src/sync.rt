@@ -42,6 +42,7 @@ pub(crate) fn meet_same(
     requires named { IsSome seat.old.name }
     requires wide { length keeper.old.slots ≡ 65 }
     ensures board { keeper.new.board ≡ keeper.old.board }
+    ensures counted { keeper.new.register.openings ≡ keeper.old.register.openings }
     ensures book { keeper.new.book ≡ keeper.old.book }
     ensures only { OnlyAt keeper.old.slots keeper.new.slots seat.old.slot }
     ensures place { slot_at keeper.new.slots seat.old.slot
@@ -69,6 +70,7 @@ fn meet_named(
     requires slot { (0 < seat.old.slot) × (seat.old.slot < 65) }
     requires wide { length keeper.old.slots ≡ 65 }
     ensures board { keeper.new.board ≡ keeper.old.board }
+    ensures counted { keeper.new.register.openings ≡ keeper.old.register.openings }
     ensures book { keeper.new.book ≡ keeper.old.book }
     ensures only { OnlyAt keeper.old.slots keeper.new.slots seat.old.slot }
     ensures place { slot_at keeper.new.slots seat.old.slot
@@ -95,6 +97,7 @@ pub(crate) fn meet_under(
     requires slot { (0 < seat.old.slot) × (seat.old.slot < 65) }
     requires wide { length keeper.old.slots ≡ 65 }
     ensures board { keeper.new.board ≡ keeper.old.board }
+    ensures counted { keeper.new.register.openings ≡ keeper.old.register.openings }
     ensures book { keeper.new.book ≡ keeper.old.book }
     ensures only { OnlyAt keeper.old.slots keeper.new.slots seat.old.slot }
     ensures place { slot_at keeper.new.slots seat.old.slot
@@ -123,6 +126,7 @@ pub(crate) fn notice_by(
     requires taken { IsTakenSlot slot.old (slot_at keeper.old.slots seat.now.slot) keeper.old.book }
     requires known { (slot_at keeper.old.slots seat.now.slot).asks ≡ seat.now.asks }
     ensures board { keeper.new.board ≡ keeper.old.board }
+    ensures counted { keeper.new.register.openings ≡ keeper.old.register.openings }
     ensures book { keeper.new.book ≡ keeper.old.book }
     ensures only { OnlyAt keeper.old.slots keeper.new.slots seat.now.slot }
     ensures taken { IsTakenSlot slot.new (slot_at keeper.new.slots seat.now.slot) keeper.new.book }
@@ -185,6 +189,7 @@ fn sync_at<R: Wait>(
     requires seat { IsSomeAnd seat.old.name (λ t. IdentityFits t reading.old.port) }
     requires fits { SlotStands slot.old (slot_at keeper.old.slots seat.old.slot) keeper.old.book }
     ensures board { keeper.new.board ≡ keeper.old.board }
+    ensures counted { keeper.new.register.openings ≡ keeper.old.register.openings }
     ensures book { keeper.new.book ≡ keeper.old.book }
     ensures only { OnlyAt keeper.old.slots keeper.new.slots seat.old.slot }
     ensures fits { SlotStands slot.new (slot_at keeper.new.slots seat.old.slot) keeper.new.book }
@@ -217,6 +222,7 @@ fn meet_slot_at(
     requires fits { SlotStands slot.now (slot_at keeper.old.slots seat.old.slot) keeper.old.book }
     ensures number { result ≡ length keeper.old.book.changes }
     ensures board { keeper.new.board ≡ keeper.old.board }
+    ensures counted { keeper.new.register.openings ≡ keeper.old.register.openings }
     ensures book { keeper.new.book ≡ keeper.old.book }
     ensures only { OnlyAt keeper.old.slots keeper.new.slots seat.old.slot }
     ensures fits { SlotStands slot.now (slot_at keeper.new.slots seat.old.slot) keeper.new.book }
@@ -260,6 +266,8 @@ pub fn sync_in<R: Wait>(
         × IsSomeAnd seat.old.name (λ t. IdentityFits t reading.old.port) }
     requires holding { AreConsistent slots.old slots.old.keeper.book }
     ensures board { slots.new.keeper.board ≡ slots.old.keeper.board }
+    ensures counted { slots.new.keeper.register.openings
+        ≡ slots.old.keeper.register.openings }
     ensures book { slots.new.keeper.book ≡ slots.old.keeper.book }
     ensures openings { slots.new.openings ≡ slots.old.openings }
     ensures holding { AreConsistent slots.new slots.new.keeper.book }

@@ -23,7 +23,10 @@ fn open<N: Named, R: Wait>(
     port: u64,
 ) -> Result<Reader, Refusal>
     requires { seat.old.board ≡ N.board }
-    ensures seat { seat.new ≡ record seat.old { book = seat.new.book } }
+    ensures seat { seat.new ≡ record seat.old {
+      book = seat.new.book;
+      moments = seat.new.moments;
+    } }
     ensures own { StaysOwn seat.old seat.new }
     ensures reader { IfOk result (λ r. (r.seat.board ≡ N.board) × IsOwn r
         × (r.seat.author.signs ≡ N.board.free) × (r.seat.author.changes ≡ [])) }

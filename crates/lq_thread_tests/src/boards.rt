@@ -18,6 +18,7 @@ fn words(alloc: Global) -> Result<[u64; 6], Refusal> {
     board.ask(&mut slot_seat);
     let asks = board.asks(&mut keeper, 1);
     let met = board.meet(&mut keeper, &mut seat);
+    board.note(&mut keeper, &mut seat);
     let slot_met = board.meet_slot(&mut keeper, &mut slot_seat);
     board.join(&mut keeper, slot_seat);
     Ok([

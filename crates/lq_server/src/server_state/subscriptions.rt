@@ -7,6 +7,7 @@ ghost use Rattle.lq_server_slots.specs.Slots.{SameButKnown, AreConsistent, slot_
 ghost use Rattle.lq_server_slots.specs.Opening.{IsOpened, IsOpeningAnswer, IdentityFits, asks_after};
 ghost use Rattle.lq_server_slots.specs.Progress.{ShowsProgress};
 ghost use Rattle.lq_server.specs.Closed.{IsClosing};
+ghost use Rattle.lq_server.specs.Opened.{HasNoted};
 
 use crate::server_base::Named;
 use crate::server_state::ServerState;
@@ -18,7 +19,8 @@ use lq_value::Refusal;
 use std::sync::Wait;
 
 impl<N: Named> ServerState<N> {
-    /// Opens a live query in the lowest free slot, over the book that the seat then knows.
+    /// Opens a live query in the lowest free slot, over the book that the seat then knows. The seat
+    /// notes the moment of the keeper.
     ///
     /// The port has `asked.port` places, 1 to 1,024. At most `asked.backlog` messages are held
     /// before it, up to 65,536. `asked.moved` asks for moved entries too. Refused, the first that
@@ -33,7 +35,10 @@ impl<N: Named> ServerState<N> {
     ) -> Result<Opened, Refusal>
         requires { (board.now ≡ N.board) × (seat.old.board ≡ N.board) }
         ensures book { self.new.slots.keeper.book ≡ self.old.slots.keeper.book }
-        ensures seat { seat.new ≡ record seat.old { book = self.old.slots.keeper.book } }
+        ensures seat { seat.new ≡ record seat.old {
+          book = self.old.slots.keeper.book;
+          moments = seat.new.moments;
+        } }
         ensures seats { self.new.seats ≡ self.old.seats }
         ensures later { Extends seat.new.book seat.old.book }
         ensures opened { IfOk result (λ o.
@@ -42,16 +47,17 @@ impl<N: Named> ServerState<N> {
         ensures counted { OnOk result (self.new.slots.openings ≡ self.old.slots.openings + 1) }
         ensures err { OnErr result (SameButKnown self.old.slots self.new.slots) }
 
-        // The first refusal that fits and no other, or the lowest free slot, by the keeper that the
-        // reader's floor has.
+        // The first refusal that fits and no other, or the lowest free slot, by the keeper whose
+        // moment the seat has noted. It is the one that the reader's floor has.
         ensures over { (under : SlotsOf) × SameButKnown self.old.slots under
             × AreConsistent under under.keeper.book
+            × HasNoted seat.old seat.new under
             × IfOk result (λ o. o.reading.port.floor.book.value ≡ under.keeper) }
         ensures within { self.old.slots.openings ≤ N.start.limit }
         ensures answered { IsOpeningAnswer self.old.slots N.start.limit asked.now.port
             asked.now.backlog result }
     {
-        self.meet(board, seat);
+        self.note(board, seat);
         open_in(self.alloc, board, &mut self.slots, &self.volume, asked)
     }
 

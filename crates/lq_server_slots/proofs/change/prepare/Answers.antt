@@ -7,6 +7,7 @@ returns-in_err-check c = record {
   ready = search rules;
   noticed = search rules;
   board = refl;
+  counted = refl;
   book = refl;
   openings = refl;
   holding = c.requires.holding;

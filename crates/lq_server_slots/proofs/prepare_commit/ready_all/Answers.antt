@@ -39,6 +39,7 @@ loop-index-preserved c =
           (omega (arith, i.3, c.loop-index-test.true)) p.value f.only f.noticed i.6,
       asks_rise c.args.slots.now.keeper.slots was.keeper.slots c.ready_at.new.keeper.slots
           place f.only f.rises i.7,
+      f.counted ∙ i.8,
     )
 
 pub returns-clause-noticed : goal.returns-clause-noticed

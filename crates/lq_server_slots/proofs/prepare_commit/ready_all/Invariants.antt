@@ -18,3 +18,4 @@ invariant-loop-index l =
     (slot_at l.slots.keeper.slots (taken_slot l.slots.taken.items j)))
     × ((k : ℕ) → (slot_at l.fn.slots.keeper.slots k).asks
     ≤ (slot_at l.slots.keeper.slots k).asks)
+    × (l.slots.keeper.register.openings ≡ l.fn.slots.keeper.register.openings)

@@ -22,6 +22,7 @@ loop-index-preserved g c =
       slots_are-more IsServed was.taken.items was.subscriptions.items was.keeper.slots
           c.serve_at.new.keeper.slots c.loop-index.index place c.serve_at.new.slot i.4.1 i.4.0.wide
           (omega (arith, i.3, c.loop-index-test.true)) p.value f.only f.served i.5,
+      f.counted ∙ i.6,
     )
 
 pub returns-clause-served : goal.returns-clause-served

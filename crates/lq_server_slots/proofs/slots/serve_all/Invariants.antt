@@ -13,3 +13,4 @@ invariant-loop-index g l =
     × ((j : ℕ) → j < l.index → j < length l.slots.taken.items
     → SlotIs IsServed (slot_in l.slots.subscriptions.items (taken_slot l.slots.taken.items j))
     (slot_at l.slots.keeper.slots (taken_slot l.slots.taken.items j)))
+    × (l.slots.keeper.register.openings ≡ l.fn.slots.keeper.register.openings)

@@ -1,7 +1,7 @@
 use Rattle.std.proofs.Common.{Option, Some, None, Ok, false, rules}
 use Rattle.std.specs.Prelude.{IfNone}
 use Rattle.lq_server_slots.specs.Opening.{size_refusal}
-use Rattle.lq_server.proofs.OwnLemmas.{hold, new_reader, answered_over, stays_own}
+use Rattle.lq_server.proofs.OwnLemmas.{hold, new_reader, answered_over, stays_noted, seat_knows}
 use Rattle.lq_server.proofs.server.Server.open.Goals as goal
 
 -- what is so anyway is so where nothing is there
@@ -25,8 +25,8 @@ returns-in_err-opened-clause-table g c =
       f.over.0,
       answered_over _ f.over.0 g.N.Named.start c.args.seat.now c.open.new.seat c.args.port
           c.args.backlog
-          c.from_residual.result f.over.1 f.over.2 f.seat f.within (search rules) (search rules)
-          (search rules),
+          c.from_residual.result f.over.1 f.over.2 f.seat f.over.3 f.within (search rules)
+          (search rules) (search rules),
     )
 
 pub returns-clause-table : goal.returns-clause-table
@@ -37,14 +37,22 @@ returns-clause-table g c =
       a.over.0,
       answered_over _ a.over.0 g.N.Named.start c.args.seat.now c.open.new.seat c.args.port
           c.args.backlog
-          (Ok (hold o.reading o.seat o.slot false)) a.over.1 a.over.2 f.seat f.within
-          a.answered.table a.answered.lowest a.over.3,
+          (Ok (hold o.reading o.seat o.slot false)) a.over.1 a.over.2 f.seat a.over.3 f.within
+          a.answered.table a.answered.lowest a.over.4,
     )
 
 pub returns-clause-own : goal.returns-clause-own
 returns-clause-own g c =
-    stays_own c.args.seat.now c.open.new.seat _ c.args.seat.now.author c.open.ensures.seat
+    stays_noted c.args.seat.now c.open.new.seat _ c.open.new.seat.moments c.open.ensures.seat
 
 pub returns-in_err-opened-clause-own : goal.returns-in_err-opened-clause-own
 returns-in_err-opened-clause-own g c =
-    stays_own c.args.seat.now c.open.new.seat _ c.args.seat.now.author c.open.ensures.seat
+    stays_noted c.args.seat.now c.open.new.seat _ c.open.new.seat.moments c.open.ensures.seat
+
+pub returns-clause-seat : goal.returns-clause-seat
+returns-clause-seat g c =
+    seat_knows c.args.seat.now c.open.new.seat _ c.open.new.seat.moments c.open.ensures.seat
+
+pub returns-in_err-opened-clause-seat : goal.returns-in_err-opened-clause-seat
+returns-in_err-opened-clause-seat g c =
+    seat_knows c.args.seat.now c.open.new.seat _ c.open.new.seat.moments c.open.ensures.seat
