@@ -3,7 +3,7 @@ use Rattle.std.proofs.Common.{arith, ◌≡◌, ◌⊎◌, ◌≤◌, ℕ, inl, 
 use Rattle.lq_script_lines.specs.Words.{IsAskedBy, texts_of}
 use Rattle.lq_script_lines.specs.declared.run_fault.RunFault.{RunFault}
 use Rattle.lq_script_lines.specs.declared.run_fault.RunFault.TheVariants.{Memory, Write}
-use Rattle.lq_script.specs.Written.{IsRunFault}
+use Rattle.lq_script.specs.Written.{IsRunFault, WritesOrFails, fault_line}
 use Rattle.lq_script.proofs.OutcomeLemmas.{after_check, after_run, after_usage, never_began, without_memory}
 use Rattle.lq_script.proofs.arguments.program.Goals as goal
 
@@ -30,12 +30,27 @@ one_fault f g (inr b) = (Write, g b)
 pub returns-in-Ok-Check : goal.returns-in-Ok-Check
 returns-in-Ok-Check g c =
     let said = c.check_formula.ensures in
+    let words = texts_of c.args.words.now in
     let now = c.args.reader.now in
     let old = c.args.writer.now in
+    let new = c.check_formula.new.writer in
+    let told = c.check_formula.new.faults in
+    let fault_of : c.check_formula.result ≡ 1 → (fault : RunFault)
+    × (WritesOrFails (fault_line fault) (g.F.Sink.written c.args.faults.now)
+    (g.F.Sink.written told) (g.F.Sink.failed told) (g.F.Sink.stalled told)
+    × IsRunFault fault (g.R.Source.left now) (g.R.Source.left now) (g.R.Source.failed now)
+    (g.W.Sink.written old) (g.W.Sink.written new) (g.W.Sink.failed new) (g.W.Sink.stalled new)) =
+    λ one. one_fault (λ memory. (
+      memory.0,
+      subst
+          (λ writer. IsRunFault Memory (g.R.Source.left now) (g.R.Source.left now)
+          (g.R.Source.failed now) (g.W.Sink.written old) (g.W.Sink.written writer)
+          (g.W.Sink.failed writer) (g.W.Sink.stalled writer)) (sym memory.1)
+          ((c.requires.reader_works, c.requires.writer_moves), never_began _ _),
+    )) (λ write. write) (said.fault one) in
     record {
-      outcome = after_check (texts_of c.args.words.now) c.check_formula.result _ c.in-Ok-Check.formula.now
-          (subst (IsAskedBy (texts_of c.args.words.now)) c.in-Ok-Check.field-0-is
-          c.in-Ok-Check.ensures.ok)
+      outcome = after_check words c.check_formula.result _ c.in-Ok-Check.formula.now
+          (subst (IsAskedBy words) c.in-Ok-Check.field-0-is c.in-Ok-Check.ensures.ok)
           (record {
             done = said.done;
             stopped = said.stopped;
@@ -46,14 +61,7 @@ returns-in-Ok-Check g c =
             };
           })
           said.status said.quiet said.flushed
-          (λ one. let fault = one_fault (λ memory. (
-            memory.0,
-            subst
-                (λ writer. IsRunFault Memory (g.R.Source.left now) (g.R.Source.left now)
-                (g.R.Source.failed now) (g.W.Sink.written old) (g.W.Sink.written writer)
-                (g.W.Sink.failed writer) (g.W.Sink.stalled writer)) (sym memory.1)
-                ((c.requires.reader_works, c.requires.writer_moves), never_began _ _),
-          )) (λ write. write) (said.fault one) in record {
+          (λ one. let fault = fault_of one in record {
             fault = fault.0;
             line = fault.1.0;
             is = fault.1.1;
