@@ -82,24 +82,6 @@ own_knows r seat book same own =
     subst (λ (s : SeatToken Identity). IsOwn (record r { seat = s })) (sym same)
     (record { low = own.low; high = own.high; slot = own.slot; name = own.name })
 
--- a seat that knows a book and has noted moments, by its own book
-pub seat_knows : (old new : SeatToken Identity) (book : Book) (moments : List (Moment Identity))
-    → new ≡ record old { book = book; moments = moments }
-    → new ≡ record old { book = new.book; moments = moments }
-seat_knows old new book moments e =
-    e ∙ ap (λ (b : Book). let s : SeatToken Identity =
-    record old { book = b; moments = moments } in s)
-    (sym (ap (λ (s : SeatToken Identity). s.book) e))
-
--- the same of the moments alone
-pub seat_noted : (old new : SeatToken Identity) (book : Book) (moments : List (Moment Identity))
-    → new ≡ record old { book = book; moments = moments }
-    → new ≡ record old { book = book; moments = new.moments }
-seat_noted old new book moments e =
-    e ∙ ap (λ (ms : List (Moment Identity)). let s : SeatToken Identity =
-    record old { book = book; moments = ms } in s)
-    (sym (ap (λ (s : SeatToken Identity). s.moments) e))
-
 -- a reader stays own while its seat is lent to a call that changes no more than the seat's book and
 -- its changes
 pub stays_own : (old new : SeatToken Identity) (book : Book) (author : Author)

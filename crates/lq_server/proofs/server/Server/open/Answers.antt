@@ -1,7 +1,7 @@
 use Rattle.std.proofs.Common.{Option, Some, None, Ok, false, rules}
 use Rattle.std.specs.Prelude.{IfNone}
 use Rattle.lq_server_slots.specs.Opening.{size_refusal}
-use Rattle.lq_server.proofs.OwnLemmas.{hold, new_reader, answered_over, stays_noted, seat_knows}
+use Rattle.lq_server.proofs.OwnLemmas.{hold, new_reader, answered_over, stays_noted}
 use Rattle.lq_server.proofs.server.Server.open.Goals as goal
 
 -- what is so anyway is so where nothing is there
@@ -48,11 +48,3 @@ returns-clause-own g c =
 pub returns-in_err-opened-clause-own : goal.returns-in_err-opened-clause-own
 returns-in_err-opened-clause-own g c =
     stays_noted c.args.seat.now c.open.new.seat _ c.open.new.seat.moments c.open.ensures.seat
-
-pub returns-clause-seat : goal.returns-clause-seat
-returns-clause-seat g c =
-    seat_knows c.args.seat.now c.open.new.seat _ c.open.new.seat.moments c.open.ensures.seat
-
-pub returns-in_err-opened-clause-seat : goal.returns-in_err-opened-clause-seat
-returns-in_err-opened-clause-seat g c =
-    seat_knows c.args.seat.now c.open.new.seat _ c.open.new.seat.moments c.open.ensures.seat

@@ -5,7 +5,6 @@ use Rattle.lq_server_slots.specs.declared.identity.Identity.{Identity}
 use Rattle.lq_server_slots.specs.declared.open.Opened.{Opened}
 use Rattle.lq_server_slots.specs.Slots.{AreConsistent}
 use Rattle.lq_server.specs.Hold.{LockHold}
-use Rattle.lq_server.proofs.OwnLemmas.{seat_noted}
 use Rattle.lq_server.proofs.server_state.ServerState.open.Goals as goal
 
 pub returns-clause-over : goal.returns-clause-over
@@ -30,7 +29,3 @@ returns-clause-answered g c = record {
   refused = c.open_in.ensures.answered.refused;
   others = c.open_in.ensures.answered.others;
 }
-
-pub returns-clause-seat : goal.returns-clause-seat
-returns-clause-seat g c =
-    seat_noted c.args.seat.now c.note.new.seat _ _ c.note.ensures.seat
