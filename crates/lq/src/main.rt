@@ -1,4 +1,4 @@
-//! The program `lq`: its words at the standard streams.
+//! The program `lq`: its arguments, carried out at the standard streams.
 #![tactic(auto)]
 
 use lq_script::{Host, Sink, program};

@@ -83,7 +83,7 @@ impl<
     }
 
     /// What a run that met a fault answers. Unless the fault is the writer's, the waiting replies
-    /// are written and the writer is flushed once; a fault of these two is answered in its place.
+    /// are written, a fault of which is answered in its place, and the writer is flushed once.
     pub fn close(&mut self, fault: RunFault) -> RunFault {
         if fault == RunFault::Write {
             return fault;
