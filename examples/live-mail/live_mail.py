@@ -24,6 +24,16 @@ def text(header):
     return words.encode("utf-8", "replace")[:4096].decode("utf-8", "ignore")
 
 
+def listed(maildir):
+    """Of the key of each message its path, and its status by the flags in its name."""
+    found = {}
+    for folder in "new", "cur":
+        for file in os.scandir(os.path.join(maildir, folder)):
+            key, _, flags = file.name.partition(":2,")
+            found[key] = file.path, "Read" if "S" in flags else "New"
+    return found
+
+
 class Mirror:
     """A Maildir as a volume: an entry for each message, under the message's key."""
 
@@ -33,11 +43,7 @@ class Mirror:
 
     def look(self):
         """Makes the changes that bring the volume up to what is on disk."""
-        found = {}
-        for place in "new", "cur":
-            for file in os.scandir(os.path.join(self.maildir, place)):
-                key, _, flags = file.name.partition(":2,")
-                found[key] = file.path, "Read" if "S" in flags else "New"
+        found = listed(self.maildir)
         for key in self.seen.keys() - found.keys():
             self.volume.remove(self.seen.pop(key)[0])
         for key, (path, status) in sorted(found.items()):
@@ -63,37 +69,33 @@ class Folder:
     """A live folder: the messages that match a formula, kept right by what the query sends and nothing else."""
 
     def __init__(self, volume, formula, backlog=65_536):
-        self.volume, self.formula = volume, formula
+        self.volume, self.formula, self.rows = volume, formula, {}
         self.query = volume.open(formula, backlog)
-        self.rows = {entry.node: self.subject(entry) for entry in self.query.entries}
+        self.change(self.query.entries, [])
 
-    def subject(self, place):
+    def change(self, created, removed):
+        """Puts rows in and takes rows out. Returns what has come and gone: a sign, and the subject."""
+        gone = [("-", self.rows.pop(entry.node)) for entry in removed]
+        self.rows.update((entry.node, self.subject(entry)) for entry in created)
+        return gone + [("+", self.rows[entry.node]) for entry in created]
+
+    def subject(self, entry):
         try:
-            return self.volume.attribute(place.node, "MAIL:subject").value
+            return self.volume.attribute(entry.node, "MAIL:subject").value
         except NotFound:
-            return place.name  # removed meanwhile: a later message says so
-
-    def come(self, place):
-        self.rows[place.node] = self.subject(place)
-        return "+", self.rows[place.node]
-
-    def go(self, place):
-        return "-", self.rows.pop(place.node)
+            return entry.name  # removed meanwhile: a later message says so
 
     def follow(self):
-        """Applies the messages that wait. Returns what has come and gone: a sign, and the subject."""
+        """Applies the messages that wait. Returns what has come and gone."""
         told = []
         try:
             for message in self.query:
-                told.append(self.come(message) if message.op == B_ENTRY_CREATED else self.go(message))
-        except Overrun:  # more messages than the backlog has room for
-            told += self.begin_anew()
+                came = message.op == B_ENTRY_CREATED
+                told += self.change([message], []) if came else self.change([], [message])
+        except Overrun:  # more messages than the backlog has room for: the query is opened again
+            found = self.query.reopen()
+            told += self.change(found.created, found.removed)
         return told
-
-    def begin_anew(self):
-        """Opens the query again, and applies how its result differs from what was shown."""
-        found = self.query.reopen()
-        return [self.go(place) for place in found.removed] + [self.come(place) for place in found.created]
 
 
 def main(words):
