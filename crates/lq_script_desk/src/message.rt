@@ -2,13 +2,14 @@
 #![tactic(auto, unfolding(json::specs::Print::escape_byte))]
 
 ghost use Rattle.std.specs.Prelude.{◌≡◌, ℕ, ◌++◌, codes, OnOk, true};
+ghost use Rattle.serde_json.specs.Data.{boolean};
 ghost use Rattle.serde_json.specs.Written.{compact_text, members_text};
 ghost use Rattle.lq_script_desk.specs.Front.{AppendsTo};
 ghost use Rattle.lq_desk.specs.Reply.{answer_of_read};
 ghost use Rattle.lq_script_desk.specs.Parts.{numbered_members, told_members};
 ghost use Rattle.lq_script_desk.specs.Reply.{answer_data, cause_name, mark_data, message_data, moved_data, opcode_name, placed_data, word};
 
-use crate::pieces::{put_bytes, put_truth, put_unsigned};
+use crate::pieces::{put_bytes, put_unsigned};
 use crate::text::put_text;
 use lq_desk::Read;
 use lq_update::{Cause, Mark, Message, Opcode};
@@ -100,10 +101,21 @@ fn put_told(out: &mut Vec<u8>, message: &Message) -> Result<(), AllocError>
         ≡ out.old.items ++ members_text true (told_members message.now)) }
     ensures front { AppendsTo out.new.items out.old.items }
 {
-    put_truth(out, b",\"last\":", message.last)?;
-    put_text(out, b",\"name\":", message.name.as_str())?;
+    put_text(out, before_name(message.last), message.name.as_str())?;
     put_unsigned(out, b",\"node\":", message.node)?;
     put_numbered(out, &message.op, message.seq)
+}
+
+// The member `last` and the key of the next member.
+fn before_name(last: bool) -> &'static [u8]
+    ensures { result.now
+        ≡ codes ",\"last\":" ++ (compact_text (boolean last) ++ codes ",\"name\":") }
+{
+    if last {
+        b",\"last\":true,\"name\":"
+    } else {
+        b",\"last\":false,\"name\":"
+    }
 }
 
 fn put_numbered(out: &mut Vec<u8>, op: &Opcode, seq: u64) -> Result<(), AllocError>
