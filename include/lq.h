@@ -304,8 +304,9 @@ uint64_t lq_ready(const lq *handle);
 
 /* Takes the oldest message of a slot. LQ_NOT_OPEN: the slot is free. It never answers
  * LQ_NO_MEMORY, and loses no message: where memory runs out for the slot's rebuilt result, the slot
- * is left without that alone (lq_result). It is proved that the reads of a slot, from its opening
- * on, give each message once and in order. */
+ * is left without that alone (lq_result). Where the caller does what this header asks, it is proved
+ * that the reads of a slot, from its opening on, give each message once and in order, and then the
+ * mark. */
 lq_status lq_read(lq *handle, uint64_t slot, lq_message *out);
 
 /* Takes the oldest messages of a slot, and the mark after them, as repeated calls of lq_read would:
