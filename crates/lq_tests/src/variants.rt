@@ -142,8 +142,8 @@ fn refusal(desk: &mut Desk, is_turn: bool, event: &Event) -> Option<Refusal> {
     }
 }
 
-/// Whether a new desk refuses none of the events, each given again where memory ran out, and has all
-/// attributes then.
+/// Whether a new desk refuses none of the events, each given again where memory ran out, and has
+/// all attributes then.
 fn are_carried_out(alloc: Global, is_turn: bool) -> Result<bool, Refusal> {
     let mut desk = again!(Desk::new(alloc, Volume::new(alloc, 99)))?;
     for ask in &EVENTS {
