@@ -40,18 +40,25 @@ void __wrap_free(void *block) {
 /* A call, or what says the same as a line; what it gives is added to a text. */
 typedef lq_status step(lq *handle, text *to);
 
+/* That a call that was refused has left its `out`. */
+#define LEFT(out) CHECK(is_poison(&(out), sizeof(out)))
+
 static lq_status children(lq *handle, text *to) {
     lq_listing listing;
+    POISON(listing);
     lq_status status = lq_children(handle, 1, &listing);
     if (status == LQ_OK) say_result(to, handle, listing.result, listing.count);
+    else LEFT(listing);
     return status;
 }
 
 static lq_status path(lq *handle, text *to) {
     char room[1024];
     size_t size;
+    POISON(size);
     lq_status status = lq_path(handle, 3, &size);
     if (status == LQ_OK) add(to, room, lq_text(handle, room, sizeof room));
+    else LEFT(size);
     return status;
 }
 
@@ -67,8 +74,10 @@ static lq_status attr_named(lq *handle, text *to) {
 /* A path to a name that isn't there, which takes memory to be read. */
 static lq_status find_path(lq *handle, text *to) {
     uint64_t node;
+    POISON(node);
     lq_status status = lq_find_path(handle, 1, TEXT("/folder//" LONG_NAME "/b"), &node);
     if (status == LQ_OK) add(to, (const char *)&node, sizeof node);
+    else LEFT(node);
     return status;
 }
 
@@ -84,10 +93,26 @@ static lq_status fetch_and_take(lq *handle, text *to) {
     return status;
 }
 
+/* A result that was fetched before can still be taken where another fetch is refused. */
+static lq_status fetch_beside(lq *handle, text *to) {
+    lq_fetched before, fetched;
+    lq_row row;
+    lq_status status = lq_fetch(handle, TEXT("size>=0"), &before);
+    if (status != LQ_OK) return status;
+    POISON(fetched);
+    status = lq_fetch(handle, TEXT("name=*"), &fetched);
+    if (status == LQ_OK) say_result(to, handle, fetched.result, fetched.count);
+    else LEFT(fetched);
+    if (status == LQ_NO_MEMORY) OK(lq_next(handle, before.result, &row));
+    return status;
+}
+
 static lq_status open_all(lq *handle, text *to) {
     lq_opening opening;
+    POISON(opening);
     lq_status status = lq_open(handle, TEXT("size>=0"), NULL, &opening);
     if (status == LQ_OK) say_result(to, handle, opening.result, opening.count);
+    else LEFT(opening);
     return status;
 }
 
@@ -101,8 +126,10 @@ static lq_status open_without_result(lq *handle, text *to) {
 
 static lq_status create_late(lq *handle, text *to) {
     lq_applied applied;
+    POISON(applied);
     lq_status status = lq_create(handle, 1, TEXT("late"), LQ_FILE, 1, 1, &applied);
     if (status == LQ_OK) add(to, (const char *)&applied.node, sizeof applied.node);
+    else LEFT(applied);
     return status;
 }
 
@@ -237,6 +264,8 @@ static const act values[] = {FOLDER_AT(1, "folder"),
                              VALUE(LQ_UINT32, 7),
                              VALUE(LQ_UINT64, -1),
                              TEXT_VALUE("a name of many bytes", LONG_TEXT),
+                             TEXT_VALUE("n", LONG_TEXT),
+                             OF(ENTRY, 3),
                              BY_NAME(UNSET, 3, 0, "n"),
                              BY_NAME(UNSET, 3, 0, "n"),
                              OF(ENTRY, 3)};
@@ -245,7 +274,7 @@ static step *const steps[] = {
     children,     path,         attr_named,  push_attr,    push_text,      push_ne,   push_attr,
     push_text,    push_contains, push_and,   push_attr,    push_int32,     push_gt,   push_or,
     push_not,     fetch_pushed, fetch_pushed, push_attr,   push_int64,     push_gt,   push_not,
-    open_pushed,  find_path,    fetch_and_take, open_all,  create_late,    read_many, drop,
+    open_pushed,  find_path,    fetch_and_take, fetch_beside, open_all,  create_late,    read_many, drop,
     open_without_result, push_attr, push_uint32, push_uint64, push_and};
 
 enum {

@@ -18,11 +18,12 @@ typedef struct piece {
     size_t size;
 } piece;
 
-static char long_name[300], long_text[5000];
+static char long_name[300], long_text[5000], long_formula[5000];
 
 static piece name(void) {
     static const piece few[] = {{TEXT("a")},     {TEXT("b.txt")}, {TEXT("c.txt")}, {TEXT("d")},
-                                {TEXT("e.txt")}, {TEXT("f")},     {TEXT("g")}};
+                                {TEXT("e.txt")}, {TEXT("f")},     {TEXT("g")},
+                                {long_name, 255}};
     const piece odd[] = {{TEXT("")},
                          {TEXT(".")},
                          {TEXT("..")},
@@ -48,10 +49,11 @@ static piece formula(void) {
                                  {TEXT("last_modified>=0")},
                                  {TEXT("TAG==\"[a-c]?*\"")},
                                  {TEXT("name=*")},
-                                 {TEXT("PRIO<0||NUM>18446744073709551614")}};
+                                 {TEXT("PRIO<0||NUM>18446744073709551614")},
+                                 {long_formula, 4096}};
     static const piece bad[] = {{TEXT("")},         {TEXT("size>")},      {TEXT("name==[b-a]")},
                                 {TEXT("(name==a")}, {TEXT("name==\xff")}, {TEXT("a\0b==c")},
-                                {long_text, 4096},  {long_text, 4097}};
+                                {long_text, 4096},  {long_formula, 4097}};
     return draw(8) ? *ONE_OF(good) : *ONE_OF(bad);
 }
 
@@ -97,12 +99,12 @@ static act drawn(void) {
                is_slot = it.word >= READ && it.word <= RESULT;
     piece named = !is_attr ? name() : draw(9) ? *ONE_OF(attrs) : *ONE_OF(bad_attrs);
     piece given = it.word != SET ? formula()
-                  : draw(20)     ? *ONE_OF(texts)
+                  : draw(6)      ? *ONE_OF(texts)
                                  : (piece){long_text, 4095 + (size_t)draw(3)};
     it.node = is_slot    ? draw(20) ? 1 + draw(3) : draw(66)
                  : draw(50) ? 1 + draw(12)
                          : UINT64_MAX - draw(2);
-    it.dir = draw(3) ? 1 : 2 + draw(8);
+    it.dir = draw(3) ? 1 : draw(20) ? 2 + draw(draw(2) ? 2 : 8) : 0;
     it.name = named.at;
     it.name_size = named.size;
     it.text = given.at;
@@ -179,6 +181,8 @@ int main(int count, char **words) {
     memset(long_name, 'n', sizeof long_name);
     memset(long_text, 'x', sizeof long_text);
     memcpy(long_text, TEXT("name==\""));
+    memset(long_formula, ' ', sizeof long_formula);
+    memcpy(long_formula, TEXT("name==*.txt"));
     for (int script = 0; script < scripts; script++) {
         lq typed = LQ_INIT, lines = LQ_INIT, both = LQ_INIT;
         state = 1 + (uint64_t)script;

@@ -82,6 +82,21 @@ pub static WINDOW_ALONE: Scenario = Scenario {
     turns: &[&[WINDOW_READ], &[WINDOW_ENDED]],
 };
 
+/// A volume that takes two changes takes two openings.
+pub static TWO_OPENINGS: Scenario = Scenario {
+    name: "openings have the limit of changes",
+    threads: 1,
+    rounds: 1,
+    turns: &[&[(
+        1,
+        &[
+            (Act::Open("name=*", 1, 1), Told::Number(1)),
+            (Act::Open("name=*", 1, 1), Told::Number(2)),
+            (Act::Open("name=*", 1, 1), Told::Refused(Refusal::Exhausted)),
+        ],
+    )]],
+};
+
 /// The first slot is used again after a reader that hung up.
 const USED_AFTER_HANG_UP: Table = (
     1,

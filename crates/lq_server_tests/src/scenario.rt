@@ -1,5 +1,5 @@
 //! A scenario: parties at one server, each in a thread of its own, turn by turn.
-ghost use Rattle.std.specs.Prelude.{◌≡◌, true};
+ghost use Rattle.std.specs.Prelude.{◌≡◌, ◌≤◌, true};
 
 use crate::owned_tokens::SeatOf;
 use crate::party::{Acted, Party, Table};
@@ -12,7 +12,7 @@ use std::alloc::Global;
 use std::sync::Wait;
 use std::thread::{Threads, for_each_mut};
 
-/// What as many threads do, turn by turn, and how often it is played.
+/// The calls of each of `threads` threads, turn by turn; they are played `rounds` times.
 ///
 /// The tables of a turn are played side by side, by the first threads. One that waits stands before
 /// those that it waits for: where no thread can be made it is played after them.
@@ -65,8 +65,15 @@ impl Acted {
 
 /// A base of a server, whose volume takes 2,000 changes. Refused: `NoMemory`, met twice.
 pub fn base(alloc: Global) -> Result<Base, Refusal> {
-    match Base::new(alloc, Volume::new(alloc, LIMIT)) {
-        Err(Refusal::NoMemory) => Base::new(alloc, Volume::new(alloc, LIMIT)),
+    base_with(alloc, LIMIT)
+}
+
+/// A base of a server, whose volume takes this many changes. Refused: `NoMemory`, met twice.
+pub fn base_with(alloc: Global, limit: u64) -> Result<Base, Refusal>
+    requires { (1 ≤ limit) × (limit ≤ 1000000000000) }
+{
+    match Base::new(alloc, Volume::new(alloc, limit)) {
+        Err(Refusal::NoMemory) => Base::new(alloc, Volume::new(alloc, limit)),
         made => made,
     }
 }

@@ -5,7 +5,7 @@ use crate::plain::is_same;
 use lq_predicate::{Predicate, read};
 use lq_update::{Rebuild, step_planned};
 use lq_value::{Entry, Refusal};
-use lq_volume::Volume;
+use lq_volume::{Change, Volume};
 use std::alloc::Global;
 use std::test::Fail;
 
@@ -56,6 +56,31 @@ none|a=[\^]
 none|((name=="*[fF]oo*")&&(size>10))
 none|!(a=1||b=2&&!c=3)&&(('a b'>=c\ d))"#;
 
+/// The entries of a volume by rising node, and those of its root by name. Refused: `NoMemory`.
+fn shown(alloc: Global, volume: &Volume) -> Result<(Vec<Entry>, Vec<Entry>), Refusal> {
+    let all = again!(read(alloc, "name='*'"))?;
+    let found = again!(volume.fetch(&all))?;
+    Ok((found, again!(volume.children(1))?))
+}
+
+/// Makes a change, again where memory ran out. Refused as `Volume::apply` is, and `Mismatch` where
+/// the volume then shows other entries than before.
+fn make(alloc: Global, volume: &mut Volume, change: &Change) -> Result<(), Refusal> {
+    let before = shown(alloc, volume)?;
+    match volume.apply(change) {
+        Err(Refusal::NoMemory) => {
+            let after = shown(alloc, volume)?;
+            if !are_same(&before.0, &after.0) || !are_same(&before.1, &after.1) {
+                return Err(Refusal::Mismatch);
+            }
+            volume.apply(change)?;
+        }
+        Err(refusal) => return Err(refusal),
+        Ok(_) => {}
+    }
+    Ok(())
+}
+
 /// Folds the messages of an act into a kept result and makes the act; the next message's number.
 fn follow(
     alloc: Global,
@@ -73,7 +98,7 @@ fn follow(
         again!(rebuild.apply(message))?;
         next = next.saturating_add(1);
     }
-    again!(volume.apply(&change))?;
+    make(alloc, volume, &change)?;
     Ok(next)
 }
 

@@ -1,6 +1,8 @@
 //! Worked examples as lists of events of one desk, each with its answer: with memory, and with one
 //! growth refused, where the event that ran out of memory is repeated; and the limits of changes
 //! and openings.
+ghost use Rattle.std.specs.Prelude.{◌≤◌};
+
 use crate::act::Act;
 use crate::again::again;
 use crate::ask::{Ask, event};
@@ -183,9 +185,12 @@ fn are_told(alloc: Global, rows: &[Row]) -> Result<bool, Refusal> {
     Ok(replies.len() == rows.len())
 }
 
-/// Whether a desk gives these answers, event by event, each repeated where memory ran out.
-fn are_told_again(alloc: Global, rows: &[Row]) -> Result<bool, Refusal> {
-    let mut desk = again!(Desk::new(alloc, Volume::new(alloc, 99)))?;
+/// Whether a desk, whose volume takes this many changes, gives these answers, event by event, each
+/// repeated where memory ran out.
+fn are_told_again(alloc: Global, limit: u64, rows: &[Row]) -> Result<bool, Refusal>
+    requires { (1 ≤ limit) × (limit ≤ 1000000000000) }
+{
+    let mut desk = again!(Desk::new(alloc, Volume::new(alloc, limit)))?;
     for (ask, wanted, numbers) in rows {
         let event = again!(event(alloc, ask))?;
         let mut reply = desk.event(&event);
@@ -243,13 +248,13 @@ fn are_found(alloc: Global) -> Result<bool, Refusal> {
 
 #[test]
 fn scenario_clobber(rt: HostRuntime) -> Result<(), Fail> {
-    assert!(rt; are_told_again(rt.alloc(), &CLOBBER)?);
+    assert!(rt; are_told_again(rt.alloc(), 99, &CLOBBER)?);
     Ok(())
 }
 
 #[test]
 fn scenario_close_after_held(rt: HostRuntime) -> Result<(), Fail> {
-    assert!(rt; are_told_again(rt.alloc(), &CLOSE_AFTER_HELD)?);
+    assert!(rt; are_told_again(rt.alloc(), 99, &CLOSE_AFTER_HELD)?);
     Ok(())
 }
 
@@ -275,6 +280,12 @@ fn scenario_change_limit(rt: HostRuntime) -> Result<(), Fail> {
     }
     assert!(rt; are_told(rt.alloc(), &OPENINGS)?);
     assert!(rt; are_told(rt.alloc(), &[])?);
+    Ok(())
+}
+
+#[test]
+fn an_opening_without_memory_is_not_counted(rt: HostRuntime) -> Result<(), Fail> {
+    assert!(rt; are_told_again(rt.alloc(), 2, &OPENINGS)?);
     Ok(())
 }
 

@@ -53,8 +53,9 @@ const STACKS: [(StackOp, &[StackOp], &str); 14] = [
     ),
 ];
 
-// Openings, changes of each kind, a value of each type, and what ends it all.
-static EVENTS: [Ask; 31] = [
+// Openings, changes of each kind, a value of each type, more attributes than stay a list, and what
+// ends it all.
+static EVENTS: [Ask; 43] = [
     Ask::Open("name='a*'", 9, 9, false),
     Ask::Open("name='a*'", 9, 9, true),
     Ask::Open("!x>1", 9, 9, false),
@@ -79,6 +80,18 @@ static EVENTS: [Ask; 31] = [
     Ask::Set("l", View::Int64(-9_000_000_000)),
     Ask::Set("u", View::UInt32(4_294_967_295)),
     Ask::Set("v", View::UInt64(18_446_744_073_709_551_615)),
+    Ask::Set("a", View::Int32(1)),
+    Ask::Set("b", View::Int32(1)),
+    Ask::Set("c", View::Int32(1)),
+    Ask::Set("d", View::Int32(1)),
+    Ask::Set("e", View::Int32(1)),
+    Ask::Set("f", View::Int32(1)),
+    Ask::Set("g", View::Int32(1)),
+    Ask::Set("h", View::Int32(1)),
+    Ask::Set("i", View::Int32(1)),
+    Ask::Set("j", View::Int32(1)),
+    Ask::Set("k", View::Int32(1)),
+    Ask::Set("m", View::Int32(1)),
     Ask::Change(Act::Remove(3)),
     Ask::At(1, lq_desk_world::Act::HangUp),
     Ask::At(1, lq_desk_world::Act::Notice),
@@ -129,8 +142,8 @@ fn refusal(desk: &mut Desk, is_turn: bool, event: &Event) -> Option<Refusal> {
     }
 }
 
-/// Whether a new desk refuses none of the events, each given again where memory ran out, and has a
-/// value of each type then.
+/// Whether a new desk refuses none of the events, each given again where memory ran out, and has
+/// all attributes then.
 fn are_carried_out(alloc: Global, is_turn: bool) -> Result<bool, Refusal> {
     let mut desk = again!(Desk::new(alloc, Volume::new(alloc, 99)))?;
     for ask in &EVENTS {
@@ -144,7 +157,7 @@ fn are_carried_out(alloc: Global, is_turn: bool) -> Result<bool, Refusal> {
         }
     }
     let copy = again!(desk.volume().copy())?;
-    Ok(again!(copy.listing(2))?.attrs.len() == 5)
+    Ok(again!(copy.listing(2))?.attrs.len() == 17)
 }
 
 #[test]
