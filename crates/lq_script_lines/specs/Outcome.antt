@@ -46,8 +46,8 @@ MayReadAfterReplies {R} {W} rules state left written may_read reader writer =
 -- written are a prefix of the output for the bytes read; after a read fault and at a limit, they
 -- are the output for the lines that LF ended. Where memory ran out, they are that for the lines
 -- before one that has no reply, or the run never began; the reader hasn't failed, and each write
--- took some bytes. So where nothing but the last flush failed, the fault is Write. Each fault has
--- its cause in the run.
+-- took some bytes. So where every line has its reply and only the flush failed, the fault is Write.
+-- Each fault has its cause in the run.
 pub record IsRunOutcome {State : Type 0} (rules : Rules State) (state : State)
     (result : Result (Unit {0}) RunFault) (r : ReaderLog) (w : WriterLog) : Type 0 where
   pub ok : OnOk result (Answered rules state r.left r.left' w.written w.written')
