@@ -737,17 +737,20 @@ first-volume = record {
   named = tt;
 }
 
+-- the folds after a script are those over its events
+pub folds-script : (lines : List (List ℕ))
+    → (session_after lines).folds ≡ folds_over script_world no_folds (events_of lines)
+folds-script lines =
+    ap (λ (s : Session). s.folds) (lines-turns script_session lines)
+    ∙ turns-folds script_session (events_asked lines)
+
 -- a slot's fold after a script is Fold over its opening's result and what was read
 pub script-folds : RunsTellReaders → RebuildsTakeAll → FoldingsFollow → (lines : List (List ℕ))
     (slot : ℕ) (f : Folding) → fold_at (session_after lines).folds slot ≡ Some f
     → IsFoldOf slot (events_of lines) (answers_of lines) f
 script-folds law rebuilds follow lines slot f had =
-    let folds : (session_after lines).folds
-    ≡ folds_over script_world no_folds (events_of lines) =
-    ap (λ (s : Session). s.folds) (lines-turns script_session lines)
-    ∙ turns-folds script_session (events_asked lines) in
     let r = all-folded law rebuilds first-volume [] (events_of lines) no_folds none-folded slot f
-    (sym (ap (λ fs. fold_at fs slot) folds) ∙ had) in
+    (sym (ap (λ fs. fold_at fs slot) (folds-script lines)) ∙ had) in
     let says = follow (opened_at r.at r.first) (updates_in (reads_of slot r.after r.afters)) in
     record {
       before = r.before;

@@ -10,6 +10,7 @@ use Rattle.lq_script_desk.specs.Script.{out_of, script_session, script_world, wo
 use Rattle.lq_script_desk.specs.History.{IsRebuilt, ScriptsTellReaders, TellsReaders, answers_of, events_of, question_of, replies_of, session_after, world_after}
 use Rattle.lq_script_desk.proofs.HistoryLemmas.{line-rebuilt, replied, reply-place, run-answers}
 use Rattle.lq_script_desk.proofs.FoldLemmas.{script-folds}
+use Rattle.lq_script_desk.proofs.TakenLemmas.{taken-kept}
 
 module _ (law : RunsTellReaders) (rebuilds : RebuildsTakeAll) (follow : FoldingsFollow) where
   -- the reply to a line that asks for a slot's result
@@ -23,6 +24,7 @@ module _ (law : RunsTellReaders) (rebuilds : RebuildsTakeAll) (follow : Foldings
           text.1 ∙ ap (λ own. (replies_of before ++ own) ++ text.0)
               (line-rebuilt (session_after before) (line_of bytes) slot asks),
         );
+        taken = taken-kept before slot;
         fold = script-folds law rebuilds follow before slot;
       }
 
@@ -34,6 +36,7 @@ module _ (law : RunsTellReaders) (rebuilds : RebuildsTakeAll) (follow : Foldings
         (run-answers script_world (events_of lines));
     replies = λ before after bytes e. replied lines before after bytes e;
     results = λ before after bytes slot. rebuilt-reply lines before after bytes slot;
+    kept = taken-kept lines;
     folds = script-folds law rebuilds follow lines;
   }
 

@@ -1,12 +1,12 @@
 -- The events of a script and the answers to them: those of the turns of its lines, joined.
-use Rattle.std.specs.Prelude.{◌≡◌, ℕ, List, [], ◌∷◌, ◌++◌, length, Bool, false, Option, Some, None, Result, Ok, Err, OnOk, OnErr}
+use Rattle.std.specs.Prelude.{◌≡◌, ℕ, List, [], ◌∷◌, ◌++◌, length, Bool, false, Option, Some, None, is_some, Result, Ok, Err, OnOk, OnErr}
 use Rattle.std.specs.Io.KnownBytes.{Appends, Consumes}
 use Rattle.lq_value.specs.declared.entry.Entry.{Entry}
 use Rattle.lq_value.specs.declared.refusal.Refusal.{Refusal}
 use Rattle.lq_predicate.specs.Query.{Query}
 use Rattle.lq_volume.specs.State.{empty_state}
 use Rattle.lq_update.specs.Fold.{Folding, folded, is_settled, last_change}
-use Rattle.lq_desk_world.specs.World.{World}
+use Rattle.lq_desk_world.specs.World.{World, subscribed_at}
 use Rattle.lq_desk_world.specs.declared.event.Event.{Event}
 use Rattle.lq_desk_world.specs.declared.event.Event.TheVariants.{Open}
 use Rattle.lq_desk_world.specs.Events.{Answer, Opened, answer, next, outcome}
@@ -136,10 +136,13 @@ pub record IsFoldOf (slot : ℕ) (events : List Event) (answers : List Answer) (
   pub settled : f.settled ≡ is_settled (updates_in (reads_of slot after afters))
 
 -- The reply to a line that asks for a slot's result, and comes after some lines, is the text of the
--- slot's fold then.
+-- slot's fold then. Only a free slot has none.
 pub record IsRebuilt (lines before : List (List ℕ)) (slot : ℕ) : Type 0 where
   pub reply : HasPrefix (replies_of lines)
       (replies_of before ++ reply_text (rebuilt (fold_at (session_after before).folds slot)))
+  -- the slot has a fold just where it is taken
+  pub taken : is_some (subscribed_at (world_after before) slot)
+      ≡ is_some (fold_at (session_after before).folds slot)
   pub fold : (f : Folding) → fold_at (session_after before).folds slot ≡ Some f
       → IsFoldOf slot (events_of before) (answers_of before) f
 
@@ -148,7 +151,7 @@ pub record IsRebuilt (lines before : List (List ℕ)) (slot : ℕ) : Type 0 wher
 -- What is true of a script's lines: their events and the answers to them are a run of the first
 -- world. At every moment of it the readers are told (the headline). Each reply to a line that asks
 -- for an event is the text of this event's answer, and each result of a slot is Fold over its
--- opening's result and what was read.
+-- opening's result and what was read. Each taken slot has such a result.
 pub record IsScript (lines : List (List ℕ)) : Type 0 where
   pub run : Run script_world (events_of lines) (answers_of lines) (world_after lines)
   pub readers : ReadersAreTold (empty_state 1000000000000) (events_of lines) (answers_of lines)
@@ -158,6 +161,9 @@ pub record IsScript (lines : List (List ℕ)) : Type 0 where
   pub results : (before after : List (List ℕ)) (bytes : List ℕ) (slot : ℕ)
       → lines ≡ before ++ bytes ∷ after → question_of (line_of bytes) ≡ Some (question.Rebuilt slot)
       → IsRebuilt lines before slot
+  -- a slot has a fold just where it is taken
+  pub kept : (slot : ℕ) → is_some (subscribed_at (world_after lines) slot)
+      ≡ is_some (fold_at (session_after lines).folds slot)
   pub folds : (slot : ℕ) (f : Folding) → fold_at (session_after lines).folds slot ≡ Some f
       → IsFoldOf slot (events_of lines) (answers_of lines) f
 
