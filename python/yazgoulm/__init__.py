@@ -10,7 +10,7 @@ disk may be bytes or paths. Other arguments raise TypeError or ValueError, with 
 
 The calls go by an extension in C, where there is one for this Python (`make library` builds it where there is a
 compiler), or else by ctypes, at some eight times the cost. `backend` says which, and YAZGOULM_BACKEND in the
-environment wants one of the two. YAZGOULM_LIBRARY names the shared library. Without it the module looks beside itself,
+environment chooses one. YAZGOULM_LIBRARY names the shared library. Without it the module looks beside itself,
 where a wheel, a clone and `make install` have it, and then asks the system."""
 from ._arguments import to_bytes, to_name
 from ._library import VERSION as __version__

@@ -11,7 +11,7 @@ def _found() -> str:
     beside = [f"{here}/{place}liblq.so" for place in ("", "../../", "../../crates/lq_c/out/")]
     found = named or next(filter(os.path.exists, beside), None) or ctypes.util.find_library("lq")
     if not found:
-        raise ImportError("no liblq.so was found: build it with tools/library, or set YAZGOULM_LIBRARY to its path")
+        raise ImportError("no liblq.so was found: build it with `make library`, or set YAZGOULM_LIBRARY to its path")
     return found
 
 

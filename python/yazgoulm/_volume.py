@@ -58,7 +58,7 @@ class Volume:
 
     @property
     def wake(self) -> Optional[Callable[[], Any]]:
-        """What is called after each turn after which a query has something to read, or None."""
+        """What is called after each turn that leaves a query with something to read, or None."""
         return self._wake
 
     @wake.setter

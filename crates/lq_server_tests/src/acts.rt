@@ -11,7 +11,7 @@ pub type Row = (&'static str, u64);
 /// One call. A change is of an entry in the root, and its attribute is `x`.
 pub enum Act {
     Create(&'static str),
-    /// Under this text with the number of changes that the thread has made before.
+    /// A name: this text and the number of changes that the thread has made before.
     CreateNext(&'static str),
     Remove(u64),
     /// A node and its new name.

@@ -2,7 +2,7 @@
 //! up with memory for each variant of its arguments (`variants`), listings and paths (`folders`),
 //! calls that are given again where memory ran out (`again`), the plain body of `step` beside the
 //! fast one (`plain`, `bodies`), and changes without a message (`skipped_writes`, `creates`).
-//! Nothing here waits.
+//! Begin with `events`. Nothing here waits.
 #![tactic(auto)]
 
 #[cfg(test)]
