@@ -31,12 +31,11 @@ pub struct Callers {
 }
 
 impl<N: Named> Server<N> {
-    /// As `counted_with_seat`, with a reader besides, of a live query that the seat opens before any
-    /// change.
+    /// As `counted_with_seat`, with the reader of a live query that the seat opens first of all.
     ///
-    /// The numbers are as in `open`. No other caller has the server yet, so no slot is taken. Refused,
-    /// the first that fits: `BadPort`, `BadBacklog`, `Exhausted` where the volume takes no changes,
-    /// `NoMemory`.
+    /// The numbers are as in `open`. No other caller has the server yet, so no slot is taken.
+    /// Refused, the first that fits: `BadPort`, `BadBacklog`, `Exhausted` where the volume takes no
+    /// changes, `NoMemory`.
     pub fn counted_with_reader(
         base: Base,
         predicate: &Predicate,
@@ -192,7 +191,7 @@ impl<N: Named> Server<N> {
     ///
     /// Refused: `StillOpen` just where its mark wasn't read; the reader then comes back as it was.
     /// It takes no memory. No clause of this call says that the slot is free then, since a caller
-    /// sees no slots: a clause of the call under the lock does, and tests open a query in it again.
+    /// sees no slots: a clause of the call under the lock does, and tests open a query in it.
     pub fn finish<R: Wait>(&self, rt: &R, reader: Reader) -> Result<(), (Reader, Refusal)>
         requires board { reader.seat.board ≡ N.board }
         requires own { IsOwn reader }
