@@ -1,12 +1,12 @@
 -- A query that was followed: what its reader received, and the volume.
-use Rattle.std.proofs.Common.{◌≡◌, ℕ, zero, suc, ◌<◌, ◌≤◌, Bool, cond, eq-eqb, false, true≢false, List, [], ◌∷◌, length, Option, Some, None, refl, sym, ap, ◌∙◌, subst, arith, length-append}
+use Rattle.std.proofs.Common.{◌≡◌, ℕ, ◌<◌, ◌≤◌, Bool, cond, eq-eqb, false, true≢false, List, [], ◌∷◌, length, Option, Some, None, refl, sym, ap, ◌∙◌, subst, arith, length-append}
 use Rattle.std.specs.Prelude.{IsSome, IsSomeAnd}
 use Rattle.lq_predicate.specs.Query.{Query}
 use Rattle.lq_volume.specs.State.{State}
 use Rattle.lq_volume.specs.declared.change.Change.{Change}
 use Rattle.lq_volume.specs.Book.{Book, Extends, state_at}
 use Rattle.lq_volume.specs.Result.{result_of}
-use Rattle.lq_board.specs.Roll.{numbers, without_number}
+use Rattle.lq_board.specs.Roll.{without_number}
 use Rattle.lq_board.specs.Token.{BoardName, SeatToken}
 use Rattle.lq_update.specs.declared.mark.Mark.{Mark}
 use Rattle.lq_update.specs.Updates.{updates_of}
@@ -31,11 +31,6 @@ use Rattle.lq_model.specs.Followed.{HasHungUp, IsFollowed}
 pub extends_length : (b c : Book) → Extends c b → length b.changes ≤ length c.changes
 extends_length b c e =
     omega (arith, ap (λ (x : Book). length x.changes) e.1, length-append b.changes e.0)
-
--- a number that is counted by no change is 0
-pub none_counted : (n : ℕ) → [] ≡ numbers n → n ≡ 0
-none_counted zero h = refl
-none_counted (suc k) h = absurd (omega (arith, ap (λ (l : List ℕ). length l) h))
 
 -- nobody is left of a list of one
 pub alone : (k : ℕ) → without_number k (k ∷ []) ≡ []

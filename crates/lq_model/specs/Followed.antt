@@ -1,7 +1,7 @@
 -- What is left after a query was followed, or why it isn't.
 use Rattle.std.specs.Prelude.{◌≡◌, ◌⊎◌, ℕ, ◌+◌, ◌-◌, ◌≤◌, List, ◌++◌, true, false, length, map, take, slice_get, Option, Some, IsSome, Result, OnOk, IfErr}
 use Rattle.lq_value.specs.declared.refusal.Refusal.{Refusal}
-use Rattle.lq_value.specs.declared.refusal.Refusal.TheVariants.{NoMemory}
+use Rattle.lq_value.specs.declared.refusal.Refusal.TheVariants.{NoMemory, Exhausted}
 use Rattle.lq_predicate.specs.Query.{Query}
 use Rattle.lq_volume.specs.State.{State}
 use Rattle.lq_volume.specs.declared.change.Change.{Change}
@@ -15,7 +15,6 @@ use Rattle.lq_update.specs.Updates.{updates_of}
 use Rattle.lq_server_slots.specs.declared.identity.Identity.{Identity}
 use Rattle.lq_server_slots.specs.Rule.{query_of}
 use Rattle.lq_server_slots.specs.Reading.{known, received, mark_read}
-use Rattle.lq_server_slots.specs.Opening.{IsOpeningRefused}
 use Rattle.lq_server.specs.Hold.{ReaderHold}
 use Rattle.lq_server.specs.Own.{IsOwn}
 use Rattle.lq_server.specs.Retired.{IsRetired}
@@ -97,9 +96,11 @@ IsOneRefused start changes e =
 abbrev pub AreRefused : State → List Change → Refusal → Type 0
 AreRefused start changes e = (e ≡ NoMemory) ⊎ IsOneRefused start changes e
 
--- the opening is refused, or one of these changes
+-- the first volume takes no changes, so that nothing can be opened, or memory is wanting, or one of
+-- these changes is refused so
 abbrev pub IsFollowRefused : State → List Change → Refusal → Type 0
-IsFollowRefused start changes e = IsOpeningRefused e ⊎ AreRefused start changes e
+IsFollowRefused start changes e =
+    ((e ≡ Exhausted) × (start.limit ≡ 0)) ⊎ AreRefused start changes e
 
 -- A seat made the first of these changes, as many as were accepted: all of them, or those before
 -- the one that is refused so after the book that the seat then knows.

@@ -11,7 +11,7 @@ ghost use Rattle.lq_model.specs.Followed.{AreRefused, HasHungUp, HasApplied, Has
 use lq_board::Seat;
 use lq_desk_sub::Read;
 use lq_predicate::Predicate;
-use lq_server::{Base, Named, Reader, Retired, Server, Synced, Work, join_over};
+use lq_server::{Base, Callers, Named, Reader, Retired, Server, Synced, Work, join_over};
 use lq_server_slots::{Identity, books_extend_on, states_stay};
 use lq_update::updates_stay;
 use lq_value::Refusal;
@@ -33,8 +33,8 @@ pub struct Followed {
 /// changes, which are just the changes given, in their order. The reader opened its query before
 /// the first of them. It has received the query's whole update list over the book up to the mark.
 /// Its entries are the query's result after the mark's change. The volume is the state after the
-/// book, from the base's volume on. Refused: `NoSlot`, `Exhausted`, `NoMemory`, or as one of the
-/// changes is refused after just those before it.
+/// book, from the base's volume on. Refused: `Exhausted` where that volume takes no changes,
+/// `NoMemory`, or as one of the changes is refused after just those before it.
 pub fn follow<N: Named + Send + Sync, R: Threads + Wait + Sync>(
     rt: &R,
     base: Base,
@@ -46,11 +46,14 @@ pub fn follow<N: Named + Send + Sync, R: Threads + Wait + Sync>(
     ensures followed { IfOk result (IsFollowed N.start predicate.now changes.now) }
     ensures refused { IfErr result (IsFollowRefused N.start changes.now) }
 {
-    let (server, mut head, mut seat): (Server<N>, Seat<Identity>, Seat<Identity>) =
-        Server::counted_with_seat(base);
-    let reader = server.open(rt, &mut head, predicate, 16, 1024, false)?;
-    // For the proof: no change was made yet, since no seat is enlisted.
-    server.latest(&mut head);
+    let (server, callers): (Server<N>, Callers) = Server::counted_with_reader(
+        base, predicate, 16, 1024, false,
+    )?;
+    let Callers {
+        mut head,
+        mut seat,
+        reader,
+    } = callers;
     server.enlist(&mut head, &mut seat);
     let reads = Reads { reader, reads };
     let (reader, applied) = join_over(rt, &server, reads, Applies { seat, changes });

@@ -1,5 +1,5 @@
 -- Readers whose seat is their own, and what a read leaves of them.
-use Rattle.std.proofs.Common.{◌≡◌, ℕ, ◌+◌, ◌<◌, ◌≤◌, Bool, true, false, arith, ◌++◌, length, map, Option, Some, None, inr, refl, sym, ap, ◌∙◌, subst, append_assoc}
+use Rattle.std.proofs.Common.{◌≡◌, ℕ, ◌+◌, ◌<◌, ◌≤◌, Bool, true, false, arith, [], ◌∷◌, ◌++◌, length, map, Option, Some, None, inr, refl, sym, ap, ◌∙◌, subst, append_assoc}
 use Rattle.std.specs.Prelude.{IsSome, IsSomeAnd, IfOk, OnErr, Result, Ok, Err, ok_or, option_to_list}
 use mathlib.Core.List.{List, IsPrefix}
 use Rattle.lq_value.specs.declared.refusal.Refusal.{Refusal}
@@ -10,7 +10,9 @@ use Rattle.lq_volume.specs.State.{State}
 use Rattle.lq_volume.specs.Book.{Book, Extends}
 use Rattle.lq_server_slots.specs.Events.{opening_refusals}
 use Rattle.lq_board.specs.declared.token_views.Author.{Author}
+use Rattle.lq_board.specs.declared.token_views.KnownSlot.{KnownSlot}
 use Rattle.lq_board.specs.declared.token_views.Moment.{Moment}
+use Rattle.lq_board.specs.Slot.{slot_at}
 use Rattle.lq_board.specs.Token.{BoardName, SeatToken}
 use Rattle.lq_update.specs.declared.message.Message.{Message}
 use Rattle.lq_update.specs.declared.parcel.Parcel.TheVariants.{Update as update}
@@ -27,12 +29,12 @@ use Rattle.lq_server_slots.specs.Reading.{ReadingHold, Gives, Fails, IsTold, kno
 use Rattle.lq_server_slots.specs.declared.subscription.Subscription.{Subscription}
 use Rattle.lq_server_slots.specs.declared.open.Opened.{Opened}
 use Rattle.lq_server_slots.specs.declared.slots.ServerSlots.{ServerSlots}
-use Rattle.lq_server_slots.specs.Slots.{SameButKnown, AreConsistent, has_no_free, slot_in}
+use Rattle.lq_server_slots.specs.Slots.{SameButKnown, AreConsistent, asks_of, has_no_free, slot_in}
 use Rattle.lq_server_slots.specs.Opening.{IdentityFits, IsOpenedName, IsOpened, IsOpeningTabled, asks_after, name_or}
 use Rattle.lq_server.specs.Hold.{ReaderHold}
 use Rattle.lq_server.specs.Own.{IsOwn, StaysOwn}
 use Rattle.lq_server.specs.Closed.{IsCloseAnswer, IsClosing}
-use Rattle.lq_server.specs.Opened.{HasNoted, IsAnsweredOver, IsNewReader}
+use Rattle.lq_server.specs.Opened.{HasNoted, IsAnsweredOver, IsNewReader, first_opening_refusal}
 use Rattle.lq_server.specs.Syncing.{IsSynced, IsRead, IsUnread}
 use Rattle.lq_server.specs.declared.server.Synced.{Synced}
 use Rattle.lq_server.proofs.SyncLemmas.{synced}
@@ -306,6 +308,38 @@ answered_over old under start was now port backlog result same stands seat noted
           items lowest;
       keeper = keeper;
     }
+
+-- where nothing was opened, a slot is free
+none_opened : (o : Option Subscription) (p : KnownSlot Identity) → asks_of o p ≤ 0 → o ≡ None
+none_opened None p few = refl
+none_opened (Some s) p few = absurd (omega arith)
+
+-- where the first slot is free, not all are taken
+first_free : (slots : List (Option Subscription)) → 1 < length slots → slot_in slots 1 ≡ None
+    → has_no_free slots ≡ false
+first_free [] long free = absurd (omega arith)
+first_free (s ∷ []) long free = absurd (omega arith)
+first_free (s ∷ None ∷ slots) long free = refl
+first_free (s ∷ Some t ∷ slots) long free = cc
+
+-- so where none was opened, an opening is answered as the first at a server; `under` are the slots
+-- once its seat has met the keeper
+pub first_opening : {T : Type 0} (old under : ServerSlots) (start : State) (port backlog : ℕ)
+    (result : Result T Refusal) → SameButKnown old under → AreConsistent under under.keeper.book
+    → old.openings ≡ 0 → IsOpeningTabled old start.limit port backlog result
+    → IsRefusedBy result (first_opening_refusal start port backlog)
+first_opening old under start port backlog result same stands none table =
+    let all = stands.0 in
+    let items : List (Option Subscription) = under.subscriptions.items in
+    let long = all.wide in
+    let few : asks_of (slot_in items 1) (slot_at under.keeper.slots 1) ≤ 0 =
+    subst (λ (n : ℕ). asks_of (slot_in items 1) (slot_at under.keeper.slots 1) ≤ n)
+    (same.openings ∙ none) (all.asks 1 (omega arith) (omega arith)) in
+    let free : has_no_free old.subscriptions.items ≡ false =
+    (λ i. has_no_free (sym same.subscriptions i).items)
+    ∙ first_free items (omega (arith, long)) (none_opened _ _ few) in
+    subst (IsRefusedBy result)
+    (λ i. first_refusal (opening_refusals (free i) (none i) start.limit port backlog)) table
 
 -- what was received is a front of the updates over the known book
 pub received_front : (r : ReadingHold) → IsTold r

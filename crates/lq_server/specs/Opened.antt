@@ -1,6 +1,7 @@
 -- A reader that was just opened.
-use Rattle.std.specs.Prelude.{◌≡◌, ◌≤◌, ◌<◌, [], ◌∷◌, ◌++◌, ℕ, Bool, false, IfOk, IsSome, Result}
+use Rattle.std.specs.Prelude.{◌≡◌, ◌≤◌, ◌<◌, [], ◌∷◌, ◌++◌, ℕ, Bool, false, Option, IfOk, IsSome, Result}
 use Rattle.lq_value.specs.declared.refusal.Refusal.{Refusal}
+use Rattle.lq_value.specs.Refusal.{first_refusal}
 use Rattle.lq_predicate.specs.Query.{Query}
 use Rattle.lq_volume.specs.State.{State}
 use Rattle.lq_volume.specs.Book.{Book}
@@ -8,6 +9,7 @@ use Rattle.lq_board.specs.Token.{BoardName, SeatToken, moment_of}
 use Rattle.lq_server_slots.specs.declared.identity.Identity.{Identity}
 use Rattle.lq_server_slots.specs.declared.open.Opened.{Opened}
 use Rattle.lq_server_slots.specs.declared.slots.ServerSlots.{ServerSlots}
+use Rattle.lq_server_slots.specs.Events.{opening_refusals}
 use Rattle.lq_server_slots.specs.Opening.{IsOpened, IsOpeningTabled}
 use Rattle.lq_server_slots.specs.Slots.{AreConsistent, slot_in}
 use Rattle.lq_server.specs.Hold.{ReaderHold}
@@ -23,6 +25,11 @@ pub record IsNewReader (r : ReaderHold) (board : BoardName) (book : Book) (q : Q
   pub own : IsOwn r
   pub hang_up_asked : r.hang_up_asked ≡ false
   pub opened : IsOpened (opened_of r) board book q mv port backlog
+
+-- why the first opening at a server over this volume is refused: no slot is taken
+abbrev pub first_opening_refusal : State → ℕ → ℕ → Option Refusal
+first_opening_refusal start port backlog =
+    first_refusal (opening_refusals false 0 start.limit port backlog)
 
 -- The seat, `old` before and `new` after, has noted one moment more: that of the keeper of these
 -- slots, which has counted their openings.

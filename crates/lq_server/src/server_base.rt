@@ -121,7 +121,9 @@ impl Base {
         requires { (N.board ≡ counted_board self.board) × (self.volume ≡ N.start) }
         ensures board { result.0 ≡ N.board }
         ensures seats { result.1.seats ≡ 0 }
+        ensures openings { result.1.slots.openings ≡ 0 }
         ensures head { result.2 ≡ leading_seat N.board N.start }
+        ensures book { result.2.book ≡ result.1.slots.keeper.book }
     {
         let Base {
             mut board,

@@ -1,25 +1,84 @@
 //! Calls of a server on its subscriptions.
-ghost use Rattle.std.specs.Prelude.{◌≡◌, ◌+◌, ◌<◌, ◌≤◌, ◌^◌, IfOk, IfErr, IfSome, IfNone, OnOk, Err, true, false};
+ghost use Rattle.std.specs.Prelude.{◌≡◌, ◌+◌, ◌<◌, ◌≤◌, ◌^◌, [], IfOk, IfErr, IfSome, IfNone, OnOk, Err, true, false};
 ghost use Rattle.lq_value.specs.declared.refusal.Refusal.TheVariants.{StillOpen};
+ghost use Rattle.lq_value.specs.Refusal.{IsRefusedBy};
 ghost use Rattle.lq_volume.specs.Book.{Extends};
+ghost use Rattle.lq_board.specs.Token.{counted_board};
 ghost use Rattle.lq_server_slots.specs.Reading.{is_marked};
 ghost use Rattle.lq_server_slots.specs.Opening.{IsOpeningRefused, size_refusal};
 ghost use Rattle.lq_server.specs.declared.server.Synced.{Synced as SyncedOf};
 ghost use Rattle.lq_server_slots.specs.declared.slots.ServerSlots.{ServerSlots as SlotsOf};
 ghost use Rattle.lq_server.specs.Closed.{IsCloseAnswer};
-ghost use Rattle.lq_server.specs.Opened.{IsAnsweredOver, IsNewReader};
+ghost use Rattle.lq_server.specs.Counted.{leading_seat};
+ghost use Rattle.lq_server.specs.Opened.{IsAnsweredOver, IsNewReader, first_opening_refusal};
 ghost use Rattle.lq_server.specs.Own.{IsOwn, StaysOwn};
 ghost use Rattle.lq_server.specs.Syncing.{IsSynced, bit, is_mark_in_port};
 
 use crate::reader::Reader;
 use crate::server::{Server, Synced};
-use crate::server_base::{Named, Seat};
+use crate::server_base::{Base, Named, Seat};
 use lq_predicate::Predicate;
 use lq_server_slots::OpenRequest;
 use lq_value::Refusal;
-use std::sync::Wait;
+use std::sync::{Mutex, Wait};
+
+/// What the callers of a counted server begin with: its leading seat, another seat and a reader.
+#[derive(Drop)]
+pub struct Callers {
+    pub head: Seat,
+    pub seat: Seat,
+    pub reader: Reader,
+}
 
 impl<N: Named> Server<N> {
+    /// As `counted_with_seat`, with the reader of a live query that the seat opens first of all.
+    ///
+    /// The numbers are as in `open`. No other caller has the server yet, so no slot is taken.
+    /// Refused, the first that fits: `BadPort`, `BadBacklog`, `Exhausted` where the volume takes no
+    /// changes, `NoMemory`.
+    pub fn counted_with_reader(
+        base: Base,
+        predicate: &Predicate,
+        port: u64,
+        backlog: u64,
+        moved: bool,
+    ) -> Result<(Server<N>, Callers), Refusal>
+        requires { (N.board ≡ counted_board base.board) × (base.volume ≡ N.start) }
+        ensures head { IfOk result (λ r. r.1.head ≡ leading_seat N.board N.start) }
+        ensures seat { IfOk result (λ r. (r.1.seat.board ≡ N.board) × (r.1.seat.slot ≡ 0)) }
+        ensures author { IfOk result (λ r. r.1.seat.author.changes ≡ []) }
+        ensures signs { IfOk result (λ r. r.1.seat.author.signs ≡ false) }
+        ensures start { IfOk result (λ r. r.1.seat.book.start ≡ N.start) }
+        ensures opened { IfOk result (λ r.
+            IsNewReader r.1.reader N.board (leading_seat N.board N.start).book predicate.now moved
+            port backlog) }
+        ensures refused { IsRefusedBy result (first_opening_refusal N.start port backlog) }
+    {
+        let (board, mut locked, head) = base.into_counted();
+        // No seat is out, so none is refused.
+        let Ok(mut seat) = locked.seat(&board) else {
+            unreachable!()
+        };
+        let asked = OpenRequest {
+            predicate,
+            port,
+            backlog,
+            moved,
+        };
+        let opened = locked.open(&board, &mut seat, &asked)?;
+        let reader = Reader {
+            reading: opened.reading,
+            seat: opened.seat,
+            slot: opened.slot,
+            hang_up_asked: false,
+        };
+        let server = Server {
+            state: Mutex::new(locked),
+            board,
+        };
+        Ok((server, Callers { head, seat, reader }))
+    }
+
     /// Opens a live query in the lowest free slot.
     ///
     /// The port has `port` places, 1 to 1,024. At most `backlog` messages are held before it, up to
@@ -128,10 +187,11 @@ impl<N: Named> Server<N> {
         closed.ok_or(Refusal::NotOpen)
     }
 
-    /// Frees the reader's slot, as tests show.
+    /// Takes the reader back, and frees its slot.
     ///
     /// Refused: `StillOpen` just where its mark wasn't read; the reader then comes back as it was.
-    /// It takes no memory.
+    /// It takes no memory. No clause of this call says that the slot is free then, since a caller
+    /// sees no slots: a clause of the call under the lock does, and tests open a query in it.
     pub fn finish<R: Wait>(&self, rt: &R, reader: Reader) -> Result<(), (Reader, Refusal)>
         requires board { reader.seat.board ≡ N.board }
         requires own { IsOwn reader }
