@@ -1,10 +1,10 @@
 -- What several lines of a run have done, and a whole run.
-use Rattle.std.proofs.Common.{◌≡◌, ◌⊎◌, inl, inr, ⊎_elim, ℕ, ◌≤◌, List, [], ◌∷◌, ◌++◌, length, map, take, drop, Option, Some, None, Result, Ok, Err, OnOk, OnErr, IfErr, is_err, true, false, refl, sym, ap, ◌∙◌, subst, arith, append_assoc, append-nil, take-append-drop}
+use Rattle.std.proofs.Common.{◌≡◌, inl, inr, ℕ, ◌≤◌, List, [], ◌∷◌, ◌++◌, length, map, take, drop, Option, Some, None, Result, Ok, Err, OnOk, OnErr, IfErr, is_err, true, false, refl, sym, ap, ◌∙◌, subst, arith, append_assoc, append-nil, take-append-drop}
 use Rattle.std.proofs.KnownBytes.{Appends-nil, Appends-trans}
 use Rattle.std.specs.Io.KnownBytes.{Appends, Keeps}
 use Rattle.lq_volume.specs.State.{State, empty_state}
 use Rattle.lq_volume.specs.declared.change.Applied.{Applied}
-use Rattle.lq_volume.specs.Book.{Book, Extends}
+use Rattle.lq_volume.specs.Book.{Book}
 use Rattle.lq_board.specs.declared.token_views.Author.{Author}
 use Rattle.lq_board.specs.Author.{IsWhole}
 use Rattle.lq_board.specs.Token.{BoardName}
@@ -18,9 +18,9 @@ use Rattle.lq_script_lines.specs.Lines.{HasPrefix}
 use Rattle.lq_script_lines.specs.declared.devices.Failed.{Failed}
 use Rattle.lq_script_lines.specs.declared.run_fault.RunFault.{RunFault}
 use Rattle.lq_script_lines.specs.declared.run_fault.RunFault.TheVariants.{Read, Write, Limit, Memory, Thread}
-use Rattle.lq_script.specs.Changes.{AreAllChanges, IsChangeOf, Leaves, Takes, TellsAllChanges, TellsAllOf, change_in, change_told, changes_told, replies_text}
-use Rattle.lq_script.specs.Progress.{AppendsReads, Carries, HasMade, IsClosed, IsClosedAfter, IsPut, OwnToken, Standing, Stops, TellsMade, TellsRetired}
-use Rattle.lq_script.proofs.ChangeLemmas.{each_later, made_none, made_same, made_then}
+use Rattle.lq_script.specs.Changes.{Leaves, Takes, TellsAllChanges, change_in, change_told, changes_told, replies_text}
+use Rattle.lq_script.specs.Progress.{AppendsReads, Carries, HasMade, IsClosed, IsClosedAfter, IsPut, OwnToken, Standing, TellsMade, TellsRetired}
+use Rattle.lq_script.proofs.ChangeLemmas.{each_later, made_same, made_then}
 
 -- ---- what a writer took
 

@@ -88,11 +88,10 @@ fn serve_over<N: Named + Send + Sync, T: Threads + Wait + Sync, R: Source, W: Si
     ensures made { TellsMade result.0 seat result.1
         (W.written writer.old) (W.written writer.new) }
 {
-    let Held {
-        ran,
-        seat,
-        writer: _,
-    } = serve_within(rt, alloc, server, seat, reader, writer, gate);
+    let held = serve_within(rt, alloc, server, seat, reader, writer, gate);
+    // The loan of the writer ends.
+    let Held { ran, seat, writer } = held;
+    let _ = writer;
     (ran, seat)
 }
 

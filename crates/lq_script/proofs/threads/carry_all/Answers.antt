@@ -1,5 +1,5 @@
 -- The lines of each read are carried out. At the end all that waited is written, but for a fault.
-use Rattle.std.proofs.Common.{rules, ◌≡◌, ◌∙◌, Ok, Err, refl}
+use Rattle.std.proofs.Common.{rules, ◌∙◌, Ok, Err, refl}
 use Rattle.lq_script.proofs.ProgressLemmas.{carries_none, carries_ok, carries_then, tells_closed, tells_fault, tells_flush, told_by}
 use Rattle.lq_script.proofs.threads.carry_all.Goals as goal
 

@@ -1,5 +1,5 @@
 -- All changes are those of the one seat that was enlisted.
-use Rattle.std.proofs.Common.{◌≡◌, ◌∙◌}
+use Rattle.std.proofs.Common.{◌∙◌}
 use Rattle.lq_script.proofs.ProgressLemmas.{head_none, retired_never, tells_retired}
 use Rattle.lq_script.proofs.threads.serve.Goals as goal
 

@@ -19,7 +19,7 @@ returns-in_err-take_line-clause-carried g c =
 
 pub loop-count-preserved : goal.loop-count-preserved
 loop-count-preserved g c = record {
-  within = omega (arith, c.after.ensures, c.loop-count.invariant.within);
+  within = omega (arith, c.after-rest.ensures, c.loop-count.invariant.within);
   same = c.take_line.ensures.same ∙ c.loop-count.invariant.same;
   carried = carries_ok _ _ _ tt
       (carries_then (Ok c.in_ok-take_line.field-0) _ _ _ _ c.loop-count.invariant.carried

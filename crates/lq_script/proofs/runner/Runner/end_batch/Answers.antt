@@ -1,5 +1,5 @@
 -- Reads tell no change.
-use Rattle.std.proofs.Common.{◌≡◌, ◌∙◌, refl, sym}
+use Rattle.std.proofs.Common.{◌∙◌, refl, sym}
 use Rattle.lq_script.proofs.ProgressLemmas.{carries_kept, carries_none, carries_reads, when_err, when_ok}
 use Rattle.lq_script.proofs.runner.Runner.end_batch.Goals as goal
 

@@ -1,5 +1,5 @@
 -- The batch, and then the line's refusal.
-use Rattle.std.proofs.Common.{◌≡◌, ◌∙◌, [], sym, subst}
+use Rattle.std.proofs.Common.{◌∙◌, [], sym, subst}
 use Rattle.lq_script_desk.specs.Response.{Refuses}
 use Rattle.lq_script.specs.Progress.{HasMade, OwnToken}
 use Rattle.lq_script.proofs.ChangeLemmas.{made_same}

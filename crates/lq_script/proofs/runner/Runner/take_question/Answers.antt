@@ -1,5 +1,5 @@
 -- The batch, and then the question with its reply.
-use Rattle.std.proofs.Common.{◌≡◌, ◌∙◌, [], Err, refl, sym, subst}
+use Rattle.std.proofs.Common.{◌∙◌, [], Err, refl, sym, subst}
 use Rattle.lq_script_desk.specs.Answer.{response_of}
 use Rattle.lq_script_desk.specs.Response.{Refuses}
 use Rattle.lq_script_lines.specs.declared.run_fault.RunFault.TheVariants.{Memory}

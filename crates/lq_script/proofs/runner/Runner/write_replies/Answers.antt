@@ -1,5 +1,5 @@
 -- Where the writer failed, it took a front of what waited.
-use Rattle.std.proofs.Common.{◌≡◌, ℕ, List, take, subst}
+use Rattle.std.proofs.Common.{ℕ, List, take, subst}
 use Rattle.std.specs.Io.KnownBytes.{Appends}
 use Rattle.lq_script.proofs.ProgressLemmas.{written_err}
 use Rattle.lq_script.proofs.runner.Runner.write_replies.Goals as goal

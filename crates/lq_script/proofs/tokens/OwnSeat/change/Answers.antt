@@ -1,5 +1,5 @@
 -- The change that was accepted is the one that the seat made.
-use Rattle.std.proofs.Common.{◌≡◌, [], ◌∷◌, subst}
+use Rattle.std.proofs.Common.{[], ◌∷◌, subst}
 use Rattle.lq_volume.specs.declared.change.Applied.{Applied}
 use Rattle.lq_script.specs.Progress.{HasMade, OwnToken}
 use Rattle.lq_script.proofs.ChangeLemmas.{made_none, made_one, on_err_any}

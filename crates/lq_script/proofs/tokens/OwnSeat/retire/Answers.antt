@@ -1,5 +1,5 @@
 -- The last book extends the one that this seat knew.
-use Rattle.std.proofs.Common.{◌≡◌, ◌∙◌, sym, ap, subst}
+use Rattle.std.proofs.Common.{◌∙◌, sym, ap, subst}
 use Rattle.lq_volume.specs.Book.{Book, Extends}
 use Rattle.lq_script.specs.Progress.{OwnToken}
 use Rattle.lq_script.proofs.ChangeLemmas.{extends_on}
