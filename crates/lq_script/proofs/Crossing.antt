@@ -4,7 +4,7 @@ use denote.Ref.{NamedLft}
 use denote.Param.Send.{IsSend, IsSync, sendable, shr_send}
 use denote.Param.SendFields.{declared_send}
 use Rattle.std.proofs.Crossing.{crosses, Vec-send}
-use Rattle.lq_script_desk.specs.contracts.response.Response as response
+use Rattle.lq_desk_sub.specs.contracts.read.Read as read
 use Rattle.lq_server.specs.declared.server_base.Named.{Ghosts}
 use Rattle.lq_server.specs.contracts.server.Server as server
 use Rattle.lq_script.specs.contracts.batch.Turn as turn
@@ -14,7 +14,7 @@ use Rattle.lq_script.proofs.tokens.OwnReader.TheSendSync as found_reader
 pub turn_send : (ℓ : NamedLft) (N G : RattleType) (g : Ghosts N.Denot)
     → IsSync (server.the_row N g)
     → IsSync G
-    → IsSend response.the_row
+    → IsSend read.the_row
     → IsSend (turn.the_row ℓ N G g)
 turn_send ℓ N G g s gate r =
     declared_send (turn.the_type ℓ N G g) (
@@ -25,7 +25,7 @@ turn_send ℓ N G g s gate r =
           search (sendable, crosses, found_reader.the_send) depth 20,
           (
             search sendable,
-            (search sendable, (Vec-send response.the_row r, (search sendable, tt))),
+            (search sendable, (Vec-send read.the_row r, (search sendable, tt))),
           ),
         ),
       ),

@@ -1,3 +1,5 @@
 pub mod Check
 pub mod Written
 pub mod Outcome
+pub mod Changes
+pub mod Progress

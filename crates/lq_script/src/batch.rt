@@ -1,19 +1,25 @@
 //! Reads of several slots, side by side.
+ghost use Rattle.std.specs.Prelude.{◌≡◌, [], IfOk, OnOk, OnErr};
 ghost use Rattle.std.specs.Thread.{IsSend};
+ghost use Rattle.lq_script_desk.specs.Answer.{response_of};
+ghost use Rattle.lq_script_lines.specs.Lines.{HasPrefix};
+ghost use Rattle.lq_script.specs.Changes.{change_told};
+ghost use Rattle.lq_script.specs.Progress.{AppendsReads};
 
 use crate::gate::Gate;
 use crate::readers::Readers;
 use crate::tasks::Task;
 use crate::tokens::OwnReader;
 use crate::workers::Workers;
-use lq_script_desk::{Response, put_reply};
-use lq_server::{Named, Server, servers_may_be_shared};
+use lq_script_desk::{Reply, Response, put_reply};
+use lq_server::{Named, Read, Server, servers_may_be_shared};
 use lq_value::Refusal;
 use std::alloc::Global;
+use std::mem;
 use std::sync::Wait;
 use std::thread::Threads;
 
-/// The reads of one slot in a batch, and the replies to those that were carried out.
+/// The reads of one slot in a batch, and the answers to those that were carried out.
 #[derive(Drop)]
 pub struct Turn<'a, N: Named, G> {
     server: &'a Server<N>,
@@ -21,7 +27,7 @@ pub struct Turn<'a, N: Named, G> {
     reader: OwnReader<N>,
     slot: u64,
     reads: usize,
-    replies: Vec<Response>,
+    answers: Vec<Read>,
     told: usize,
 }
 
@@ -34,10 +40,10 @@ impl<'a, N: Named, G: Gate> Task for Turn<'a, N, G> {
     fn run<R: Wait>(&mut self, rt: &R) {
         for _ in 0..self.reads {
             self.gate.pass(rt, self.slot);
-            let Ok(reply) = self.reader.read(rt, self.server) else {
+            let Ok(answer) = self.reader.read(rt, self.server) else {
                 return;
             };
-            if self.replies.push(reply).is_err() {
+            if self.answers.push(answer).is_err() {
                 return;
             }
         }
@@ -46,13 +52,19 @@ impl<'a, N: Named, G: Gate> Task for Turn<'a, N, G> {
 
 impl<'a, N: Named, G> Turn<'a, N, G> {
     // The reply to the next of its reads. Refused: `NoMemory` where that read was not carried out.
-    fn next(&mut self) -> Result<&Response, Refusal> {
+    fn next(&mut self) -> Result<Response, Refusal>
+        ensures none { IfOk result (λ r. change_told (response_of r) ≡ []) }
+    {
         let told = self.told;
-        let Some(reply) = self.replies.get(told) else {
+        let Some(place) = self.answers.get_mut(told) else {
             return Err(Refusal::NoMemory);
         };
+        let answer = mem::replace(place, Read::Ended);
         self.told = told + 1;
-        Ok(reply)
+        Ok(Response::Reply {
+            slot: self.slot,
+            reply: Reply::Took(answer),
+        })
     }
 }
 
@@ -75,11 +87,14 @@ pub fn read_beside<
     readers: &mut Readers<N>,
     slots: &[u64],
     out: &mut Vec<u8>,
-) -> Result<(), Refusal> {
+) -> Result<(), Refusal>
+    ensures ok { OnOk result (AppendsReads out.old.items out.new.items) }
+    ensures err { OnErr result (HasPrefix out.new.items out.old.items) }
+{
     let turns = turns_of(alloc, server, gate, readers, slots)?;
     // For the proof: what a turn holds may cross threads.
     servers_may_be_shared::<N>();
-    sends::<Response>();
+    sends::<Read>();
     let mut turns = workers.do_all(turns)?;
     let told = put_replies(&mut turns, slots, out);
     for turn in turns {
@@ -98,14 +113,25 @@ fn put_replies<N: Named, G>(
     turns: &mut [Turn<'_, N, G>],
     slots: &[u64],
     out: &mut Vec<u8>,
-) -> Result<(), Refusal> {
+) -> Result<(), Refusal>
+    ensures ok { OnOk result (AppendsReads out.old.items out.new.items) }
+    ensures err { OnErr result (HasPrefix out.new.items out.old.items) }
+{
     for slot in slots {
-        match turn_of(turns, *slot) {
-            Some(turn) => put_reply(out, turn.next()?)?,
-            None => put_reply(out, &Response::Refused(Refusal::NotOpen))?,
-        }
+        let response = read_in(turns, *slot)?;
+        put_reply(out, &response)?;
     }
     Ok(())
+}
+
+// The reply to the next read of a slot. Refused: `NoMemory` where that read was not carried out.
+fn read_in<N: Named, G>(turns: &mut [Turn<'_, N, G>], slot: u64) -> Result<Response, Refusal>
+    ensures none { IfOk result (λ r. change_told (response_of r) ≡ []) }
+{
+    match turn_of(turns, slot) {
+        Some(turn) => turn.next(),
+        None => Ok(Response::Refused(Refusal::NotOpen)),
+    }
 }
 
 // The turn of a slot.
@@ -141,7 +167,7 @@ fn turns_of<'a, N: Named, G: Gate>(
             reader,
             slot: *slot,
             reads,
-            replies: Vec::with_capacity(alloc, reads)?,
+            answers: Vec::with_capacity(alloc, reads)?,
             told: 0,
         })?;
     }

@@ -1,6 +1,13 @@
 //! The runner of a script's lines: it carries out each and gathers the replies.
+ghost use Rattle.std.specs.Prelude.{◌≡◌, ◌+◌, ◌<◌, [], ◌++◌, length, IfErr, OnErr, OnOk};
+ghost use Rattle.lq_script_desk.specs.Answer.{response_of};
+ghost use Rattle.lq_script_desk.specs.Reply.{reply_text};
+ghost use Rattle.lq_script.specs.Changes.{Takes};
+ghost use Rattle.lq_script.specs.Progress.{Carries, IsClosed, IsPut, standing};
+
 use crate::gate::Gate;
 use crate::server_session::ServerSession;
+use crate::tokens::OwnSeat;
 use lq_script_desk::{Response, put_reply};
 use lq_script_lines::{Failed, RunFault, Sink, write_all};
 use lq_script_request::{Event, Question, Scratch, question_in};
@@ -45,7 +52,12 @@ impl<
         alloc: Global,
         session: ServerSession<'s, E, N, R, G>,
         writer: &'w mut W,
-    ) -> Runner<'s, 'w, E, N, R, G, W> {
+    ) -> Runner<'s, 'w, E, N, R, G, W>
+        ensures same { result.writer.ghost_name ≡ writer.entry.ghost_name }
+        ensures writer { result.writer.now ≡ writer.old }
+        ensures seat { result.session.seat ≡ session.entry.seat }
+        ensures empty { result.replies.items ≡ [] }
+    {
         Runner {
             alloc,
             session,
@@ -59,18 +71,32 @@ impl<
     /// Carries out these lines, each with its LF, and writes all their replies.
     ///
     /// Refused: `Write` where the writer failed or took none of the bytes given, `Memory`.
-    pub fn answer_lines(&mut self, lines: &[u8]) -> Result<(), RunFault> {
+    pub fn answer_lines(&mut self, lines: &[u8]) -> Result<(), RunFault>
+        ensures same { self.new.writer.ghost_name ≡ self.old.writer.ghost_name }
+        ensures carried { Carries result
+            (standing self.old.session.seat
+            (W.written self.old.writer.now) self.old.replies.items)
+            (standing self.new.session.seat
+            (W.written self.new.writer.now) self.new.replies.items) }
+        ensures empty { OnOk result (self.new.replies.items ≡ []) }
+    {
         let mut rest = lines;
         while let Some(count) = memchr(LF, rest) {
             self.take_line(&rest[..count])?;
-            rest = &rest[count + 1..];
+            rest = after(rest, count);
         }
         self.end_batch()?;
         self.write_replies()
     }
 
     /// Flushes the writer. Refused: `Write`.
-    pub fn flush(&mut self) -> Result<(), RunFault> {
+    pub fn flush(&mut self) -> Result<(), RunFault>
+        ensures same { self.new.writer.ghost_name ≡ self.old.writer.ghost_name }
+        ensures seat { self.new.session.seat ≡ self.old.session.seat }
+        ensures replies { self.new.replies.items ≡ self.old.replies.items }
+        ensures bytes { Takes (W.written self.old.writer.now) (W.written self.new.writer.now) [] [] }
+        ensures fault { IfErr result (λ e. e ≡ RunFault.Write) }
+    {
         match self.writer.flush() {
             Ok(()) => Ok(()),
             Err(Failed) => Err(RunFault::Write),
@@ -78,14 +104,40 @@ impl<
     }
 
     /// Ends the threads of all slots; the runner is then of no more use.
-    pub fn end_threads(&mut self) {
+    pub fn end_threads(&mut self)
+        ensures same { self.new.writer.ghost_name ≡ self.old.writer.ghost_name }
+        ensures writer { self.new.writer.now ≡ self.old.writer.now }
+        ensures seat { self.new.session.seat ≡ self.old.session.seat }
+    {
         self.session.end_threads();
+    }
+
+    /// Its seat and its writer.
+    pub fn into_parts(self) -> (OwnSeat<N>, &'w mut W)
+        ensures seat { result.0 ≡ self.entry.session.seat }
+        ensures same { result.1.ghost_name ≡ self.entry.writer.ghost_name }
+        ensures writer { result.1.now ≡ self.entry.writer.now }
+    {
+        let Runner {
+            alloc: _,
+            session,
+            writer,
+            scratch: _,
+            slots: _,
+            replies: _,
+        } = self;
+        (session.into_seat(), writer)
     }
 
     /// What a run that met a fault answers. Unless the fault is the writer's, the waiting replies
     /// are written, a fault of which is answered in its place, and the writer is flushed once.
-    pub fn close(&mut self, fault: RunFault) -> RunFault {
-        if fault == RunFault::Write {
+    pub fn close(&mut self, fault: RunFault) -> RunFault
+        ensures same { self.new.writer.ghost_name ≡ self.old.writer.ghost_name }
+        ensures seat { self.new.session.seat ≡ self.old.session.seat }
+        ensures closed { IsClosed fault result (W.written self.old.writer.now)
+            self.old.replies.items (W.written self.new.writer.now) }
+    {
+        if let RunFault::Write = fault {
             return fault;
         }
         if let Err(of_write) = self.write_replies() {
@@ -96,13 +148,15 @@ impl<
     }
 
     // A read joins the batch; any other line ends it, and is carried out.
-    fn take_line(&mut self, line: &[u8]) -> Result<(), RunFault> {
-        let asked = if line.is_empty() {
-            Err(Refusal::LongLine)
-        } else {
-            question_in(self.alloc, &mut self.scratch, line)
-        };
-        match asked {
+    fn take_line(&mut self, line: &[u8]) -> Result<(), RunFault>
+        ensures same { self.new.writer.ghost_name ≡ self.old.writer.ghost_name }
+        ensures carried { Carries result
+            (standing self.old.session.seat
+            (W.written self.old.writer.now) self.old.replies.items)
+            (standing self.new.session.seat
+            (W.written self.new.writer.now) self.new.replies.items) }
+    {
+        match asked_by(self.alloc, &mut self.scratch, line) {
             Ok(question) => self.take_question(&question),
             Err(Refusal::NoMemory) => Err(RunFault::Memory),
             Err(refusal) => {
@@ -112,7 +166,14 @@ impl<
         }
     }
 
-    fn take_question(&mut self, question: &Question) -> Result<(), RunFault> {
+    fn take_question(&mut self, question: &Question) -> Result<(), RunFault>
+        ensures same { self.new.writer.ghost_name ≡ self.old.writer.ghost_name }
+        ensures carried { Carries result
+            (standing self.old.session.seat
+            (W.written self.old.writer.now) self.old.replies.items)
+            (standing self.new.session.seat
+            (W.written self.new.writer.now) self.new.replies.items) }
+    {
         if let Some(slot) = slot_of_read(question) {
             return self.put_read(slot);
         }
@@ -124,7 +185,14 @@ impl<
         }
     }
 
-    fn put_read(&mut self, slot: u64) -> Result<(), RunFault> {
+    fn put_read(&mut self, slot: u64) -> Result<(), RunFault>
+        ensures same { self.new.writer.ghost_name ≡ self.old.writer.ghost_name }
+        ensures carried { Carries result
+            (standing self.old.session.seat
+            (W.written self.old.writer.now) self.old.replies.items)
+            (standing self.new.session.seat
+            (W.written self.new.writer.now) self.new.replies.items) }
+    {
         if self.slots.push(slot).is_err() {
             return Err(RunFault::Memory);
         }
@@ -135,25 +203,34 @@ impl<
     }
 
     // Carries out the reads that wait, and writes their replies.
-    fn end_batch(&mut self) -> Result<(), RunFault> {
+    fn end_batch(&mut self) -> Result<(), RunFault>
+        ensures same { self.new.writer.ghost_name ≡ self.old.writer.ghost_name }
+        ensures carried { Carries result
+            (standing self.old.session.seat
+            (W.written self.old.writer.now) self.old.replies.items)
+            (standing self.new.session.seat
+            (W.written self.new.writer.now) self.new.replies.items) }
+    {
         if self.slots.is_empty() {
             return Ok(());
         }
-        let before = self.replies.len();
-        let read = self.session.read(&self.slots, &mut self.replies);
+        let told = self.session.read(&self.slots, &mut self.replies);
         self.slots.clear();
-        if read.is_err() {
-            self.replies.truncate(before);
+        if told.is_err() {
             return Err(RunFault::Memory);
         }
         self.write_replies()
     }
 
     // Puts a reply after those that wait, and writes them where they are many.
-    fn put(&mut self, response: &Response) -> Result<(), RunFault> {
-        let before = self.replies.len();
-        if put_reply(&mut self.replies, response).is_err() {
-            self.replies.truncate(before);
+    fn put(&mut self, response: &Response) -> Result<(), RunFault>
+        ensures same { self.new.writer.ghost_name ≡ self.old.writer.ghost_name }
+        ensures seat { self.new.session.seat ≡ self.old.session.seat }
+        ensures put { IsPut result (W.written self.old.writer.now) self.old.replies.items
+            (W.written self.new.writer.now) self.new.replies.items
+            (reply_text (response_of response.now)) }
+    {
+        if put_whole(&mut self.replies, response).is_err() {
             return Err(RunFault::Memory);
         }
         if self.replies.len() < GATHERED {
@@ -162,7 +239,15 @@ impl<
         self.write_replies()
     }
 
-    fn write_replies(&mut self) -> Result<(), RunFault> {
+    fn write_replies(&mut self) -> Result<(), RunFault>
+        ensures same { self.new.writer.ghost_name ≡ self.old.writer.ghost_name }
+        ensures seat { self.new.session.seat ≡ self.old.session.seat }
+        ensures put { IsPut result (W.written self.old.writer.now) self.old.replies.items
+            (W.written self.new.writer.now) self.new.replies.items
+            [] }
+        ensures empty { self.new.replies.items ≡ [] }
+        ensures fault { IfErr result (λ e. e ≡ RunFault.Write) }
+    {
         let written = write_all(self.writer, &self.replies);
         self.replies.clear();
         match written {
@@ -170,6 +255,36 @@ impl<
             Err(Failed) => Err(RunFault::Write),
         }
     }
+}
+
+// What comes behind the byte at this place.
+fn after(bytes: &[u8], place: usize) -> &[u8]
+    requires { place < length bytes.now }
+    ensures { length result.now + (place + 1) ≡ length bytes.now }
+{
+    &bytes[place + 1..]
+}
+
+// The question of a line, which is empty where the line was too long. Refused as the line is.
+fn asked_by(alloc: Global, scratch: &mut Scratch, line: &[u8]) -> Result<Question, Refusal> {
+    if line.is_empty() {
+        return Err(Refusal::LongLine);
+    }
+    question_in(alloc, scratch, line)
+}
+
+// Appends the text of a response to `out`. Where memory is wanting, `out` is then as it was.
+fn put_whole(out: &mut Vec<u8>, response: &Response) -> Result<(), RunFault>
+    ensures ok { OnOk result (out.new.items
+        ≡ out.old.items ++ reply_text (response_of response.now)) }
+    ensures err { OnErr result (out.new.items ≡ out.old.items) }
+{
+    let before = out.len();
+    if put_reply(out, response).is_err() {
+        out.truncate(before);
+        return Err(RunFault::Memory);
+    }
+    Ok(())
 }
 
 // The slot of a read; `None` of any other question.

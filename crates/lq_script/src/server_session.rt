@@ -1,4 +1,9 @@
 //! The replies to the lines of a script, by the public calls of a server.
+ghost use Rattle.std.specs.Prelude.{◌≡◌, [], IfOk, OnOk, OnErr};
+ghost use Rattle.lq_script_desk.specs.Answer.{response_of};
+ghost use Rattle.lq_script.specs.Changes.{change_told};
+ghost use Rattle.lq_script.specs.Progress.{AppendsReads, HasMade};
+
 use crate::batch::{Turn, read_beside};
 use crate::gate::Gate;
 use crate::readers::Readers;
@@ -11,7 +16,7 @@ use lq_server::{Named, Server};
 use lq_value::Refusal;
 use std::alloc::Global;
 use std::sync::Wait;
-use std::thread::{Scope, Threads};
+use std::thread::Threads;
 
 /// A seat and the readers at a server, that answer the lines of a script.
 #[derive(Drop)]
@@ -32,18 +37,19 @@ impl<
     R: Threads + Wait + Sync,
     G: Gate + Sync + 's,
 > ServerSession<'s, E, N, R, G> {
-    /// A session at a server by this seat, with no readers. Refused: `NoMemory`.
+    /// A session at a server by this seat, with these readers and these threads of slots.
     pub fn new(
         rt: &'s R,
         alloc: Global,
-        scope: &'s Scope<'s, E>,
-        server: &'s Server<N>,
         seat: OwnSeat<N>,
+        server: &'s Server<N>,
         gate: &'s G,
-    ) -> Result<ServerSession<'s, E, N, R, G>, Refusal> {
-        let readers = Readers::new(alloc)?;
-        let workers = Workers::new(rt, alloc, scope)?;
-        Ok(ServerSession {
+        readers: Readers<N>,
+        workers: Workers<'s, E, R, Turn<'s, N, G>>,
+    ) -> ServerSession<'s, E, N, R, G>
+        ensures seat { result.seat ≡ seat }
+    {
+        ServerSession {
             rt,
             alloc,
             server,
@@ -51,14 +57,35 @@ impl<
             seat,
             readers,
             workers,
-        })
+        }
+    }
+
+    /// Its seat.
+    pub fn into_seat(self) -> OwnSeat<N>
+        ensures seat { result ≡ self.entry.seat }
+    {
+        let ServerSession {
+            rt: _,
+            alloc: _,
+            server: _,
+            gate: _,
+            seat,
+            readers: _,
+            workers: _,
+        } = self;
+        seat
     }
 
     /// Appends the replies to reads of these slots to `out`, in their order; the reads of
-    /// several slots go side by side. Refused: `NoMemory`, and then a part of the replies may
-    /// have been appended to `out`, and the session is of no more use.
-    pub fn read(&mut self, slots: &[u64], out: &mut Vec<u8>) -> Result<(), Refusal> {
-        read_beside(
+    /// several slots go side by side. Refused: `NoMemory`, and then `out` is as it was, and the
+    /// session is of no more use.
+    pub fn read(&mut self, slots: &[u64], out: &mut Vec<u8>) -> Result<(), Refusal>
+        ensures seat { self.new.seat ≡ self.old.seat }
+        ensures ok { OnOk result (AppendsReads out.old.items out.new.items) }
+        ensures err { OnErr result (out.new.items ≡ out.old.items) }
+    {
+        let before = out.len();
+        let read = read_beside(
             self.alloc,
             self.server,
             self.gate,
@@ -66,17 +93,28 @@ impl<
             &mut self.readers,
             slots,
             out,
-        )
+        );
+        if read.is_err() {
+            out.truncate(before);
+            return Err(Refusal::NoMemory);
+        }
+        Ok(())
     }
 
     /// Ends the threads of all slots; the session is then of no more use.
-    pub fn end_threads(&mut self) {
+    pub fn end_threads(&mut self)
+        ensures seat { self.new.seat ≡ self.old.seat }
+    {
         self.workers.end_all();
     }
 
     /// The answer to a question that is no read. Refused as the question is; after `NoMemory` the
     /// session is of no more use.
-    pub fn answer(&mut self, question: &Question) -> Result<Response, Refusal> {
+    pub fn answer(&mut self, question: &Question) -> Result<Response, Refusal>
+        ensures made { IfOk result (λ r.
+            HasMade self.old.seat self.new.seat (change_told (response_of r))) }
+        ensures err { OnErr result (HasMade self.old.seat self.new.seat []) }
+    {
         match question {
             Question::Event(event) => self.event(event),
             Question::Find { dir, name } => self.seat.find(self.rt, self.server, *dir, name),
@@ -86,7 +124,11 @@ impl<
         }
     }
 
-    fn event(&mut self, event: &Event) -> Result<Response, Refusal> {
+    fn event(&mut self, event: &Event) -> Result<Response, Refusal>
+        ensures made { IfOk result (λ r.
+            HasMade self.old.seat self.new.seat (change_told (response_of r))) }
+        ensures err { OnErr result (HasMade self.old.seat self.new.seat []) }
+    {
         match event {
             Event::Change(change) => self.seat.change(self.rt, self.server, change),
             Event::Open {
@@ -109,7 +151,10 @@ impl<
         port: u64,
         backlog: u64,
         moved: bool,
-    ) -> Result<Response, Refusal> {
+    ) -> Result<Response, Refusal>
+        ensures made { HasMade self.old.seat self.new.seat [] }
+        ensures none { IfOk result (λ r. change_told (response_of r) ≡ []) }
+    {
         let reader = self
             .seat
             .open(self.rt, self.server, predicate, port, backlog, moved)?;
@@ -118,7 +163,10 @@ impl<
         opened
     }
 
-    fn finish(&mut self, slot: u64) -> Result<Response, Refusal> {
+    fn finish(&mut self, slot: u64) -> Result<Response, Refusal>
+        ensures seat { self.new.seat ≡ self.old.seat }
+        ensures none { IfOk result (λ r. change_told (response_of r) ≡ []) }
+    {
         match self.readers.take(slot)?.finish(self.rt, self.server) {
             Ok(()) => {
                 self.workers.end(slot)?;

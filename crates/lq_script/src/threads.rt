@@ -1,14 +1,19 @@
 //! A whole script by threads, over the root alone.
-ghost use Rattle.std.specs.Prelude.{◌≡◌, false};
+ghost use Rattle.std.specs.Prelude.{◌≡◌, [], ◌∷◌, false};
+ghost use Rattle.lq_board.specs.Author.{leader, with_roll};
 ghost use Rattle.lq_board.specs.Token.{counted_board};
+ghost use Rattle.lq_script.specs.Changes.{TellsAllChanges};
+ghost use Rattle.lq_script.specs.Progress.{TellsMade, TellsRetired};
 
 use crate::gate::Gate;
 use crate::lines::Lines;
+use crate::readers::Readers;
 use crate::runner::Runner;
 use crate::server_session::ServerSession;
 use crate::tokens::OwnSeat;
+use crate::workers::Workers;
 use lq_script_lines::{RunFault, Sink, Source, out_of_memory};
-use lq_server::{Base, Named, Seat, Server};
+use lq_server::{Base, Named, Retired, Seat, Server};
 use lq_volume::{MAX_CHANGES, Volume};
 use std::alloc::Global;
 use std::marker::Brand;
@@ -17,6 +22,8 @@ use std::thread;
 use std::thread::{Scope, Threads};
 
 /// Carries out a script as lq_script_desk's `run` does, its reads in threads.
+///
+/// Its server makes no change but those that the replies tell.
 pub fn run_threads<T: Threads + Wait + Sync, R: Source, W: Sink, G: Gate + Sync>(
     rt: &T,
     alloc: Global,
@@ -27,11 +34,21 @@ pub fn run_threads<T: Threads + Wait + Sync, R: Source, W: Sink, G: Gate + Sync>
     requires reader_works { R.failed reader.old ≡ false }
     requires writer_works { W.failed writer.old ≡ false }
     requires writer_moves { W.stalled writer.old ≡ false }
+
+    // The server made no change but the script's.
+    ensures changes { TellsAllChanges result (W.written writer.old) (W.written writer.new) }
 {
     let Ok(base) = Base::new(alloc, Volume::new(alloc, MAX_CHANGES)) else {
         return Err(out_of_memory(writer));
     };
-    serve::<Brand, T, R, W, G>(rt, alloc, base, reader, writer, gate)
+    serve::<Brand, T, R, W, G>(rt, alloc, base, reader, writer, gate).ran
+}
+
+// How a run ended, and what its server left.
+#[derive(Drop)]
+struct Served {
+    ran: Result<(), RunFault>,
+    retired: Retired,
 }
 
 // Carries out a script at a counted server over a base. No seat but the script's makes changes.
@@ -42,14 +59,20 @@ fn serve<N: Named + Send + Sync, T: Threads + Wait + Sync, R: Source, W: Sink, G
     reader: &mut R,
     writer: &mut W,
     gate: &G,
-) -> Result<(), RunFault>
+) -> Served
     requires base { (N.board ≡ counted_board base.board) × (base.volume ≡ N.start) }
+    ensures changes { TellsRetired N.start result.retired.volume result.retired.changes
+        result.ran (W.written writer.old) (W.written writer.new) }
 {
     let (server, mut head): (Server<N>, Seat) = Server::counted(base);
     let Ok(seat) = OwnSeat::new(rt, &server, &mut head) else {
-        return Err(out_of_memory(writer));
+        let ran = Err(out_of_memory(writer));
+        let left = server.retire(rt, head);
+        return Served { ran, retired: left };
     };
-    serve_over(rt, alloc, &server, seat, reader, writer, gate)
+    let (ran, seat) = serve_over(rt, alloc, &server, seat, reader, writer, gate);
+    let retired = seat.retire(rt, server, head);
+    Served { ran, retired }
 }
 
 // Carries out a script at a server. Each of its threads has ended when it answers.
@@ -61,15 +84,63 @@ fn serve_over<N: Named + Send + Sync, T: Threads + Wait + Sync, R: Source, W: Si
     reader: &mut R,
     writer: &mut W,
     gate: &G,
-) -> Result<(), RunFault> {
-    thread::scope(thread::scope_env(), rt, |scope| {
-        serve_in(rt, alloc, scope, server, seat, reader, writer, gate)
+) -> (Result<(), RunFault>, OwnSeat<N>)
+    ensures made { TellsMade result.0 seat result.1
+        (W.written writer.old) (W.written writer.new) }
+{
+    let held = serve_within(rt, alloc, server, seat, reader, writer, gate);
+    // The loan of the writer ends.
+    let Held { ran, seat, writer } = held;
+    let _ = writer;
+    (ran, seat)
+}
+
+// What a run reads, and what it writes.
+#[derive(Drop)]
+struct Streams<'w, R, W> {
+    reader: &'w mut R,
+    writer: &'w mut W,
+}
+
+// How a run ended, with its seat and its writer.
+#[derive(Drop)]
+struct Held<'w, N: Named, W> {
+    ran: Result<(), RunFault>,
+    seat: OwnSeat<N>,
+    writer: &'w mut W,
+}
+
+// Carries out a script at a server, in a scope of its own.
+fn serve_within<
+    'w,
+    N: Named + Send + Sync,
+    T: Threads + Wait + Sync,
+    R: Source,
+    W: Sink,
+    G: Gate + Sync,
+>(
+    rt: &T,
+    alloc: Global,
+    server: &Server<N>,
+    seat: OwnSeat<N>,
+    reader: &'w mut R,
+    writer: &'w mut W,
+    gate: &G,
+) -> Held<'w, N, W>
+    ensures same { result.writer.ghost_name ≡ writer.entry.ghost_name }
+    ensures made { TellsMade result.ran seat result.seat
+        (W.written writer.old) (W.written result.writer.now) }
+{
+    let streams = Streams { reader, writer };
+    thread::scope(thread::scope_env(), rt, move |scope| {
+        serve_in(rt, alloc, scope, server, seat, gate, streams)
     })
 }
 
 // Carries out a script at a server, with threads of this scope.
 fn serve_in<
     's,
+    'w,
     E: 's,
     N: Named + Send + Sync + 's,
     T: Threads + Wait + Sync,
@@ -82,17 +153,28 @@ fn serve_in<
     scope: &'s Scope<'s, E>,
     server: &'s Server<N>,
     seat: OwnSeat<N>,
-    reader: &mut R,
-    writer: &mut W,
     gate: &'s G,
-) -> Result<(), RunFault> {
-    let Ok(session) = ServerSession::new(rt, alloc, scope, server, seat, gate) else {
-        return Err(out_of_memory(writer));
+    streams: Streams<'w, R, W>,
+) -> Held<'w, N, W>
+    ensures same { result.writer.ghost_name ≡ streams.entry.writer.ghost_name }
+    ensures made { TellsMade result.ran seat result.seat
+        (W.written streams.entry.writer.now) (W.written result.writer.now) }
+{
+    let Streams { reader, writer } = streams;
+    let Ok(readers) = Readers::new(alloc) else {
+        let ran = Err(out_of_memory(writer));
+        return Held { ran, seat, writer };
     };
+    let Ok(workers) = Workers::new(rt, alloc, scope) else {
+        let ran = Err(out_of_memory(writer));
+        return Held { ran, seat, writer };
+    };
+    let session = ServerSession::new(rt, alloc, seat, server, gate, readers, workers);
     let mut runner = Runner::new(alloc, session, writer);
     let ran = carry_all(rt, alloc, reader, &mut runner);
     runner.end_threads();
-    ran
+    let (seat, writer) = runner.into_parts();
+    Held { ran, seat, writer }
 }
 
 // Carries out all lines of a reader.
@@ -110,14 +192,19 @@ fn carry_all<
     alloc: Global,
     reader: &mut R,
     runner: &mut Runner<'s, 'w, E, N, T, G, W>,
-) -> Result<(), RunFault> {
+) -> Result<(), RunFault>
+    requires empty { runner.old.replies.items ≡ [] }
+    ensures same { runner.new.writer.ghost_name ≡ runner.old.writer.ghost_name }
+    ensures made { TellsMade result runner.old.session.seat runner.new.session.seat
+        (W.written runner.old.writer.now) (W.written runner.new.writer.now) }
+{
     let mut lines = Lines::new(alloc);
     for _ in rt.forever() {
-        let read = lines.read(reader);
+        let goes = lines.read(reader);
         if let Err(fault) = runner.answer_lines(lines.given()) {
             return Err(runner.close(fault));
         }
-        match read {
+        match goes {
             Ok(true) => {}
             Ok(false) => return runner.flush(),
             Err(fault) => return Err(runner.close(fault)),

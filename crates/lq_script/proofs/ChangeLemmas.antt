@@ -1,0 +1,159 @@
+-- The changes that a seat made, in the books that it knows.
+use Rattle.std.proofs.Common.{◌≡◌, ℕ, zero, suc, ◌-◌, ◌<◌, ◌≤◌, List, [], ◌∷◌, ◌++◌, length, map, slice_get, Some, Result, Ok, Err, IfOk, OnErr, refl, sym, ap, ◌∙◌, subst, arith, length-append, append_assoc, append-nil}
+use Rattle.std.proofs.lemmas.List.{map-append, take-append-le}
+use Rattle.std.specs.List.{AllByRecursion}
+use Rattle.lq_value.specs.declared.refusal.Refusal.{Refusal}
+use Rattle.lq_volume.specs.State.{State}
+use Rattle.lq_volume.specs.declared.change.Change.{Change}
+use Rattle.lq_volume.specs.declared.change.Applied.{Applied}
+use Rattle.lq_volume.specs.Change.{node_of}
+use Rattle.lq_volume.specs.Book.{Book, Extends, after_all, grown}
+use Rattle.lq_board.specs.declared.token_views.Author.{Author}
+use Rattle.lq_board.specs.Author.{with_change}
+use Rattle.lq_server.specs.Applied.{IsAdded}
+use Rattle.lq_server_slots.specs.Slots.{before_of}
+use Rattle.lq_script_desk.specs.declared.response.Response.{Response}
+use Rattle.lq_script_desk.specs.Answer.{response_of}
+use Rattle.lq_script.specs.Changes.{IsChangeOf, change_told, state_before}
+use Rattle.lq_script.specs.Progress.{HasMade, OwnToken}
+
+-- what stands at a place of a list is within it
+get_within : (xs : List Change) (i : ℕ) (c : Change) → slice_get xs i ≡ Some c → i < length xs
+get_within [] i c h = cc
+get_within (x ∷ xs) zero c h = omega arith
+get_within (x ∷ xs) (suc i) c h = let lt = get_within xs i c h in omega arith
+
+-- and stands there when more is added at its end
+slice_get-before : (xs ys : List Change) (i : ℕ) (c : Change) → slice_get xs i ≡ Some c
+    → slice_get (xs ++ ys) i ≡ Some c
+slice_get-before [] ys i c h = cc
+slice_get-before (x ∷ xs) ys zero c h = h
+slice_get-before (x ∷ xs) ys (suc i) c h = slice_get-before xs ys i c h
+
+-- what comes after a list stands at its length
+slice_get-after : (xs ys : List Change) (c : Change) → slice_get (xs ++ c ∷ ys) (length xs) ≡ Some c
+slice_get-after [] ys c = refl
+slice_get-after (x ∷ xs) ys c = slice_get-after xs ys c
+
+-- a change of a book is one of each book that extends it
+change_later : (b c : Book) (a : Applied) → Extends c b → IsChangeOf b a → IsChangeOf c a
+change_later b c a e h =
+    let within : a.change - 1 ≤ length b.changes =
+    let lt = get_within b.changes (a.change - 1) h.change h.place in omega arith in
+    record {
+      change = h.change;
+      place = subst (λ (d : Book). slice_get d.changes (a.change - 1) ≡ Some h.change) (sym e.1)
+          (slice_get-before b.changes e.0 (a.change - 1) h.change h.place);
+      node = h.node ∙ ap (λ (s : State). node_of s h.change)
+          (ap (λ (cs : List Change). after_all b.start cs)
+          (sym (take-append-le (a.change - 1) b.changes e.0 within))
+          ∙ ap (λ (d : Book). state_before d a.change) (sym e.1));
+    }
+
+-- so are several
+pub each_later : (b c : Book) (made : List Applied) → Extends c b
+    → AllByRecursion (IsChangeOf b) made → AllByRecursion (IsChangeOf c) made
+each_later b c [] e h = tt
+each_later b c (a ∷ made) e h = (change_later b c a e h.0, each_later b c made e h.1)
+
+-- what holds of each of two lists holds of each of both
+both_each : (P : Applied → Type 0) (xs ys : List Applied) → AllByRecursion P xs
+    → AllByRecursion P ys → AllByRecursion P (xs ++ ys)
+both_each P [] ys h k = k
+both_each P (x ∷ xs) ys h k = (h.0, both_each P xs ys h.1 k)
+
+-- a book that extends one that extends a third
+pub extends_on : (a b c : Book) → Extends b a → Extends c b → Extends c a
+extends_on a b c e f = (
+  e.0 ++ f.0,
+  f.1 ∙ ap (λ (x : Book). grown x f.0) e.1
+      ∙ ap (λ (cs : List Change). record { start = a.start; changes = cs })
+      (append_assoc a.changes e.0 f.0),
+)
+
+-- an author with other changes
+abbrev with_changes : Author → List ℕ → Author
+with_changes a changes = record a { changes = changes }
+
+-- a seat that made some changes and then others
+pub made_then : (a b c : OwnToken) (xs ys : List Applied) → HasMade a b xs → HasMade b c ys
+    → HasMade a c (xs ++ ys)
+made_then a b c xs ys h k = record {
+  author =
+      k.author
+      ∙ ap (λ (x : Author). with_changes x (x.changes ++ map (λ (t : Applied). t.change) ys)) h.author
+      ∙ ap (λ (ns : List ℕ). with_changes a.author ns)
+      (append_assoc a.author.changes (map (λ (t : Applied). t.change) xs)
+      (map (λ (t : Applied). t.change) ys)
+      ∙ ap (λ (ns : List ℕ). a.author.changes ++ ns)
+      (sym (map-append (λ (t : Applied). t.change) xs ys)));
+  later = extends_on a.book b.book c.book h.later k.later;
+  each = both_each (IsChangeOf c.book) xs ys (each_later b.book c.book xs k.later h.each) k.each;
+}
+
+-- a seat that made none, and only knows a later book
+pub made_none : (a b : OwnToken) → b.author ≡ a.author → Extends b.book a.book → HasMade a b []
+made_none a b author later = record {
+  author = author ∙ ap (λ (ns : List ℕ). with_changes a.author ns) (sym (append-nil a.author.changes));
+  later = later;
+  each = tt;
+}
+
+-- a seat that only knows a later book, and all else of it as it was
+pub made_book : (a b : OwnToken) → b ≡ record a { book = b.book } → Extends b.book a.book
+    → HasMade a b []
+made_book a b same later = made_none a b (ap (λ (s : OwnToken). s.author) same) later
+
+-- or with other moments
+pub made_moments : (a b : OwnToken) → b ≡ record a { book = b.book; moments = b.moments }
+    → Extends b.book a.book → HasMade a b []
+made_moments a b same later = made_none a b (ap (λ (s : OwnToken). s.author) same) later
+
+-- the same seat
+pub made_same : (a : OwnToken) → HasMade a a []
+made_same a = made_none a a refl (
+  [],
+  ap (λ (cs : List Change). record { start = a.book.start; changes = cs })
+      (sym (append-nil a.book.changes)),
+)
+
+-- a seat that made one
+pub made_one : (a b : OwnToken) (t : Applied) (c : Change)
+    → b.author ≡ with_change a.author t.change → IsAdded a.book b.book t c
+    → HasMade a b (t ∷ [])
+made_one a b t c author d =
+    let before = (before_of b.book).changes in
+    let whole : b.book.changes ≡ before ++ c ∷ [] = ap (λ (x : Book). x.changes) d.place in
+    let long : t.change - 1 ≡ length before =
+    omega (
+      arith,
+      d.number,
+      ap (λ (xs : List Change). length xs) whole,
+      length-append before (c ∷ []),
+    ) in
+    record {
+      author = author;
+      later = d.later;
+      each = (
+        record {
+          change = c;
+          place = subst (λ (xs : List Change). slice_get xs (t.change - 1) ≡ Some c) (sym whole)
+              (subst (λ (n : ℕ). slice_get (before ++ c ∷ []) n ≡ Some c) (sym long)
+              (slice_get-after before [] c));
+          node = d.node ∙ ap (λ (n : ℕ). node_of (state_before b.book n) c) (sym d.number);
+        },
+        tt,
+      );
+    }
+
+-- where no change was made, none is told by a reply that tells none
+pub ok_made : (r : Result Response Refusal) (a b : OwnToken) → HasMade a b []
+    → IfOk r (λ x. change_told (response_of x) ≡ [])
+    → IfOk r (λ x. HasMade a b (change_told (response_of x)))
+ok_made (Ok x) a b made none = subst (HasMade a b) (sym none) made
+ok_made (Err e) a b made none = tt
+
+-- what holds anyway holds of an error
+pub on_err_any : {T E P : Type 0} (r : Result T E) → P → OnErr r P
+on_err_any (Ok x) p = tt
+on_err_any (Err e) p = p

@@ -1,0 +1,21 @@
+-- Reads tell no change.
+use Rattle.std.proofs.Common.{◌∙◌, refl, sym}
+use Rattle.lq_script.proofs.ProgressLemmas.{carries_kept, carries_none, carries_reads, when_err, when_ok}
+use Rattle.lq_script.proofs.runner.Runner.end_batch.Goals as goal
+
+pub returns-then-is_empty-clause-carried : goal.returns-then-is_empty-clause-carried
+returns-then-is_empty-clause-carried g c = carries_none _ _
+
+pub returns-then-is_err-clause-carried : goal.returns-then-is_err-clause-carried
+returns-then-is_err-clause-carried g c =
+    carries_kept _ _ c.read-told.ensures.seat refl
+    (when_err c.read-told.result (sym c.is_err.ensures.value ∙ c.if-is_err.true)
+    c.read-told.ensures.err)
+
+pub returns-clause-carried : goal.returns-clause-carried
+returns-clause-carried g c =
+    carries_reads c.write_replies.result _ _ c.read-told.new.out.items
+    (c.write_replies.ensures.seat ∙ c.read-told.ensures.seat)
+    (when_ok c.read-told.result (sym c.is_err.ensures.value ∙ c.if-is_err.false)
+    c.read-told.ensures.ok)
+    c.write_replies.ensures.put

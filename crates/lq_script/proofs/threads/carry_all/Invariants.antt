@@ -1,0 +1,16 @@
+use Rattle.std.proofs.Common.{◌≡◌, [], Ok}
+use Rattle.lq_script.specs.Progress.{Carries, standing}
+use Rattle.lq_script.proofs.threads.carry_all.Given as goal
+
+abbrev pub invariant-loop : goal.invariant-loop
+invariant-loop g l = record {
+  next : (goal.iterator-loop g).can_next l.iterator';
+  finite : (goal.iterator-loop g).is_finite l.iterator';
+  same : l.runner.writer.ghost_name ≡ l.fn.runner.writer.ghost_name;
+  empty : l.runner.replies.items ≡ [];
+  carried : Carries (Ok tt)
+      (standing l.fn.runner.session.seat (g.W.Sink.written l.fn.runner.writer.now)
+      l.fn.runner.replies.items)
+      (standing l.runner.session.seat (g.W.Sink.written l.runner.writer.now)
+      l.runner.replies.items);
+}

@@ -1,0 +1,8 @@
+-- What the server of the script left is what the run tells.
+use Rattle.lq_script.proofs.ProgressLemmas.{tells_none}
+use Rattle.lq_script.proofs.threads.run_threads.Goals as goal
+
+pub returns-in_default : goal.returns-in_default
+returns-in_default g c = record {
+  changes = tells_none _ _ _ c.out_of_memory.ensures.fault c.out_of_memory.ensures.bytes;
+}

@@ -1,0 +1,98 @@
+-- The changes that a run's server made, as the replies to the script's lines tell them.
+use Rattle.std.specs.Prelude.{◌≡◌, ℕ, ◌-◌, ◌≤◌, List, [], ◌∷◌, ◌++◌, length, map, take, slice_get, Option, Some, Result, Ok, Err}
+use Rattle.std.specs.List.{AllByRecursion}
+use Rattle.std.specs.Io.KnownBytes.{Appends}
+use Rattle.lq_volume.specs.State.{State, empty_state}
+use Rattle.lq_volume.specs.declared.change.Change.{Change}
+use Rattle.lq_volume.specs.declared.change.Applied.{Applied}
+use Rattle.lq_volume.specs.Change.{node_of}
+use Rattle.lq_volume.specs.Book.{Book, IsBook, after_all}
+use Rattle.lq_board.specs.Roll.{numbers}
+use Rattle.lq_desk_world.specs.Events.{Answer, Changed}
+use Rattle.lq_script_desk.specs.Response.{Response, Answers}
+use Rattle.lq_script_desk.specs.Reply.{reply_text}
+use Rattle.lq_script_lines.specs.declared.run_fault.RunFault.{RunFault}
+use Rattle.lq_script_lines.specs.declared.run_fault.RunFault.TheVariants.{Read, Write, Limit, Memory, Thread}
+
+-- ---- what replies tell
+
+-- the change that an answer tells, if it tells one: its number, and the node that it created or
+-- named
+abbrev pub change_in : Answer → List Applied
+change_in (Changed applied) = applied ∷ []
+change_in answer = []
+
+-- the change that a reply tells, if it tells one
+abbrev pub change_told : Response → List Applied
+change_told (Answers slot answer) = change_in answer
+change_told reply = []
+
+-- the changes that replies tell, in order
+abbrev pub changes_told : List Response → List Applied
+changes_told [] = []
+changes_told (reply ∷ replies) = change_told reply ++ changes_told replies
+
+-- the texts of replies, one after another
+abbrev pub replies_text : List Response → List ℕ
+replies_text [] = []
+replies_text (reply ∷ replies) = reply_text reply ++ replies_text replies
+
+-- a writer took these bytes, but for a rest of them
+pub record Takes (written written' : Option (List ℕ)) (bytes rest : List ℕ) : Type 0 where
+  pub taken : List ℕ
+  pub appended : Appends written written' taken
+  pub split : bytes ≡ taken ++ rest
+
+-- ---- the changes of a book
+
+-- the state before change n of a book
+abbrev pub state_before : Book → ℕ → State
+state_before book n = after_all book.start (take (n - 1) book.changes)
+
+-- the book has a change of this number, and that change created or named this node
+pub record IsChangeOf (book : Book) (told : Applied) : Type 0 where
+  pub change : Change
+  pub place : slice_get book.changes (told.change - 1) ≡ Some change
+  pub node : told.node ≡ node_of (state_before book told.change) change
+
+-- these are all changes of the book, each once, in their order: 1, 2, 3 and so on
+pub record AreAllChanges (book : Book) (told : List Applied) : Type 0 where
+  pub in_order : map (λ a. a.change) told ≡ numbers (length book.changes)
+  pub each : AllByRecursion (IsChangeOf book) told
+
+-- ---- a whole run
+
+-- Which changes have no reply, and which bytes of the replies the writer didn't take, after this
+-- fault. Where memory was wanting, the last change may have no reply. Only where the writer failed
+-- are there such bytes; memory may have been wanting before.
+abbrev pub LeavesAfter : RunFault → List Applied → List ℕ → Type 0
+LeavesAfter Read untold rest = (untold ≡ []) × (rest ≡ [])
+LeavesAfter Write untold rest = length untold ≤ 1
+LeavesAfter Limit untold rest = (untold ≡ []) × (rest ≡ [])
+LeavesAfter Memory untold rest = (length untold ≤ 1) × (rest ≡ [])
+LeavesAfter Thread untold rest = (untold ≡ []) × (rest ≡ [])
+
+-- a run that succeeded leaves none of either
+abbrev pub Leaves : Result (Unit {0}) RunFault → List Applied → List ℕ → Type 0
+Leaves (Ok done) untold rest = (untold ≡ []) × (rest ≡ [])
+Leaves (Err fault) untold rest = LeavesAfter fault untold rest
+
+-- All changes of this book are those that a run's replies tell, in order, and `untold` at the end.
+-- What was written is the text of these replies, but for `rest` at its end.
+pub record TellsAllOf (book : Book) (result : Result (Unit {0}) RunFault)
+    (written written' : Option (List ℕ)) : Type 0 where
+  pub replies : List Response
+  pub untold : List Applied
+  pub rest : List ℕ
+  pub all : AreAllChanges book (changes_told replies ++ untold)
+  pub took : Takes written written' (replies_text replies) rest
+  pub leaves : Leaves result untold rest
+
+-- A run tells all changes that its server made: there is one lawful book of them, over the first
+-- volume of a script.
+pub record TellsAllChanges (result : Result (Unit {0}) RunFault)
+    (written written' : Option (List ℕ)) : Type 0 where
+  pub book : Book
+  pub lawful : IsBook book
+  pub begins : book.start ≡ empty_state 1000000000000
+  pub tells : TellsAllOf book result written written'

@@ -1,0 +1,118 @@
+-- What a part of a run by a server has done: the changes of its seat, and the replies to them.
+use Rattle.std.specs.Prelude.{◌≡◌, ◌⊎◌, ℕ, ◌≤◌, List, [], ◌++◌, length, map, Option, Result, Ok, Err}
+use Rattle.std.specs.List.{AllByRecursion}
+use Rattle.lq_volume.specs.State.{State}
+use Rattle.lq_volume.specs.declared.change.Applied.{Applied}
+use Rattle.lq_volume.specs.Book.{Book, Extends}
+use Rattle.lq_board.specs.Token.{SeatToken}
+use Rattle.lq_server_slots.specs.declared.identity.Identity.{Identity}
+use Rattle.lq_server.specs.Retired.{IsRetired}
+use Rattle.lq_script_desk.specs.Response.{Response}
+use Rattle.lq_script_lines.specs.declared.run_fault.RunFault.{RunFault}
+use Rattle.lq_script_lines.specs.declared.run_fault.RunFault.TheVariants.{Read, Write, Limit, Memory, Thread}
+use Rattle.lq_script.specs.Changes.{IsChangeOf, Leaves, Takes, TellsAllOf, changes_told, replies_text}
+
+-- what a contract sees of the seat of a run
+abbrev pub OwnToken : Type 0
+OwnToken = SeatToken Identity
+
+-- A seat made these changes more, in this order, and no others. The book that it then knows has
+-- them.
+pub record HasMade (old new : OwnToken) (made : List Applied) : Type 0 where
+  pub author : new.author
+      ≡ record old.author { changes = old.author.changes ++ map (λ a. a.change) made }
+  pub later : Extends new.book old.book
+  pub each : AllByRecursion (IsChangeOf new.book) made
+
+-- ---- replies that were put
+
+-- replies that tell no change were appended to a text
+pub record AppendsReads (old new : List ℕ) : Type 0 where
+  pub replies : List Response
+  pub none : changes_told replies ≡ []
+  pub appended : new ≡ old ++ replies_text replies
+
+-- This text was put behind the replies that wait, which are written in part or whole. Where the
+-- writer failed, a rest is lost. Where memory was wanting, the text wasn't put.
+abbrev pub FailsToPut : RunFault → Option (List ℕ) → List ℕ → Option (List ℕ) → List ℕ → List ℕ
+    → Type 0
+FailsToPut Read written waits written' waits' text = ⊥
+FailsToPut Write written waits written' waits' text =
+    (rest : List ℕ) × Takes written written' (waits ++ text) rest
+FailsToPut Limit written waits written' waits' text = ⊥
+FailsToPut Memory written waits written' waits' text = Takes written written' waits waits'
+FailsToPut Thread written waits written' waits' text = ⊥
+
+abbrev pub IsPut : Result (Unit {0}) RunFault → Option (List ℕ) → List ℕ → Option (List ℕ)
+    → List ℕ → List ℕ → Type 0
+IsPut (Ok done) written waits written' waits' text = Takes written written' (waits ++ text) waits'
+IsPut (Err fault) written waits written' waits' text =
+    FailsToPut fault written waits written' waits' text
+
+-- ---- lines that were carried out
+
+-- where a run stands: its seat, what its writer has taken, and the replies that wait for it
+pub record Standing : Type 0 where
+  pub seat : OwnToken
+  pub written : Option (List ℕ)
+  pub waits : List ℕ
+
+abbrev pub standing : OwnToken → Option (List ℕ) → List ℕ → Standing
+standing seat written waits = record { seat = seat; written = written; waits = waits }
+
+-- Which changes have no reply, and which bytes of the replies the writer hasn't taken, where these
+-- replies wait. Where memory was wanting, the last change may have no reply.
+abbrev pub StopsBy : RunFault → List Applied → List ℕ → List ℕ → Type 0
+StopsBy Read untold rest waits = ⊥
+StopsBy Write untold rest waits = untold ≡ []
+StopsBy Limit untold rest waits = ⊥
+StopsBy Memory untold rest waits = (length untold ≤ 1) × (rest ≡ waits)
+StopsBy Thread untold rest waits = ⊥
+
+abbrev pub Stops : Result (Unit {0}) RunFault → List Applied → List ℕ → List ℕ → Type 0
+Stops (Ok done) untold rest waits = (untold ≡ []) × (rest ≡ waits)
+Stops (Err fault) untold rest waits = StopsBy fault untold rest waits
+
+-- some lines were carried out: the changes made are those that the replies tell, and `untold`
+pub record Carries (result : Result (Unit {0}) RunFault) (old new : Standing) : Type 0 where
+  pub replies : List Response
+  pub untold : List Applied
+  pub rest : List ℕ
+  pub made : HasMade old.seat new.seat (changes_told replies ++ untold)
+  pub took : Takes old.written new.written (old.waits ++ replies_text replies) rest
+  pub stops : Stops result untold rest new.waits
+
+-- ---- the end of a run
+
+-- The fault that a run answers after this one. Unless the fault is the writer's, all that waited is
+-- written, or the writer failed then.
+abbrev pub IsClosedAfter : RunFault → RunFault → Option (List ℕ) → List ℕ → Option (List ℕ)
+    → Type 0
+IsClosedAfter fault answer written waits written' =
+    ((answer ≡ fault) × Takes written written' waits [])
+    ⊎ ((answer ≡ Write) × ((rest : List ℕ) × Takes written written' waits rest))
+
+abbrev pub IsClosed : RunFault → RunFault → Option (List ℕ) → List ℕ → Option (List ℕ) → Type 0
+IsClosed Read answer written waits written' = IsClosedAfter Read answer written waits written'
+IsClosed Write answer written waits written' =
+    (answer ≡ Write) × Takes written written' [] []
+IsClosed Limit answer written waits written' = IsClosedAfter Limit answer written waits written'
+IsClosed Memory answer written waits written' = IsClosedAfter Memory answer written waits written'
+IsClosed Thread answer written waits written' = IsClosedAfter Thread answer written waits written'
+
+-- a run by this seat: the changes that the seat made are those that the replies tell, and `untold`
+pub record TellsMade (result : Result (Unit {0}) RunFault) (old new : OwnToken)
+    (written written' : Option (List ℕ)) : Type 0 where
+  pub replies : List Response
+  pub untold : List Applied
+  pub rest : List ℕ
+  pub made : HasMade old new (changes_told replies ++ untold)
+  pub took : Takes written written' (replies_text replies) rest
+  pub leaves : Leaves result untold rest
+
+-- a run tells all changes of the server over this volume, which made so many and left that volume
+pub record TellsRetired (start volume : State) (changes : ℕ)
+    (result : Result (Unit {0}) RunFault) (written written' : Option (List ℕ)) : Type 0 where
+  pub known : Book
+  pub retired : IsRetired start known volume changes
+  pub tells : TellsAllOf retired.book result written written'
