@@ -129,8 +129,8 @@ impl<
         (session.into_seat(), writer)
     }
 
-    /// What a run that met a fault answers. Unless the fault is the writer's, the waiting replies
-    /// are written, a fault of which is answered in its place, and the writer is flushed once.
+    /// The answer of a run that met this fault. Unless it was the writer's, the waiting replies are
+    /// written first, where a fault of the writer is then the answer, and the writer is flushed.
     pub fn close(&mut self, fault: RunFault) -> RunFault
         ensures same { self.new.writer.ghost_name ≡ self.old.writer.ghost_name }
         ensures seat { self.new.session.seat ≡ self.old.session.seat }

@@ -193,8 +193,8 @@ impl<'s, E: 's, R: Wait, T: Task + Drop> Workers<'s, E, R, T> {
 impl<'s, E: 's, R: Threads + Wait + Sync, T: Task + Send + Drop + 's> Workers<'s, E, R, T> {
     /// Does the tasks of a batch, one of each slot, side by side, and gives them back in any order.
     ///
-    /// This thread does the first and each whose thread can't be made. The thread of its slot does
-    /// each other. Refused: no memory, and then tasks may be lost.
+    /// The caller's thread does the first task, and those whose thread can't be made; each other is
+    /// done by its slot's thread. Refused: no memory, and then tasks may be lost.
     pub fn do_all(&mut self, batch: Vec<T>) -> Result<Vec<T>, AllocError> {
         let count = batch.len();
         let mut own = Vec::with_capacity(self.alloc, count)?;
