@@ -106,29 +106,6 @@ impl<N: Named> Server<N> {
         (server, head)
     }
 
-    /// As `counted`, with a seat besides, as `seat` gives one. It counts among the 16.
-    ///
-    /// A caller who makes all changes by this seat is never refused one.
-    pub fn counted_with_seat(base: Base) -> (Server<N>, Seat, Seat)
-        requires { (N.board ≡ counted_board base.board) × (base.volume ≡ N.start) }
-        ensures head { result.1 ≡ leading_seat N.board N.start }
-        ensures seat { (result.2.board ≡ N.board) × (result.2.slot ≡ 0) }
-        ensures author { result.2.author.changes ≡ [] }
-        ensures signs { result.2.author.signs ≡ false }
-        ensures start { result.2.book.start ≡ N.start }
-    {
-        let (board, mut locked, head) = base.into_counted();
-        // No seat is out, so none is refused.
-        let Ok(seat) = locked.seat(&board) else {
-            unreachable!()
-        };
-        let server = Server {
-            state: Mutex::new(locked),
-            board,
-        };
-        (server, head, seat)
-    }
-
     /// The leading seat enlists another, which made no change and may make changes from then on.
     ///
     /// The other may be a reader's seat. It is for contracts alone: it takes no lock and no memory.

@@ -31,11 +31,12 @@ pub struct Callers {
 }
 
 impl<N: Named> Server<N> {
-    /// As `counted_with_seat`, with the reader of a live query that the seat opens first of all.
+    /// As `counted`, with a seat besides, which counts among the 16, and with the reader of a live
+    /// query that this seat opens first of all.
     ///
-    /// The numbers are as in `open`. No other caller has the server yet, so no slot is taken.
-    /// Refused, the first that fits: `BadPort`, `BadBacklog`, `Exhausted` where the volume takes no
-    /// changes, `NoMemory`.
+    /// The numbers are as in `open`. No other caller has the server yet, so no seat and no slot is
+    /// taken. Refused, the first that fits: `BadPort`, `BadBacklog`, `Exhausted` where the volume
+    /// takes no changes, `NoMemory`.
     pub fn counted_with_reader(
         base: Base,
         predicate: &Predicate,
