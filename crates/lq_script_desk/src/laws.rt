@@ -14,7 +14,8 @@ use lq_update::{IndexedRebuild, foldings_follow, rebuilds_take_all};
 /// world, so at every moment of it the readers are told: the headline.
 ///
 /// The reply to each line that asks for an event is the text of this event's answer. The result of
-/// a slot is Fold over its opening's result and the updates that were read since.
+/// a slot is Fold over its opening's result and the updates that were read since; a slot has one
+/// just where it is taken.
 pub fn scripts_tell_readers()
     ensures { ScriptsTellReaders }
 {
