@@ -94,7 +94,8 @@ impl<
         ensures same { self.new.writer.ghost_name ≡ self.old.writer.ghost_name }
         ensures seat { self.new.session.seat ≡ self.old.session.seat }
         ensures replies { self.new.replies.items ≡ self.old.replies.items }
-        ensures bytes { Takes (W.written self.old.writer.now) (W.written self.new.writer.now) [] [] }
+        ensures bytes { Takes (W.written self.old.writer.now) (W.written self.new.writer.now)
+            [] [] }
         ensures fault { IfErr result (λ e. e ≡ RunFault.Write) }
     {
         match self.writer.flush() {
