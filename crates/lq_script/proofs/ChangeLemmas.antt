@@ -81,7 +81,8 @@ pub made_then : (a b c : OwnToken) (xs ys : List Applied) → HasMade a b xs →
 made_then a b c xs ys h k = record {
   author =
       k.author
-      ∙ ap (λ (x : Author). with_changes x (x.changes ++ map (λ (t : Applied). t.change) ys)) h.author
+      ∙ ap (λ (x : Author). with_changes x (x.changes ++ map (λ (t : Applied). t.change) ys))
+      h.author
       ∙ ap (λ (ns : List ℕ). with_changes a.author ns)
       (append_assoc a.author.changes (map (λ (t : Applied). t.change) xs)
       (map (λ (t : Applied). t.change) ys)
@@ -94,7 +95,8 @@ made_then a b c xs ys h k = record {
 -- a seat that made none, and only knows a later book
 pub made_none : (a b : OwnToken) → b.author ≡ a.author → Extends b.book a.book → HasMade a b []
 made_none a b author later = record {
-  author = author ∙ ap (λ (ns : List ℕ). with_changes a.author ns) (sym (append-nil a.author.changes));
+  author =
+      author ∙ ap (λ (ns : List ℕ). with_changes a.author ns) (sym (append-nil a.author.changes));
   later = later;
   each = tt;
 }

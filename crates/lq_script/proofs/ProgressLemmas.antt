@@ -15,7 +15,6 @@ use Rattle.lq_desk_world.specs.Events.{Answer, Changed, Opened, Moved, Took, Emp
 use Rattle.lq_script_desk.specs.Response.{Response, Answers, Refuses, Found, Listed, Fetched, Rebuilt}
 use Rattle.lq_script_desk.specs.Reply.{reply_text}
 use Rattle.lq_script_lines.specs.Lines.{HasPrefix}
-use Rattle.lq_script_lines.specs.declared.devices.Failed.{Failed}
 use Rattle.lq_script_lines.specs.declared.run_fault.RunFault.{RunFault}
 use Rattle.lq_script_lines.specs.declared.run_fault.RunFault.TheVariants.{Read, Write, Limit, Memory, Thread}
 use Rattle.lq_script.specs.Changes.{Leaves, Takes, TellsAllChanges, change_in, change_told, changes_told, replies_text}
@@ -69,22 +68,6 @@ takes_then : (a b c : Option (List ℕ)) (bytes rest more last : List ℕ) → T
     → Takes b c (rest ++ more) last → Takes a c (bytes ++ more) last
 takes_then a b c bytes rest more last s t =
     takes_more a b c (bytes ++ more) (rest ++ more) last (takes_beside a b bytes rest more s) t
-
--- a write of all bytes
-pub takes_write : (r : Result (Unit {0}) Failed) (a b : Option (List ℕ)) (bytes : List ℕ)
-    → OnOk r (Appends a b bytes) → OnErr r ((n : ℕ) × Appends a b (take n bytes))
-    → (rest : List ℕ) × Takes a b bytes rest × OnOk r (rest ≡ [])
-takes_write (Ok u) a b bytes whole part =
-    ([], record { taken = bytes; appended = whole; split = sym (append-nil bytes) }, refl)
-takes_write (Err e) a b bytes whole part = (
-  drop part.0 bytes,
-  record {
-    taken = take part.0 bytes;
-    appended = part.1;
-    split = sym (take-append-drop part.0 bytes);
-  },
-  tt,
-)
 
 -- ---- what replies tell
 
@@ -304,16 +287,7 @@ carries_written result a b seat put =
 
 -- ---- what the runner's parts put
 
--- all that waited was written
-pub written_ok : (w w' : Option (List ℕ)) (waits waits' : List ℕ) → Appends w w' waits
-    → waits' ≡ [] → Takes w w' (waits ++ []) waits'
-written_ok w w' waits waits' all none = record {
-  taken = waits;
-  appended = all;
-  split = ap (λ (l : List ℕ). waits ++ l) (sym none);
-}
-
--- or a front of it
+-- a write of all that waits, which failed, took a front of it
 pub written_err : (w w' : Option (List ℕ)) (waits : List ℕ)
     → ((n : ℕ) × Appends w w' (take n waits)) → (rest : List ℕ) × Takes w w' (waits ++ []) rest
 written_err w w' waits part = (
@@ -324,32 +298,6 @@ written_err w w' waits part = (
     split = append-nil waits ∙ sym (take-append-drop part.0 waits);
   },
 )
-
--- a text that was taken back wasn't put
-pub put_none : (w : Option (List ℕ)) (waits waits' text : List ℕ) → waits' ≡ waits
-    → IsPut (Err Memory) w waits w waits' text
-put_none w waits waits' text kept =
-    subst (λ (l : List ℕ). Takes w w waits l) (sym kept) (takes_none w waits)
-
--- a text that waits was put
-pub put_grown : (w : Option (List ℕ)) (waits waits' text : List ℕ) (u : Unit {0})
-    → waits' ≡ waits ++ text → IsPut (Ok u) w waits w waits' text
-put_grown w waits waits' text u grown =
-    subst (λ (l : List ℕ). Takes w w (waits ++ text) l) (sym grown) (takes_none w (waits ++ text))
-
--- a text was put behind those that wait, and all that waits was then written
-pub put_then : (result : Result (Unit {0}) RunFault) (w w' : Option (List ℕ))
-    (waits mid waits' text : List ℕ) → mid ≡ waits ++ text → IsPut result w mid w' waits' []
-    → IfErr result (λ e. e ≡ Write) → IsPut result w waits w' waits' text
-put_then (Ok u) w w' waits mid waits' text is put fault =
-    subst (λ (l : List ℕ). Takes w w' l waits') (append-nil mid ∙ is) put
-put_then (Err Read) w w' waits mid waits' text is put fault = put
-put_then (Err Write) w w' waits mid waits' text is put fault =
-    (put.0, subst (λ (l : List ℕ). Takes w w' l put.0) (append-nil mid ∙ is) put.1)
-put_then (Err Limit) w w' waits mid waits' text is put fault = put
-put_then (Err Memory) w w' waits mid waits' text is put fault =
-    absurd (let no : Memory ≡ Write = fault in cc)
-put_then (Err Thread) w w' waits mid waits' text is put fault = put
 
 -- a line that made no change, and whose reply had no memory
 pub carries_quiet : (a b : Standing) → HasMade a.seat b.seat [] → b.written ≡ a.written
@@ -376,45 +324,10 @@ carries_ok a b u v h = record {
   stops = h.stops;
 }
 
--- what another error of the same fault says
+-- what an equal result says
 pub carries_as : (r s : Result (Unit {0}) RunFault) (a b : Standing) → r ≡ s → Carries s a b
     → Carries r a b
 carries_as r s a b is h = subst (λ (t : Result (Unit {0}) RunFault). Carries t a b) (sym is) h
-
--- a fault that isn't the writer's
-pub closed_other : (fault answer : RunFault) (w w' : Option (List ℕ)) (waits : List ℕ)
-    → (fault ≡ Write → ⊥) → IsClosedAfter fault answer w waits w' → IsClosed fault answer w waits w'
-closed_other Read answer w w' waits never h = h
-closed_other Write answer w w' waits never h = absurd (never refl)
-closed_other Limit answer w w' waits never h = h
-closed_other Memory answer w w' waits never h = h
-closed_other Thread answer w w' waits never h = h
-
--- the writer failed as what waited was written
-pub closed_failed : (fault answer : RunFault) (w w' : Option (List ℕ)) (waits waits' : List ℕ)
-    → answer ≡ Write → IsPut (Err answer) w waits w' waits' [] → IsClosedAfter fault answer w waits w'
-closed_failed fault Read w w' waits waits' is put = absurd put
-closed_failed fault Write w w' waits waits' is put =
-    inr (
-      refl,
-      (put.0, subst (λ (l : List ℕ). Takes w w' l put.0) (append-nil waits) put.1),
-    )
-closed_failed fault Limit w w' waits waits' is put = absurd put
-closed_failed fault Memory w w' waits waits' is put =
-    absurd (let no : Memory ≡ Write = is in cc)
-closed_failed fault Thread w w' waits waits' is put = absurd put
-
--- all that waited was written, and then the writer flushed
-pub closed_kept : (fault : RunFault) (u : Unit {0}) (w mid w' : Option (List ℕ))
-    (waits waits' : List ℕ) → IsPut (Ok u) w waits mid waits' [] → waits' ≡ []
-    → Takes mid w' [] [] → IsClosedAfter fault fault w waits w'
-closed_kept fault u w mid w' waits waits' put none t =
-    inl (
-      refl,
-      takes_more w mid w' waits [] []
-          (subst (λ (l : List ℕ). Takes w mid l []) (append-nil waits)
-          (subst (λ (l : List ℕ). Takes w mid (waits ++ []) l) none put)) t,
-    )
 
 -- reads for which memory was wanting
 pub carries_kept : (a b : Standing) → b.seat ≡ a.seat → b.written ≡ a.written
@@ -495,7 +408,7 @@ leaves_none Limit = (refl, refl)
 leaves_none Memory = (omega arith, refl)
 leaves_none Thread = (refl, refl)
 
--- a close after a fault between two lines
+-- a close after a fault between two lines that isn't the writer's
 closed_after : (fault answer : RunFault) (a b : Standing) (u : Unit {0})
     (written : Option (List ℕ)) → a.waits ≡ [] → b.waits ≡ [] → Carries (Ok u) a b
     → IsClosedAfter fault answer b.written b.waits written
@@ -508,6 +421,7 @@ closed_after fault answer a b u written first none h (inr failed) =
     (subst (λ (l : List ℕ). Takes b.written written l failed.1.0) none failed.1.1)
     (subst (λ (f : RunFault). Leaves (Err f) [] failed.1.0) (sym failed.0) (omega arith))
 
+-- any close after a fault between two lines
 pub tells_closed : (fault answer : RunFault) (a b : Standing) (u : Unit {0})
     (written : Option (List ℕ)) → a.waits ≡ [] → b.waits ≡ [] → Carries (Ok u) a b
     → IsClosed fault answer b.written b.waits written
@@ -523,7 +437,7 @@ tells_closed Memory answer a b u written first none h closed =
 tells_closed Thread answer a b u written first none h closed =
     closed_after Thread answer a b u written first none h closed
 
--- a close after a fault in a line
+-- a close after want of memory in a line
 tells_memory : (answer : RunFault) (a b : Standing) (written : Option (List ℕ)) → a.waits ≡ []
     → Carries (Err Memory) a b → IsClosedAfter Memory answer b.written b.waits written
     → TellsMade (Err answer) a.seat b.seat a.written written
@@ -536,6 +450,7 @@ tells_memory answer a b written first h (inr failed) =
     (subst (λ (l : List ℕ). Takes b.written written l failed.1.0) (sym h.stops.1) failed.1.1)
     (subst (λ (f : RunFault). Leaves (Err f) h.untold failed.1.0) (sym failed.0) h.stops.0)
 
+-- any close after a fault in a line
 pub tells_fault : (fault answer : RunFault) (a b : Standing) (written : Option (List ℕ))
     → a.waits ≡ [] → Carries (Err fault) a b
     → IsClosed fault answer b.written b.waits written
@@ -612,18 +527,6 @@ retired_never start volume known changes e written written' is keeps by none = r
     took = keeps_takes written written' [] keeps;
     leaves = subst (λ (f : RunFault). Leaves (Err f) [] []) (sym is) (omega arith, refl);
   };
-}
-
--- what a server that was retired left, over the first volume of a script
-pub tells_all : (start volume : State) (changes : ℕ) (result : Result (Unit {0}) RunFault)
-    (written written' : Option (List ℕ)) → start ≡ empty_state 1000000000000
-    → TellsRetired start volume changes result written written'
-    → TellsAllChanges result written written'
-tells_all start volume changes result written written' first h = record {
-  book = h.retired.book;
-  lawful = h.retired.full.lawful;
-  begins = h.retired.begins ∙ first;
-  tells = h.tells;
 }
 
 -- a server that was never made

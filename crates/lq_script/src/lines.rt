@@ -1,4 +1,6 @@
 //! The whole lines of an input, a piece at a time.
+ghost use Rattle.std.specs.Prelude.{◌≢◌, IfErr};
+
 use lq_script_lines::{Failed, Intake, Responder, RunFault, Sink, Source, take_piece, write_all};
 use lq_value::Refusal;
 use std::alloc::Global;
@@ -30,7 +32,9 @@ impl Lines {
     ///
     /// Refused: `Read` where the reader failed, `Limit` where a byte follows 10,000,000 lines or
     /// 1,073,741,824 bytes, `Memory`; the lines that ended before that are given all the same.
-    pub fn read<R: Source>(&mut self, reader: &mut R) -> Result<bool, RunFault> {
+    pub fn read<R: Source>(&mut self, reader: &mut R) -> Result<bool, RunFault>
+        ensures fault { IfErr result (λ e. e ≢ RunFault.Write) }
+    {
         self.given.bytes.clear();
         let mut block = [0u8; BLOCK];
         let Ok(count) = reader.read(&mut block) else {
@@ -50,7 +54,9 @@ impl Lines {
         &self.given.bytes
     }
 
-    fn take(&mut self, piece: &[u8]) -> Result<(), RunFault> {
+    fn take(&mut self, piece: &[u8]) -> Result<(), RunFault>
+        ensures fault { IfErr result (λ e. e ≢ RunFault.Write) }
+    {
         let taken = take_piece(
             &mut self.intake,
             piece,

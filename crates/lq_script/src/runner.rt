@@ -1,5 +1,5 @@
 //! The runner of a script's lines: it carries out each and gathers the replies.
-ghost use Rattle.std.specs.Prelude.{◌≡◌, ◌+◌, ◌<◌, [], ◌++◌, length, IfErr, OnErr, OnOk};
+ghost use Rattle.std.specs.Prelude.{◌≡◌, ◌⊎◌, ◌+◌, ◌<◌, [], ◌++◌, length, IfErr, OnErr, OnOk, true};
 ghost use Rattle.lq_script_desk.specs.Answer.{response_of};
 ghost use Rattle.lq_script_desk.specs.Reply.{reply_text};
 ghost use Rattle.lq_script.specs.Changes.{Takes};
@@ -73,6 +73,8 @@ impl<
     /// Refused: `Write` where the writer failed or took none of the bytes given, `Memory`.
     pub fn answer_lines(&mut self, lines: &[u8]) -> Result<(), RunFault>
         ensures same { self.new.writer.ghost_name ≡ self.old.writer.ghost_name }
+        ensures cause { IfErr result (λ e. e ≡ RunFault.Write →
+            (W.failed self.new.writer.now ≡ true) ⊎ (W.stalled self.new.writer.now ≡ true)) }
         ensures carried { Carries result
             (standing self.old.session.seat
             (W.written self.old.writer.now) self.old.replies.items)
@@ -92,9 +94,12 @@ impl<
     /// Flushes the writer. Refused: `Write`.
     pub fn flush(&mut self) -> Result<(), RunFault>
         ensures same { self.new.writer.ghost_name ≡ self.old.writer.ghost_name }
+        ensures cause { IfErr result (λ e. e ≡ RunFault.Write →
+            (W.failed self.new.writer.now ≡ true) ⊎ (W.stalled self.new.writer.now ≡ true)) }
         ensures seat { self.new.session.seat ≡ self.old.session.seat }
         ensures replies { self.new.replies.items ≡ self.old.replies.items }
-        ensures bytes { Takes (W.written self.old.writer.now) (W.written self.new.writer.now) [] [] }
+        ensures bytes { Takes (W.written self.old.writer.now) (W.written self.new.writer.now)
+            [] [] }
         ensures fault { IfErr result (λ e. e ≡ RunFault.Write) }
     {
         match self.writer.flush() {
@@ -133,6 +138,10 @@ impl<
     /// written first, where a fault of the writer is then the answer, and the writer is flushed.
     pub fn close(&mut self, fault: RunFault) -> RunFault
         ensures same { self.new.writer.ghost_name ≡ self.old.writer.ghost_name }
+        ensures cause { (fault ≡ RunFault.Write → (W.failed self.old.writer.now ≡ true)
+            ⊎ (W.stalled self.old.writer.now ≡ true))
+            → result ≡ RunFault.Write → (W.failed self.new.writer.now ≡ true)
+            ⊎ (W.stalled self.new.writer.now ≡ true) }
         ensures seat { self.new.session.seat ≡ self.old.session.seat }
         ensures closed { IsClosed fault result (W.written self.old.writer.now)
             self.old.replies.items (W.written self.new.writer.now) }
@@ -150,6 +159,8 @@ impl<
     // A read joins the batch; any other line ends it, and is carried out.
     fn take_line(&mut self, line: &[u8]) -> Result<(), RunFault>
         ensures same { self.new.writer.ghost_name ≡ self.old.writer.ghost_name }
+        ensures cause { IfErr result (λ e. e ≡ RunFault.Write →
+            (W.failed self.new.writer.now ≡ true) ⊎ (W.stalled self.new.writer.now ≡ true)) }
         ensures carried { Carries result
             (standing self.old.session.seat
             (W.written self.old.writer.now) self.old.replies.items)
@@ -168,6 +179,8 @@ impl<
 
     fn take_question(&mut self, question: &Question) -> Result<(), RunFault>
         ensures same { self.new.writer.ghost_name ≡ self.old.writer.ghost_name }
+        ensures cause { IfErr result (λ e. e ≡ RunFault.Write →
+            (W.failed self.new.writer.now ≡ true) ⊎ (W.stalled self.new.writer.now ≡ true)) }
         ensures carried { Carries result
             (standing self.old.session.seat
             (W.written self.old.writer.now) self.old.replies.items)
@@ -187,6 +200,8 @@ impl<
 
     fn put_read(&mut self, slot: u64) -> Result<(), RunFault>
         ensures same { self.new.writer.ghost_name ≡ self.old.writer.ghost_name }
+        ensures cause { IfErr result (λ e. e ≡ RunFault.Write →
+            (W.failed self.new.writer.now ≡ true) ⊎ (W.stalled self.new.writer.now ≡ true)) }
         ensures carried { Carries result
             (standing self.old.session.seat
             (W.written self.old.writer.now) self.old.replies.items)
@@ -205,6 +220,8 @@ impl<
     // Carries out the reads that wait, and writes their replies.
     fn end_batch(&mut self) -> Result<(), RunFault>
         ensures same { self.new.writer.ghost_name ≡ self.old.writer.ghost_name }
+        ensures cause { IfErr result (λ e. e ≡ RunFault.Write →
+            (W.failed self.new.writer.now ≡ true) ⊎ (W.stalled self.new.writer.now ≡ true)) }
         ensures carried { Carries result
             (standing self.old.session.seat
             (W.written self.old.writer.now) self.old.replies.items)
@@ -225,6 +242,8 @@ impl<
     // Puts a reply after those that wait, and writes them where they are many.
     fn put(&mut self, response: &Response) -> Result<(), RunFault>
         ensures same { self.new.writer.ghost_name ≡ self.old.writer.ghost_name }
+        ensures cause { IfErr result (λ e. e ≡ RunFault.Write →
+            (W.failed self.new.writer.now ≡ true) ⊎ (W.stalled self.new.writer.now ≡ true)) }
         ensures seat { self.new.session.seat ≡ self.old.session.seat }
         ensures put { IsPut result (W.written self.old.writer.now) self.old.replies.items
             (W.written self.new.writer.now) self.new.replies.items
@@ -241,6 +260,8 @@ impl<
 
     fn write_replies(&mut self) -> Result<(), RunFault>
         ensures same { self.new.writer.ghost_name ≡ self.old.writer.ghost_name }
+        ensures cause { IfErr result (λ e. e ≡ RunFault.Write →
+            (W.failed self.new.writer.now ≡ true) ⊎ (W.stalled self.new.writer.now ≡ true)) }
         ensures seat { self.new.session.seat ≡ self.old.session.seat }
         ensures put { IsPut result (W.written self.old.writer.now) self.old.replies.items
             (W.written self.new.writer.now) self.new.replies.items

@@ -1,5 +1,5 @@
 //! A whole script by threads, over the root alone.
-ghost use Rattle.std.specs.Prelude.{◌≡◌, [], ◌∷◌, false};
+ghost use Rattle.std.specs.Prelude.{◌≡◌, ◌⊎◌, [], ◌∷◌, IfErr, false, true};
 ghost use Rattle.lq_board.specs.Author.{leader, with_roll};
 ghost use Rattle.lq_board.specs.Token.{counted_board};
 ghost use Rattle.lq_script.specs.Changes.{TellsAllChanges};
@@ -37,6 +37,10 @@ pub fn run_threads<T: Threads + Wait + Sync, R: Source, W: Sink, G: Gate + Sync>
 
     // The server made no change but the script's.
     ensures changes { TellsAllChanges result (W.written writer.old) (W.written writer.new) }
+
+    // A fault of the writer has its cause there.
+    ensures cause { IfErr result (λ e. e ≡ RunFault.Write →
+        (W.failed writer.new ≡ true) ⊎ (W.stalled writer.new ≡ true)) }
 {
     let Ok(base) = Base::new(alloc, Volume::new(alloc, MAX_CHANGES)) else {
         return Err(out_of_memory(writer));
@@ -63,6 +67,8 @@ fn serve<N: Named + Send + Sync, T: Threads + Wait + Sync, R: Source, W: Sink, G
     requires base { (N.board ≡ counted_board base.board) × (base.volume ≡ N.start) }
     ensures changes { TellsRetired N.start result.retired.volume result.retired.changes
         result.ran (W.written writer.old) (W.written writer.new) }
+    ensures cause { IfErr result.ran (λ e. e ≡ RunFault.Write →
+        (W.failed writer.new ≡ true) ⊎ (W.stalled writer.new ≡ true)) }
 {
     let (server, mut head): (Server<N>, Seat) = Server::counted(base);
     let Ok(seat) = OwnSeat::new(rt, &server, &mut head) else {
@@ -87,6 +93,8 @@ fn serve_over<N: Named + Send + Sync, T: Threads + Wait + Sync, R: Source, W: Si
 ) -> (Result<(), RunFault>, OwnSeat<N>)
     ensures made { TellsMade result.0 seat result.1
         (W.written writer.old) (W.written writer.new) }
+    ensures cause { IfErr result.0 (λ e. e ≡ RunFault.Write →
+        (W.failed writer.new ≡ true) ⊎ (W.stalled writer.new ≡ true)) }
 {
     let held = serve_within(rt, alloc, server, seat, reader, writer, gate);
     // The loan of the writer ends.
@@ -130,6 +138,8 @@ fn serve_within<
     ensures same { result.writer.ghost_name ≡ writer.entry.ghost_name }
     ensures made { TellsMade result.ran seat result.seat
         (W.written writer.old) (W.written result.writer.now) }
+    ensures cause { IfErr result.ran (λ e. e ≡ RunFault.Write →
+        (W.failed result.writer.now ≡ true) ⊎ (W.stalled result.writer.now ≡ true)) }
 {
     let streams = Streams { reader, writer };
     thread::scope(thread::scope_env(), rt, move |scope| {
@@ -159,6 +169,8 @@ fn serve_in<
     ensures same { result.writer.ghost_name ≡ streams.entry.writer.ghost_name }
     ensures made { TellsMade result.ran seat result.seat
         (W.written streams.entry.writer.now) (W.written result.writer.now) }
+    ensures cause { IfErr result.ran (λ e. e ≡ RunFault.Write →
+        (W.failed result.writer.now ≡ true) ⊎ (W.stalled result.writer.now ≡ true)) }
 {
     let Streams { reader, writer } = streams;
     let Ok(readers) = Readers::new(alloc) else {
@@ -197,6 +209,8 @@ fn carry_all<
     ensures same { runner.new.writer.ghost_name ≡ runner.old.writer.ghost_name }
     ensures made { TellsMade result runner.old.session.seat runner.new.session.seat
         (W.written runner.old.writer.now) (W.written runner.new.writer.now) }
+    ensures cause { IfErr result (λ e. e ≡ RunFault.Write →
+        (W.failed runner.new.writer.now ≡ true) ⊎ (W.stalled runner.new.writer.now ≡ true)) }
 {
     let mut lines = Lines::new(alloc);
     for _ in rt.forever() {

@@ -1,10 +1,13 @@
 -- All changes are those of the one seat that was enlisted.
-use Rattle.std.proofs.Common.{◌∙◌}
+use Rattle.std.proofs.Common.{◌≡◌, ◌∙◌, sym}
+use Rattle.lq_script_lines.specs.declared.run_fault.RunFault.TheVariants.{Memory, Write}
 use Rattle.lq_script.proofs.ProgressLemmas.{head_none, retired_never, tells_retired}
 use Rattle.lq_script.proofs.threads.serve.Goals as goal
 
 pub returns-in_default : goal.returns-in_default
 returns-in_default g c = record {
+  cause = λ is.
+      absurd (let bad : Memory ≡ Write = sym c.out_of_memory.ensures.fault ∙ is in cc);
   changes = retired_never g.N.Named.start c.retire-left.result.volume _
       c.retire-left.result.changes c.out_of_memory.result _ _ c.out_of_memory.ensures.fault
       c.out_of_memory.ensures.bytes c.retire-left.ensures.retired
@@ -14,6 +17,7 @@ returns-in_default g c = record {
 
 pub returns : goal.returns
 returns g c = record {
+  cause = c.serve_over-ran.ensures.cause;
   changes = tells_retired g.N.Named.start c.retire-retired.result.volume
       c.retire-retired.result.changes c.serve_over-ran.result.0 c.in-Ok.seat
       c.serve_over-ran.result.1 _ _ c.in-Ok.ensures.fresh c.serve_over-ran.ensures.made

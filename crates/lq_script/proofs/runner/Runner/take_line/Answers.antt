@@ -14,6 +14,7 @@ returns-in_ok-end_batch-in-Err g c =
     let batch = c.in_ok-end_batch-in-Err.ensures in
     record {
       same = c.put.ensures.same ∙ batch.same;
+      cause = c.put.ensures.cause;
       carried = carries_then c.put.result _ _ _ _ batch.carried
           (carries_put c.put.result _ _ (Refuses c.in-Err.refusal)
           (subst (λ (s : OwnToken). HasMade c.end_batch.new.self.session.seat s [])

@@ -24,6 +24,7 @@ returns-in-Err-NoMemory-clause-carried g c =
 pub returns-in-Err : goal.returns-in-Err
 returns-in-Err g c = record {
   same = c.put-in-Err.ensures.same ∙ c.in_ok-end_batch.ensures.same;
+  cause = c.put-in-Err.ensures.cause;
   carried = carries_then c.put-in-Err.result _ _ _ _ c.in_ok-end_batch.ensures.carried
       (carries_put c.put-in-Err.result _ _ (Refuses c.in-Err.refusal)
       (subst (λ (s : OwnToken). HasMade c.end_batch.new.self.session.seat s [])
