@@ -88,7 +88,8 @@ put-says k = by (nat_lt (length k.queue) k.port) (next_parcel k.held)
 -- ---- a put that moves a parcel
 
 -- a put that moves a parcel makes the queue one longer
-pub one-longer : (k : KeptSlot) → can_move k ≡ true → length (after_put k).queue ≡ length k.queue + 1
+pub one-longer : (k : KeptSlot) → can_move k ≡ true
+    → length (after_put k).queue ≡ length k.queue + 1
 one-longer k moves = by (nat_lt (length k.queue) k.port) (next_parcel k.held) moves
   where
     by : (x : Bool) (o : Option Parcel) → (x && is_some o) ≡ true

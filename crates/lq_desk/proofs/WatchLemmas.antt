@@ -154,7 +154,8 @@ watches old new place p sub is here others = (
 )
 
 -- what is found where one place was written: what was written, or what was at another place
-pub get-put : {A : Type 0} (xs : List A) (i j : ℕ) (y z : A) → slice_get (slice_set xs i y) j ≡ Some z
+pub get-put : {A : Type 0} (xs : List A) (i j : ℕ) (y z : A)
+    → slice_get (slice_set xs i y) j ≡ Some z
     → ((j ≡ i) × (z ≡ y)) ⊎ ((j ≢ i) × (slice_get xs j ≡ Some z))
 get-put [] i j y z h = absurd (let no : ⊥ = cc in no)
 get-put (x ∷ xs) zero zero y z h = inl (refl, let same : z ≡ y = cc in same)

@@ -83,7 +83,8 @@ impl<'a, 'b> Visit<Slot, Told> for Ready<'a, 'b> {
             return;
         }
         match item.sub.prepare_if_any(self.planned) {
-            Ok(any) => state.told.put(slot, any),
+            Ok(true) => state.told.put(slot, true),
+            Ok(false) => {}
             Err(_) => state.full = true,
         }
     }

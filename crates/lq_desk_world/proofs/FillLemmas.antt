@@ -94,7 +94,8 @@ put-order b (Some s) h = by (can_put b s)
     by false = h
 
 -- a put moves a parcel, and leaves less room, or nothing can be put
-pub put-fills : (b : Book) (n : ℕ) (s : Subscribed) → s.taken ≤ s.put → gap_of s ≤ suc n → (x : Bool)
+pub put-fills : (b : Book) (n : ℕ) (s : Subscribed) → s.taken ≤ s.put → gap_of s ≤ suc n
+    → (x : Bool)
     → can_put b s ≡ x → (gap_in (putting_if s x).1 ≤ n) ⊎ (can_put b s ≡ false)
 put-fills b n s order h true is =
     inl (omega (arith, order, h, ltb-true (s.put - s.taken) s.port (and_parts _ _ is).0))

@@ -103,8 +103,8 @@ fn leave<N: Named, R: Wait>(
     }
 }
 
-// For the proof: the leading seat gathers the changes of the one seat that it has enlisted, and they
-// are all changes. So a change was refused after just those before it.
+// For the proof: the leading seat gathers the changes of the one seat that it has enlisted, and
+// they are all changes. So a change was refused after just those before it.
 fn gather<N: Named, R: Wait>(
     rt: &R,
     server: &Server<N>,

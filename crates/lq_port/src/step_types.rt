@@ -7,8 +7,9 @@ use std::marker::Brand;
 /// What one end knows: `taken` was taken, `ahead` was put and isn't in `taken`.
 ///
 /// `puts` and `takes` say what the end may do, and `room` how many items the port holds at most, as
-/// the end for puts knows. The other fields count only while the two ends are joined: `whole` is all
-/// puts that the one end knew, `seen` all puts that the other knew, and `told` the other's floor.
+/// the end for puts knows. The other fields count only while the two ends are joined: `whole` is
+/// all puts that the one end knew, `seen` all puts that the other knew, and `told` the other's
+/// floor.
 /// The form is our own.
 pub struct Known<T, F> {
     pub puts: bool,

@@ -102,7 +102,9 @@ kept-is folds k o f here = elim (fold-own folds k o) [
 
 set-is : (folds : Folds) (k : ℕ) (start f : Folding)
     → fold_at (with_fold folds k (Some start)) k ≡ Some f → f ≡ start
-set-is folds k start f here = let same : Some start ≡ Some f = kept-is folds k (Some start) f here in cc
+set-is folds k start f here =
+    let same : Some start ≡ Some f = kept-is folds k (Some start) f here in
+    cc
 
 -- a fold that a message was folded into was there
 mapped : (m : Message) (o : Option Folding) (f : Folding) → option_map (after_message m) o ≡ Some f
@@ -528,7 +530,8 @@ takes rebuilds s volume slot events answers f e m told r stays read =
     sym (append_assoc us (m ∷ []) rest) ∙ (ap (λ ms. ms ++ rest) (sym all) ∙ says.1.prefix.1) in
     let start : r.first ≡ result_of r.query (state_at b r.at) =
     says.1.folding volume [] (reads_of slot (r.after ++ e ∷ []) (r.afters ++ a ∷ [])) refl tt in
-    let fewer = accepted-front r.before (Open r.query r.port r.backlog r.moved ∷ (r.after ++ e ∷ []))
+    let fewer = accepted-front r.before
+        (Open r.query r.port r.backlog r.moved ∷ (r.after ++ e ∷ []))
     r.befores (Opened slot r.at r.first ∷ (r.afters ++ a ∷ [])) r.place in
     let same : accepted (events ++ e ∷ []) (answers ++ a ∷ [])
     ≡ accepted (r.before ++ Open r.query r.port r.backlog r.moved ∷ (r.after ++ e ∷ []))

@@ -152,7 +152,8 @@ other_word word rest run threads check e = by_dashes (bytes_eq word (codes "--")
     by_dashes false t =
         let met : word_met top.rules names false idle 1 word nothing_held ≡ (nothing_held, value) =
         ap (λ (o : Option Text). subcommand_or_other top.rules o idle 1 word nothing_held)
-        (no_subcommand word run threads check) ∙ value_met [] (λ n. refl) (λ x. refl) word [] None 1 t in
+        (no_subcommand word run threads check)
+        ∙ value_met [] (λ n. refl) (λ x. refl) word [] None 1 t in
         no_kind _ _
         (value_passes top names nothing_held 1 word rest met (own_passes (word ∷ rest) e)).0
 

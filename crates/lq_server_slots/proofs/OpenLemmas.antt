@@ -52,7 +52,8 @@ begun_new stand s r book q mv port backlog at g held number places told first_cl
     query moved opened floor taken ahead full end hand result =
     let now : s.sub.held ≡ opened_with q mv (length book.changes) backlog = held
     ∙ ap (λ (n : ℕ). opened_with q mv n backlog) number in
-    let live : s.told.value ≡ Live (length book.changes) 0 = told ∙ ap (λ (n : ℕ). Live n 0) number in
+    let live : s.told.value ≡ Live (length book.changes) 0 =
+    told ∙ ap (λ (n : ℕ). Live n 0) number in
     let stands : Stands (opened_with q mv (length book.changes) backlog) s.input s.places
     (Live (length book.changes) 0) Never book =
     stand q mv backlog s.input s.places book taken ahead (ap floor_of opening_at ∙ floor)

@@ -392,7 +392,8 @@ module _ (s t : Subscription) (c d e input : End Delivery Opening) (book : Book)
   -- the two ends were seen side by side
   pub looks : SideBySide s (record t { input = input }) c e book n
   looks = record {
-    stands = same_put t.sub.held t.input input t.places t.told.value t.first_close book ports.1 (all_seen ∙ put)
+    stands = same_put t.sub.held t.input input t.places t.told.value t.first_close book ports.1
+        (all_seen ∙ put)
         at.stands;
     alike = alike_trans s t (record t { input = input }) at.alike (record {
       port = ports.1;

@@ -50,7 +50,8 @@ removed-any e (g ∷ gone) come = removed-any e gone come
 
 -- so those of the entries that stand alone stay
 removed-kept : (es gone come : List Entry)
-    → filter (λ m. not (list_any (is_move m) (without_moves gone come))) (map (λ e. (Removed, e)) es)
+    → filter (λ m. not (list_any (is_move m) (without_moves gone come)))
+        (map (λ e. (Removed, e)) es)
     ≡ map (λ e. (Removed, e)) (alone es come)
 removed-kept [] gone come = refl
 removed-kept (e ∷ es) gone come =

@@ -12,7 +12,8 @@ returns-in-Ok-Run g c =
     let said = c.run_script.ensures in
     record {
       outcome = after_run (texts_of c.args.words.now) c.run_script.result _
-          (subst (IsAskedBy (texts_of c.args.words.now)) c.in-Ok-Run.field-0-is c.in-Ok-Run.ensures.ok)
+          (subst (IsAskedBy (texts_of c.args.words.now)) c.in-Ok-Run.field-0-is
+              c.in-Ok-Run.ensures.ok)
           (record { done = said.done; stopped = said.stopped; never_refused = said.status })
           said.quiet said.flushed (λ one. let fault = said.fault one in record {
             fault = fault.0;
@@ -73,7 +74,9 @@ pub returns-in-Err-NoMemory : goal.returns-in-Err-NoMemory
 returns-in-Err-NoMemory g c =
     let said = c.report_fault-in-Err-NoMemory.ensures in
     record {
-      outcome = without_memory (texts_of c.args.words.now) c.report_fault-in-Err-NoMemory.result _ _ _ _ _ _ _ _
+      outcome =
+          without_memory (texts_of c.args.words.now) c.report_fault-in-Err-NoMemory.result _ _ _ _ _
+          _ _ _
           _ _ _ said.status c.requires.reader_works c.requires.writer_moves said.reported;
     }
 

@@ -20,7 +20,8 @@ loop-slot-preserved g c =
       drains_on c.args.slot.now l.slot c.args.reading.now.port l.reading.port b.new.self.port
           b.new.input c.args.keeper.now.book b.result l.invariant.0 b.ensures.value b.ensures.put
           b.ensures.taken b.ensures.known b.ensures.input b.ensures.floor b.ensures.legal
-          b.ensures.within b.ensures.ports c.put_one.new.slot c.put_one.ensures.stands c.put_one.ensures.alike,
+          b.ensures.within b.ensures.ports c.put_one.new.slot c.put_one.ensures.stands
+              c.put_one.ensures.alike,
       b.ensures.hand ∙ l.invariant.1,
       b.ensures.result ∙ l.invariant.2,
     )

@@ -12,7 +12,8 @@ use Rattle.lq_server_slots.proofs.fill_port.put_one.Goals as goal
 pub put-requires : goal.put-requires
 put-requires g c =
     let s = c.args.slot.now in record {
-      follows = may_put s.sub.held s.input s.places s.told.value s.first_close c.args.keeper.now.book c.requires
+      follows = may_put s.sub.held s.input s.places s.told.value s.first_close
+          c.args.keeper.now.book c.requires
           c.in-Some.what (record { what = c.in-Some.what; book = c.of.result })
           (sym c.in-Some.ensures.value) refl
           (ap (λ (k : KeeperToken Identity). k.book) c.of.ensures);
@@ -25,9 +26,11 @@ returns-in-Ok-clause-stands g c =
     let next : next_parcel s.sub.held ≡ Some c.in-Some.what = sym c.in-Some.ensures.value in
     let held : c.next.new.self.held ≡ without_parcel s.sub.held (Some c.in-Some.what) =
     c.next.ensures.rest ∙ ap (without_parcel s.sub.held) next in
-    subst (λ (h : Held). Stands h c.put.new.self s.places s.told.value s.first_close c.args.keeper.now.book)
+    subst (λ (h : Held). Stands h c.put.new.self s.places s.told.value s.first_close
+        c.args.keeper.now.book)
     (sym held)
-    (put_stands s.sub.held s.input s.places s.told.value s.first_close c.args.keeper.now.book c.requires
+    (put_stands s.sub.held s.input s.places s.told.value s.first_close c.args.keeper.now.book
+        c.requires
     c.put.new.self c.in-Some.what item next refl
     (ap (λ (k : KeeperToken Identity). k.book) c.of.ensures) c.put.ensures.port c.in-Ok.ensures.ok)
 
@@ -41,7 +44,8 @@ returns-in-Ok-clause-alike g c =
     record {
       port = c.put.ensures.port;
       held = subst (SameHeld s.sub.held) (sym held)
-          (put_same s.sub.held s.input s.places s.told.value s.first_close c.args.keeper.now.book c.requires
+          (put_same s.sub.held s.input s.places s.told.value s.first_close c.args.keeper.now.book
+              c.requires
           c.put.new.self c.in-Some.what item next refl
           (ap (λ (k : KeeperToken Identity). k.book) c.of.ensures) c.put.ensures.port
           c.in-Ok.ensures.ok);
@@ -51,7 +55,8 @@ returns-in-Ok-clause-alike g c =
       first_close = refl;
       given_same =
           ap (λ (h : Held). messages_given h c.put.new.self) held
-          ∙ given_then s.sub.held s.input s.places s.told.value s.first_close c.args.keeper.now.book c.requires
+          ∙ given_then s.sub.held s.input s.places s.told.value s.first_close c.args.keeper.now.book
+              c.requires
           c.put.new.self c.in-Some.what item next refl
           (ap (λ (k : KeeperToken Identity). k.book) c.of.ensures) c.put.ensures.port
           c.in-Ok.ensures.ok;
@@ -65,14 +70,16 @@ returns-in-Ok-clause-moved g c =
     let held : c.next.new.self.held ≡ without_parcel s.sub.held (Some c.in-Some.what) =
     c.next.ensures.rest ∙ ap (without_parcel s.sub.held) next in
     subst (λ (h : Held). left_of h < left_of s.sub.held) (sym held)
-    (put_left s.sub.held s.input s.places s.told.value s.first_close c.args.keeper.now.book c.requires
+    (put_left s.sub.held s.input s.places s.told.value s.first_close c.args.keeper.now.book
+        c.requires
     c.put.new.self c.in-Some.what item next refl
     (ap (λ (k : KeeperToken Identity). k.book) c.of.ensures) c.put.ensures.port c.in-Ok.ensures.ok)
 
 pub returns-in_default-clause-stands : goal.returns-in_default-clause-stands
 returns-in_default-clause-stands g c =
     let s = c.args.slot.now in
-    subst (λ (h : Held). Stands h s.input s.places s.told.value s.first_close c.args.keeper.now.book)
+    subst (λ (h : Held). Stands h s.input s.places s.told.value s.first_close
+        c.args.keeper.now.book)
     (sym (none_out s.sub.held c.next.new.self.held (sym c.next.ensures.value ∙ c.in_default.is)
     c.next.ensures.rest)) c.requires
 
