@@ -176,7 +176,7 @@ impl Engine {
         let at = self.volume.changes();
         let result = self.volume.fetch(predicate)?;
         let slot = Slot::new(self.alloc, predicate, at, port, backlog, moved)?;
-        self.slots.open(slot);
+        self.slots.open(place, slot);
         self.openings += 1;
         Ok(Reply::Opened {
             slot: place as u64 + 1,

@@ -11,11 +11,11 @@ mod bits;
 mod desk;
 mod engine;
 mod laws;
-mod passes;
 mod reply;
 mod slot;
 mod slot_list;
 mod slots;
+mod visitors;
 mod witness;
 
 pub use desk::Desk;

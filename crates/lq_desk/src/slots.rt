@@ -12,12 +12,12 @@ ghost use Rattle.lq_desk.specs.Act.{act_of, close_turn, outcome_of, read_turn};
 ghost use Rattle.lq_desk.specs.Ready.{MarksParcels};
 ghost use Rattle.lq_desk.specs.Reply.{answer_of};
 
-use crate::passes::{Commit, Fill, Notice, Ready, Told};
 use crate::reply::Reply;
 use crate::slot::Slot;
 use crate::slot_list::{
     act_in, can_move_in, close_in, first_free, is_ending_in, occupy, parcels_in, read_in,
 };
+use crate::visitors::{Commit, Fill, Notice, Ready, Told};
 use lq_desk_sub::{SlotIndex, SlotSet, Watch, visit_in};
 use lq_desk_world::Act;
 use lq_value::Refusal;
@@ -83,13 +83,12 @@ impl Slots {
         first_free(&self.places)
     }
 
-    /// Puts a subscription into the first free slot.
-    pub fn open(&mut self, slot: Slot)
-        requires { first_free (map (option_map slot_of) self.old) < 64 }
-        ensures { self.new ≡
-            slice_set self.old (first_free (map (option_map slot_of) self.old)) (Some slot) }
+    /// Puts a subscription into the slot at a place, 0 to 63.
+    pub fn open(&mut self, place: usize, slot: Slot)
+        requires { place < 64 }
+        ensures { self.new ≡ slice_set self.old place (Some slot) }
     {
-        let index = SlotIndex::at(first_free(&self.places));
+        let index = SlotIndex::at(place);
         self.ending.put(index, slot.is_ending());
         self.movable.put(index, slot.can_move());
         self.watch.set(index.place(), &slot.sub);

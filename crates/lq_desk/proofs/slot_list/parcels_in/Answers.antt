@@ -15,7 +15,7 @@ loop-slot-preserved c =
       fits = c.with_bit-word.type_inv;
       done = marks-more (map kept_slot c.args.slots.now) l.slot-index l.word
           c.with_bit-word.result _ c.has_parcel_at.result
-              (kept-item c.args.slots.now l.slot-index c.slot-item.result c.loop-slot-test.true
+          (kept-item c.args.slots.now l.slot-index c.slot-item.result c.loop-slot-test.true
           c.slot-item.is)
           c.has_parcel_at.ensures sets l.invariant.done l.invariant.clear;
       clear = clear-more l.slot-index l.word c.with_bit-word.result c.has_parcel_at.result sets

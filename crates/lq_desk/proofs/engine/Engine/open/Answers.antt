@@ -19,8 +19,9 @@ invariant_of-self c =
     let same : slot_of c.in_ok-slot.slot ≡ fresh =
     rw (← c.changes-at.ensures.number) c.in_ok-slot.ensures.value in
     let made : map kept_slot c.open.new.self ≡ slice_set k.slots (first_free k.slots) (Some fresh) =
-    slots-opened xs c.open.new.self
-    (first_free k.slots) c.in_ok-slot.slot fresh c.open.ensures same refl in
+    slots-opened xs c.open.new.self (first_free k.slots) c.in_ok-slot.slot fresh
+    (c.open.ensures ∙ ap (λ i. slice_set xs i (Some c.in_ok-slot.slot)) c.first_free-place.ensures)
+    same refl in
     subst (λ ks. IsKept (record { volume = k.volume; openings = k.openings + 1; slots = ks }))
     (sym made)
     (IsKept-open k c.args.predicate.now c.args.port c.args.backlog c.args.moved c.self.invariant)
@@ -38,8 +39,9 @@ returns-clause-ok c =
     let same : slot_of c.in_ok-slot.slot ≡ fresh =
     rw (← c.changes-at.ensures.number) c.in_ok-slot.ensures.value in
     let made : map kept_slot c.open.new.self ≡ slice_set k.slots (first_free k.slots) (Some fresh) =
-    slots-opened xs c.open.new.self
-    (first_free k.slots) c.in_ok-slot.slot fresh c.open.ensures same refl in
+    slots-opened xs c.open.new.self (first_free k.slots) c.in_ok-slot.slot fresh
+    (c.open.ensures ∙ ap (λ i. slice_set xs i (Some c.in_ok-slot.slot)) c.first_free-place.ensures)
+    same refl in
     ap (λ ks. record { volume = k.volume; openings = k.openings + 1; slots = ks }) made
     ∙ ap (λ (j : DeskState). opened j (fresh_slot c.args.predicate.now c.args.moved j.volume.number
     c.args.port c.args.backlog)) c.self.view_is

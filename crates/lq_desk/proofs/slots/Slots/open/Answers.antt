@@ -1,32 +1,18 @@
-use Rattle.std.proofs.Common.{◌∙◌, ap, arith, map, refl, subst, Some, List, Option}
+use Rattle.std.proofs.Common.{◌∙◌, ap, map, refl, subst, Some, List, Option}
 use Rattle.std.specs.Prelude.{slice_set}
 use Rattle.std.proofs.lemmas.List.{map-set}
-use Rattle.lq_desk.specs.DeskState.{first_free}
 use Rattle.lq_desk.specs.Slot.{PreparedSlot, slot_of}
 use Rattle.lq_desk.proofs.MarkLemmas.{places-set}
 use Rattle.lq_desk.proofs.SlotsLemmas.{kept_slot}
 use Rattle.lq_desk.proofs.WatchLemmas.{Watches, watched-set, watches}
 use Rattle.lq_desk.proofs.slots.Slots.open.Goals as goal
 
-pub at-index-requires : goal.at-index-requires
-at-index-requires c = omega (
-  arith,
-  c.first_free.ensures,
-  ap (λ (zs : List (Option PreparedSlot)). first_free (map kept_slot zs))
-      (c.deref.ensures.value ∙ c.self.view_is),
-  c.requires,
-)
-
 pub returns : goal.returns
 returns c =
     let x = Some c.args.slot in
     c.occupy.ensures
-    ∙ (ap (λ i. slice_set c.self.inside.places.items i x) (c.place-2.ensures.value
-    ∙ (c.at-index.ensures ∙ (c.first_free.ensures
-    ∙ ap (λ (zs : List (Option PreparedSlot)). first_free (map kept_slot zs))
-    (c.deref.ensures.value ∙ c.self.view_is))))
-    ∙ ap (λ (zs : List (Option PreparedSlot)).
-    slice_set zs (first_free (map kept_slot c.args.self.now)) x) c.self.view_is)
+    ∙ (ap (λ i. slice_set c.self.inside.places.items i x) (c.place-2.ensures.value ∙ c.at-index.ensures)
+    ∙ ap (λ (zs : List (Option PreparedSlot)). slice_set zs c.args.place x) c.self.view_is)
 
 pub invariant_of-self : goal.invariant_of-self
 invariant_of-self c =

@@ -12,7 +12,7 @@ use Rattle.lq_desk_sub.specs.declared.slot_set.SlotSet.{SlotSet}
 use Rattle.lq_desk_sub.specs.SlotSet.{has, IsEmpty}
 use Rattle.lq_desk_sub.specs.Visits.{Visits}
 use Rattle.lq_desk_sub.specs.Watch.{slots_for}
-use Rattle.lq_desk.specs.declared.passes.Told.{Told}
+use Rattle.lq_desk.specs.declared.visitors.Told.{Told}
 use Rattle.lq_desk.specs.DeskState.{IsFew}
 use Rattle.lq_desk.specs.Slot.{PreparedSlot, slot_of}
 use Rattle.lq_desk.specs.Words.{MayReady, Readies}
