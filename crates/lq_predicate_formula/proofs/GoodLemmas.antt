@@ -6,6 +6,7 @@ use Rattle.std.specs.Char.{IsScalar}
 use Rattle.std.specs.Str.{IsUtf8, chars}
 use Rattle.std.proofs.Math.Utf8.{scalar, scalars}
 use Rattle.std.proofs.lemmas.Bool.{and_parts}
+use Rattle.std.proofs.lemmas.Option.{none-some, same_Some}
 use Rattle.std.proofs.lemmas.Str.{scalars-chars}
 use Rattle.lq_value.specs.Item.{Item}
 use Rattle.lq_value.specs.Item.TheVariants.{One, Range}
@@ -19,7 +20,7 @@ use Rattle.lq_value.specs.declared.literal.Literal.{Literal}
 use Rattle.lq_value.specs.declared.literal.Literal.TheVariants.{Pattern}
 use Rattle.lq_value.specs.declared.literal.Literal.TheVariants as literals
 use Rattle.lq_value.specs.declared.op.Op.{Op}
-use Rattle.lq_value.specs.declared.op.Op.TheVariants.{Eq, Ne, Lt, Le, Gt, Ge}
+use Rattle.lq_value.specs.declared.op.Op.TheVariants.{Eq, Ne}
 use Rattle.lq_predicate_formula.specs.Grammar.{IsFormula}
 use Rattle.lq_predicate_formula.specs.Literals.{literal_of, pattern_literal, unescaped}
 use Rattle.lq_predicate_formula.specs.Query.{Query}
@@ -70,15 +71,12 @@ signs_scalar true (c ∷ cs) e =
     let h = and_parts (scalar c) (scalars cs) e in
     (escaped_scalar c h.0, signs_scalar false cs h.1)
 
--- if all of two lists stand for scalar values, those of the first do
-front_scalar : (a b : List Sign) → AllScalar (a ++ b) → AllScalar a
-front_scalar [] b h = tt
-front_scalar (s ∷ a) b h = (h.0, front_scalar a b h.1)
-
--- if all of two lists stand for scalar values, those of the second do
-back_scalar : (a b : List Sign) → AllScalar (a ++ b) → AllScalar b
-back_scalar [] b h = h
-back_scalar (s ∷ a) b h = back_scalar a b h.1
+-- if all of two lists stand for scalar values, those of each do
+parts_scalar : (a b : List Sign) → AllScalar (a ++ b) → AllScalar a × AllScalar b
+parts_scalar [] b h = (tt, h)
+parts_scalar (s ∷ a) b h =
+    let k = parts_scalar a b h.1 in
+    ((h.0, k.0), k.1)
 
 -- an item that is written by signs of scalar values is of scalar values
 item_good : (i : Item) (part rest : List Sign) → IsItem i part rest → AllScalar part → IsGoodItem i
@@ -92,10 +90,8 @@ items_good : (items : List Item) (text : List Sign) → AreItems items text → 
     → AreGoodItems items
 items_good [] text h k = tt
 items_good (i ∷ is) text h k =
-    let l = subst AllScalar h.2 k in (
-      item_good i h.0 h.1 h.3 (front_scalar h.0 h.1 l),
-      items_good is h.1 h.4 (back_scalar h.0 h.1 l),
-    )
+    let l = parts_scalar h.0 h.1 (subst AllScalar h.2 k) in
+    (item_good i h.0 h.1 h.3 l.0, items_good is h.1 h.4 l.1)
 
 -- an element that is written by signs of scalar values is of scalar values
 element_good : (e : Element) (part : List Sign) → IsElement e part → AllScalar part
@@ -115,10 +111,8 @@ pattern_good : (es : List Element) (text : List Sign) → Writes text es → All
     → IsGoodPattern es
 pattern_good [] text h k = tt
 pattern_good (e ∷ es) text h k =
-    let l = subst AllScalar h.2 k in (
-      element_good e h.0 h.3 (front_scalar h.0 h.1 l),
-      pattern_good es h.1 h.4 (back_scalar h.0 h.1 l),
-    )
+    let l = parts_scalar h.0 h.1 (subst AllScalar h.2 k) in
+    (element_good e h.0 h.3 l.0, pattern_good es h.1 h.4 l.1)
 
 -- a pattern that is read has a source
 pub read_good : SourcesAreRead
@@ -133,24 +127,16 @@ good_pattern : SourcesAreRead
     → (raw : List ℕ) → IsUtf8 raw → (r : Result (List Element) ℕ) (literal : Literal)
     → pattern_of raw ≡ r → pattern_literal r ≡ Some literal → IsGoodLiteral literal
 good_pattern law raw u (Ok es) literal is e =
-    subst IsGoodLiteral (let same : Pattern es ≡ literal = cc in same) (read_good law raw es u is)
-good_pattern law raw u (Err k) literal is e = absurd (let no : ⊥ = cc in no)
-
--- a literal that is a plain text is good
-good_plain : (text : List ℕ) (literal : Literal) → Some (literals.Plain text) ≡ Some literal
-    → IsGoodLiteral literal
-good_plain text literal e =
-    subst IsGoodLiteral (let same : literals.Plain text ≡ literal = cc in same) tt
+    subst IsGoodLiteral (same_Some (Pattern es) literal e) (read_good law raw es u is)
+good_pattern law raw u (Err k) literal is e = absurd (none-some literal e)
 
 -- a literal that is read from a text of UTF-8 is good
 literal_good : SourcesAreRead → (o : Op) (raw : List ℕ) (literal : Literal) → IsUtf8 raw
     → literal_of o raw ≡ Some literal → IsGoodLiteral literal
 literal_good law Eq raw literal u e = good_pattern law raw u (pattern_of raw) literal refl e
 literal_good law Ne raw literal u e = good_pattern law raw u (pattern_of raw) literal refl e
-literal_good law Lt raw literal u e = good_plain (unescaped false raw) literal e
-literal_good law Le raw literal u e = good_plain (unescaped false raw) literal e
-literal_good law Gt raw literal u e = good_plain (unescaped false raw) literal e
-literal_good law Ge raw literal u e = good_plain (unescaped false raw) literal e
+literal_good law o raw literal u e =
+    subst IsGoodLiteral (same_Some (literals.Plain (unescaped false raw)) literal e) tt
 
 -- what a formula of texts is read as has a canonical text that is read
 pub formula_good : SourcesAreRead

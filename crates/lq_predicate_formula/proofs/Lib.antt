@@ -1,8 +1,8 @@
 -- Read in this order. The tokens of a text: CountLemmas, CutLemmas, SignLemmas, TokenLemmas.
--- Grammar and machine read the same: CompleteLemmas, SoundLemmas, WordLemmas, ReadingLemmas,
--- ProperLemmas.
--- Faults: StopLemmas, DepthLemmas, OutlineLemmas, StepsLemmas, RefusedLemmas, BalanceLemmas,
--- TakenLemmas, StoppedLemmas, ExactLemmas. Each text has one reading: OneReadingLemmas. What is
+-- The machine's steps: MoveLemmas. Grammar and machine read the same: CompleteLemmas, SoundLemmas,
+-- WordLemmas, ProperLemmas.
+-- Faults: StopLemmas, DepthLemmas, OutlineLemmas, RefusedLemmas, BalanceLemmas, TakenLemmas,
+-- StoppedLemmas, ExactLemmas. Each text has one reading: OneReadingLemmas. What is
 -- written reads back: QuotingLemmas, CharLemmas, EncodedLemmas, PatternTextLemmas,
 -- CanonicalLemmas, RoundLemmas, GoodLemmas. What the writers and counters do, a piece at a time:
 -- RawLemmas, WritingLemmas, SizeLemmas, SourceSizeLemmas. The texts of trees, a piece at a time:
@@ -12,14 +12,13 @@ pub mod CountLemmas
 pub mod CutLemmas
 pub mod SignLemmas
 pub mod TokenLemmas
+pub mod MoveLemmas
 pub mod CompleteLemmas
 pub mod SoundLemmas
 pub mod StopLemmas
 pub mod DepthLemmas
 pub mod WordLemmas
-pub mod ReadingLemmas
 pub mod OutlineLemmas
-pub mod StepsLemmas
 pub mod RefusedLemmas
 pub mod BalanceLemmas
 pub mod TakenLemmas

@@ -2,9 +2,10 @@
 use Rattle.std.proofs.Common.{◌≡◌, ◌+◌, ◌⊎◌, ℕ, zero, suc, List, [], ◌∷◌, ◌++◌, Option, Some, None, refl, sym, ap, ◌∙◌, inl, inr}
 use Rattle.std.specs.Prelude.{option_map, Result, Ok, Err}
 use Rattle.std.proofs.lemmas.List.{map-append}
+use Rattle.std.proofs.lemmas.Option.{none-some}
 use Rattle.lq_value.specs.Element.{Element}
 use Rattle.lq_value.specs.declared.op.Op.{Op}
-use Rattle.lq_value.specs.declared.op.Op.TheVariants.{Eq, Ne, Lt, Le, Gt, Ge}
+use Rattle.lq_value.specs.declared.op.Op.TheVariants.{Eq, Ne}
 use Rattle.lq_value.specs.Source.{pattern_of}
 use Rattle.lq_predicate_formula.specs.Tokens.{Token, opens, closes, bang, ands, ors, op, word, lone, cut, Placed}
 use Rattle.lq_predicate_formula.specs.Literals.{bad_place, literal_fault, literal_of, name_of, pattern_literal}
@@ -13,10 +14,10 @@ use Rattle.lq_predicate_formula.specs.Grammar.{nesting}
 use Rattle.lq_predicate_formula.specs.Machine.{Frame, Expected, operand, after_attr, after_op, after_operand, MachineState, completed, start, step, steps}
 use Rattle.lq_predicate_formula.specs.Faults.{AwaitsAttr, IsFaultOf, stray, cut_off, alone, too_deep, bad_name, bad_pattern, kind_of}
 use Rattle.lq_predicate_formula.specs.MachineReading.{fault_place, fault_place_of, place_with}
-use Rattle.lq_predicate_formula.proofs.StopLemmas.{not_begun, steps_push}
-use Rattle.lq_predicate_formula.proofs.DepthLemmas.{at, steps_wider, wider}
+use Rattle.lq_predicate_formula.proofs.StopLemmas.{begun_at, can_stand, not_begun}
+use Rattle.lq_predicate_formula.proofs.DepthLemmas.{steps_wider, wider}
+use Rattle.lq_predicate_formula.proofs.MoveLemmas.{at, front_by, steps_on, steps_push}
 use Rattle.lq_predicate_formula.proofs.OutlineLemmas.{cannot, outline_of, outline_step}
-use Rattle.lq_predicate_formula.proofs.StepsLemmas.{begun_at, ends_with, front_by, some_none, steps_on}
 
 -- ---- what is refused
 
@@ -44,16 +45,13 @@ pub awaits_attr : (ts : List Token) (below : List Frame) (f : Frame) (n : ℕ)
     → steps (start nesting) ts ≡ Some (at operand below f n) → AwaitsAttr ts
 awaits_attr ts below f n e =
     let us = word (97 ∷ []) ∷ op Eq ∷ [] in
-    let b = begun_at nesting (ts ++ us) (at (after_op (97 ∷ []) Eq) below f n)
-    (steps_on ts us (start nesting) (at operand below f n) e) in
-    record {
-      words = ts ++ us;
-      alike = map-append kind_of ts us ∙ sym (map-append kind_of ts (word [] ∷ op Eq ∷ []));
-      deep = nesting;
-      rest = b.0;
-      q = b.1;
-      formula = b.2;
-    }
+    can_stand (ts ++ word [] ∷ op Eq ∷ []) (ts ++ us) (at (after_op (97 ∷ []) Eq) below f n)
+    (steps_on ts us (start nesting) (at operand below f n) e)
+    (map-append kind_of ts us ∙ sym (map-append kind_of ts (word [] ∷ op Eq ∷ [])))
+
+-- nothing is both Some and None
+some_none : {A : Type 0} {X : Type 0} (x : A) → Some x ≡ None → X
+some_none x e = absurd (none-some x (sym e))
 
 -- where a map of an option is None, the option is
 none_of : {A : Type 0} (r : Option A) (f : A → MachineState) → option_map f r ≡ None → r ≡ None
@@ -69,10 +67,7 @@ bad_by (Err k) e = (k, refl)
 bad_literal : (o : Op) (w : List ℕ) → literal_of o w ≡ None → (k : ℕ) × (literal_fault o w ≡ Some k)
 bad_literal Eq w e = bad_by (pattern_of w) e
 bad_literal Ne w e = bad_by (pattern_of w) e
-bad_literal Lt w e = some_none _ e
-bad_literal Le w e = some_none _ e
-bad_literal Gt w e = some_none _ e
-bad_literal Ge w e = some_none _ e
+bad_literal o w e = some_none _ e
 
 -- a word that is no literal of the operator is at fault, where its pattern is bad
 pattern_at : (end : ℕ) (ts : List Token) (a : List ℕ) (o : Op) (below : List Frame) (f : Frame)
@@ -81,8 +76,7 @@ pattern_at : (end : ℕ) (ts : List Token) (a : List ℕ) (o : Op) (below : List
     (place_with (literal_fault o w) (here_of place raw (word w)))
 pattern_at end ts a o below f n place raw w e h =
     let k = bad_literal o w h in
-    let front =
-    front_by ts o nesting (ends_with ts (start nesting) (at (after_op a o) below f n) o refl e) in
+    let front = front_by ts (at (after_op a o) below f n) o refl e in
     bad_pattern front.0 o w k.0 front.1 refl k.1
     (ap (λ r. place_with r (here_of place raw (word w))) k.1)
 
@@ -91,72 +85,26 @@ refused_at : (p : Expected) (below : List Frame) (f : Frame) (n : ℕ) (t : Toke
     (ts : List Token) (place raw : ℕ)
     → steps (start nesting) ts ≡ Some (at p below f n) → step (at p below f n) t ≡ None
     → IsFaultOf end ts (here_of place raw t) (fault_place_of end p t (here_of place raw t))
+refused_at p below f n lone end ts place raw e h = alone refl refl
+refused_at p below f n cut end ts place raw e h = cut_off refl refl
 refused_at operand below f zero opens end ts place raw e h =
     deep_at end ts (at operand below f zero) _ place raw opens e h (inl refl) refl
 refused_at operand below f (suc n) opens end ts place raw e h = some_none _ h
-refused_at operand below f n closes end ts place raw e h =
-    stray_at end ts (at operand below f n) place raw closes e refl (λ c. cc)
 refused_at operand below f zero bang end ts place raw e h =
     deep_at end ts (at operand below f zero) _ place raw bang e h (inr refl) refl
 refused_at operand below f (suc n) bang end ts place raw e h = some_none _ h
-refused_at operand below f n ands end ts place raw e h =
-    stray_at end ts (at operand below f n) place raw ands e refl (λ c. cc)
-refused_at operand below f n ors end ts place raw e h =
-    stray_at end ts (at operand below f n) place raw ors e refl (λ c. cc)
-refused_at operand below f n (op u) end ts place raw e h =
-    stray_at end ts (at operand below f n) place raw (op u) e refl (λ c. cc)
 refused_at operand below f n (word w) end ts place raw e h =
     bad_name w refl (awaits_attr ts below f n e)
     (none_of (name_of w) (λ name. at (after_attr name) below f n) h) refl
-refused_at operand below f n lone end ts place raw e h = alone refl refl
-refused_at operand below f n cut end ts place raw e h = cut_off refl refl
-refused_at (after_attr a) below f n opens end ts place raw e h =
-    stray_at end ts (at (after_attr a) below f n) place raw opens e refl (λ c. cc)
-refused_at (after_attr a) below f n closes end ts place raw e h =
-    stray_at end ts (at (after_attr a) below f n) place raw closes e refl (λ c. cc)
-refused_at (after_attr a) below f n bang end ts place raw e h =
-    stray_at end ts (at (after_attr a) below f n) place raw bang e refl (λ c. cc)
-refused_at (after_attr a) below f n ands end ts place raw e h =
-    stray_at end ts (at (after_attr a) below f n) place raw ands e refl (λ c. cc)
-refused_at (after_attr a) below f n ors end ts place raw e h =
-    stray_at end ts (at (after_attr a) below f n) place raw ors e refl (λ c. cc)
 refused_at (after_attr a) below f n (op u) end ts place raw e h = some_none _ h
-refused_at (after_attr a) below f n (word w) end ts place raw e h =
-    stray_at end ts (at (after_attr a) below f n) place raw (word w) e refl (λ c. cc)
-refused_at (after_attr a) below f n lone end ts place raw e h = alone refl refl
-refused_at (after_attr a) below f n cut end ts place raw e h = cut_off refl refl
-refused_at (after_op a o) below f n opens end ts place raw e h =
-    stray_at end ts (at (after_op a o) below f n) place raw opens e refl (λ c. cc)
-refused_at (after_op a o) below f n closes end ts place raw e h =
-    stray_at end ts (at (after_op a o) below f n) place raw closes e refl (λ c. cc)
-refused_at (after_op a o) below f n bang end ts place raw e h =
-    stray_at end ts (at (after_op a o) below f n) place raw bang e refl (λ c. cc)
-refused_at (after_op a o) below f n ands end ts place raw e h =
-    stray_at end ts (at (after_op a o) below f n) place raw ands e refl (λ c. cc)
-refused_at (after_op a o) below f n ors end ts place raw e h =
-    stray_at end ts (at (after_op a o) below f n) place raw ors e refl (λ c. cc)
-refused_at (after_op a o) below f n (op u) end ts place raw e h =
-    stray_at end ts (at (after_op a o) below f n) place raw (op u) e refl (λ c. cc)
 refused_at (after_op a o) below f n (word w) end ts place raw e h =
     pattern_at end ts a o below f n place raw w e
     (none_of (literal_of o w) (λ literal. completed (Compare a o literal) below f n) h)
-refused_at (after_op a o) below f n lone end ts place raw e h = alone refl refl
-refused_at (after_op a o) below f n cut end ts place raw e h = cut_off refl refl
-refused_at after_operand below f n opens end ts place raw e h =
-    stray_at end ts (at after_operand below f n) place raw opens e refl (λ c. cc)
-refused_at after_operand [] f n closes end ts place raw e h =
-    stray_at end ts (at after_operand [] f n) place raw closes e refl (λ c. cc)
 refused_at after_operand (g ∷ gs) f n closes end ts place raw e h = some_none _ h
-refused_at after_operand below f n bang end ts place raw e h =
-    stray_at end ts (at after_operand below f n) place raw bang e refl (λ c. cc)
 refused_at after_operand below f n ands end ts place raw e h = some_none _ h
 refused_at after_operand below f n ors end ts place raw e h = some_none _ h
-refused_at after_operand below f n (op u) end ts place raw e h =
-    stray_at end ts (at after_operand below f n) place raw (op u) e refl (λ c. cc)
-refused_at after_operand below f n (word w) end ts place raw e h =
-    stray_at end ts (at after_operand below f n) place raw (word w) e refl (λ c. cc)
-refused_at after_operand below f n lone end ts place raw e h = alone refl refl
-refused_at after_operand below f n cut end ts place raw e h = cut_off refl refl
+refused_at p below f n t end ts place raw e h =
+    stray_at end ts (at p below f n) place raw t e refl (λ c. cc)
 
 -- a token that the machine refuses is at fault, at the place that the reading says
 pub refused_fault : (end : ℕ) (ts : List Token) (s : MachineState) (here : Placed)

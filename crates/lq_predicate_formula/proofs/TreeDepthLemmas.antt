@@ -5,7 +5,7 @@ use Rattle.lq_predicate_formula.specs.Query.{Query, Compare, Not, And, Or}
 use Rattle.lq_predicate_formula.specs.Canonical.{depth, deepest}
 
 -- no depth is within 0
-over_zero : (q : Query) → false ≡ nat_le (depth q) 0
+pub over_zero : (q : Query) → false ≡ nat_le (depth q) 0
 over_zero (Compare a o l) = refl
 over_zero (Not q) = sym (leb-suc-zero (depth q))
 over_zero (And qs) = sym (leb-suc-zero (deepest qs))

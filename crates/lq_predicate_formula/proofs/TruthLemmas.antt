@@ -1,6 +1,6 @@
 -- The truth of a predicate goes by what a row shows under its names.
-use Rattle.std.proofs.Common.{◌≡◌, ℕ, List, [], ◌∷◌, ◌++◌, refl, ap, sym, Bool, true, false}
-use Rattle.std.specs.Prelude.{not, ◌||◌, if◌then◌else◌}
+use Rattle.std.proofs.Common.{◌≡◌, ℕ, List, [], ◌∷◌, ◌++◌, refl, ap, ap₂, sym, Bool, true, false}
+use Rattle.std.specs.Prelude.{not, ◌&&◌, ◌||◌, if◌then◌else◌}
 use Rattle.std.specs.List.{list_any, AllByRecursion}
 use Rattle.std.specs.Str.{bytes_eq}
 use Rattle.std.proofs.lemmas.Slice.Eq.{bytes_eq-Decides}
@@ -9,56 +9,33 @@ use Rattle.lq_predicate_formula.specs.Query.{Query, Compare, Not, And, Or, Queri
 use Rattle.lq_predicate_formula.specs.Names.{attributes, all_attributes, is_among, with_name, each_once, names_of}
 use Rattle.lq_predicate_formula.specs.Truth.{Look, compares_if_present, truth, all_true, some_true}
 use Rattle.lq_predicate_formula.specs.Laws.{TruthGoesByNames}
+use Rattle.lq_predicate_formula.proofs.PartLemmas.{all_parts}
 
 -- ---- the truth of a predicate goes by its attributes
 
--- rows that agree under all of two lists of names agree under the first
-alike-left : (look other : Look) (xs ys : List (List ℕ))
-    → AllByRecursion (λ name. look name ≡ other name) (xs ++ ys)
-    → AllByRecursion (λ name. look name ≡ other name) xs
-alike-left look other [] ys h = tt
-alike-left look other (x ∷ xs) ys h = (h.0, alike-left look other xs ys h.1)
+-- of two rows
+module _ (look other : Look) where
+  -- they agree under these names
+  abbrev Agree : List (List ℕ) → Type 0
+  Agree names = AllByRecursion (λ name. look name ≡ other name) names
 
--- rows that agree under all of two lists of names agree under the second
-alike-right : (look other : Look) (xs ys : List (List ℕ))
-    → AllByRecursion (λ name. look name ≡ other name) (xs ++ ys)
-    → AllByRecursion (λ name. look name ≡ other name) ys
-alike-right look other [] ys h = h
-alike-right look other (x ∷ xs) ys h = alike-right look other xs ys h.1
+  mutual
+    -- a query holds of rows that agree under its names for both or for neither
+    truth-same : (q : Query) → Agree (attributes q) → truth q look ≡ truth q other
+    truth-same (Compare attr op literal) h = ap (λ o. compares_if_present o op literal) h.0
+    truth-same (Not q) h = ap not (truth-same q h)
+    truth-same (And qs) h = (each-same qs h).0
+    truth-same (Or qs) h = (each-same qs h).1
 
-mutual
-  -- a query holds of rows that agree under its names for both or for neither
-  truth-same : (q : Query) (look other : Look)
-      → AllByRecursion (λ name. look name ≡ other name) (attributes q)
-      → truth q look ≡ truth q other
-  truth-same (Compare attr op literal) look other h = ap (λ o. compares_if_present o op literal) h.0
-  truth-same (Not q) look other h = ap not (truth-same q look other h)
-  truth-same (And qs) look other h = all-same qs look other h
-  truth-same (Or qs) look other h = some-same qs look other h
-
-  -- so do all of some queries
-  all-same : (qs : Queries) (look other : Look)
-      → AllByRecursion (λ name. look name ≡ other name) (all_attributes qs)
-      → all_true qs look ≡ all_true qs other
-  all-same no_more look other h = refl
-  all-same (and_then q qs) look other h =
-      let first =
-      truth-same q look other (alike-left look other (attributes q) (all_attributes qs) h) in
-      let rest =
-      all-same qs look other (alike-right look other (attributes q) (all_attributes qs) h) in
-      cc
-
-  -- so does one of some queries
-  some-same : (qs : Queries) (look other : Look)
-      → AllByRecursion (λ name. look name ≡ other name) (all_attributes qs)
-      → some_true qs look ≡ some_true qs other
-  some-same no_more look other h = refl
-  some-same (and_then q qs) look other h =
-      let first =
-      truth-same q look other (alike-left look other (attributes q) (all_attributes qs) h) in
-      let rest =
-      some-same qs look other (alike-right look other (attributes q) (all_attributes qs) h) in
-      cc
+    -- so do all of some queries, and so does one of them
+    each-same : (qs : Queries) → Agree (all_attributes qs)
+        → (all_true qs look ≡ all_true qs other) × (some_true qs look ≡ some_true qs other)
+    each-same no_more h = (refl, refl)
+    each-same (and_then q qs) h =
+        let k = all_parts (λ name. look name ≡ other name) (attributes q) (all_attributes qs) h in
+        let first = truth-same q k.0 in
+        let rest = each-same qs k.1 in
+        (ap₂ (λ x y. x && y) first rest.0, ap₂ (λ x y. x || y) first rest.1)
 
 -- ---- a predicate's names are its attributes
 
@@ -146,5 +123,5 @@ all-alike look other all (one ∷ uses) h same =
 -- the truth of a predicate goes by what a row shows under its names
 pub truth-names : TruthGoesByNames
 truth-names q look other same =
-    truth-same q look other
+    truth-same look other q
     (all-alike look other (names_of q) (attributes q) (each-has [] (attributes q)) same)
