@@ -1,23 +1,22 @@
 -- The tokens of a canonical text.
-use Rattle.std.proofs.Common.{◌≡◌, ◌≤◌, ◌+◌, ◌⊎◌, ℕ, suc, Bool, true, false, cond, List, [], ◌∷◌, ◌++◌, length, take, drop, refl, sym, ap, ap₂, ◌∙◌, subst, arith, inl, inr, append_assoc}
-use Rattle.std.specs.Prelude.{◌==◌, ◌||◌, ◌&&◌, nat_le, if◌then◌else◌}
+use Rattle.std.proofs.Common.{◌≡◌, ◌+◌, ℕ, suc, Bool, true, false, cond, List, [], ◌∷◌, ◌++◌, length, drop, refl, sym, ap, ap₂, ◌∙◌, subst, arith, inl, inr, append_assoc}
+use Rattle.std.specs.Prelude.{◌==◌, if◌then◌else◌}
 use Rattle.std.specs.List.{list_all}
-use Rattle.std.proofs.Math.Dec.{eqb-suc-zero}
 use Rattle.std.proofs.Math.Seq.{take-append_seam, drop-append_seam, drop-append-add}
-use Rattle.std.proofs.lemmas.Bool.{and_parts, eqb-true, leb-true, ne_eqb, or_cases, or_from}
+use Rattle.std.proofs.lemmas.Bool.{and_parts, false≢true}
 use Rattle.lq_value.specs.declared.literal.Literal.{Literal}
 use Rattle.lq_value.specs.declared.literal.Literal.TheVariants.{Pattern, Plain}
 use Rattle.lq_value.specs.declared.op.Op.{Op}
 use Rattle.lq_value.specs.declared.op.Op.TheVariants.{Eq, Ne, Lt, Le, Gt, Ge}
 use Rattle.lq_value.specs.Name.{is_attr_name}
 use Rattle.lq_predicate_formula.specs.Bytes.{ends_word, is_space}
-use Rattle.lq_predicate_formula.specs.Tokens.{Token, opens, closes, bang, ands, ors, op, word, cut, Placed, bare}
+use Rattle.lq_predicate_formula.specs.Tokens.{Token, opens, closes, bang, ands, ors, op, word, Placed, bare, plain, AreSigns, EndsWord}
 use Rattle.lq_predicate_formula.specs.Query.{Query, Compare, Not, And, Or, Queries, no_more, and_then}
 use Rattle.lq_predicate_formula.specs.Canonical.{attr_then, in_marks, is_bare_byte, literal_text, op_text, others_written, parts_written, quoted, written}
 use Rattle.lq_predicate_formula.specs.Limits.{AreProper, IsGoodLiteral, IsProper}
-use Rattle.lq_predicate_formula.specs.Lexing.{BeginsBy, Front, begins_with, fixed, front, is_symbol, placed_at, quoted_bytes, quoted_front, spaces, symbol_front, word_bytes, word_front}
+use Rattle.lq_predicate_formula.specs.Lexing.{BeginsBy, begins_with, front, placed_at, quoted_front, spaces}
 use Rattle.lq_predicate_formula.proofs.QuotingLemmas.{Ends, quoted_ends}
-use Rattle.lq_predicate_formula.proofs.SignLemmas.{HasFronts}
+use Rattle.lq_predicate_formula.proofs.SignLemmas.{HasFronts, Starts, not_that, quoted_is, unquoted_starts}
 use Rattle.lq_predicate_formula.proofs.PatternTextLemmas.{pattern_ends}
 
 -- ---- what a canonical text says
@@ -70,182 +69,84 @@ one b bs rest t ts e f g h at =
       ap₂ (λ x xs. x ∷ xs) f others.2,
     )
 
+-- a text that starts with a token has that token, and then those of the rest
+lex_by : (t : Token) (inside : ℕ) (part rest : List ℕ) (ts : List Token)
+    → Starts t inside part rest → Lexes rest ts → Lexes (part ++ rest) (t ∷ ts)
+lex_by t inside part rest ts s h =
+    let bs = s.1 ++ rest in
+    subst (λ p. Lexes (p ++ rest) (t ∷ ts)) (sym s.2)
+    (one s.0 bs rest t ts s.3 (ap (λ f. f.token) s.4)
+    (ap (λ f. drop f.size (s.0 ∷ bs)) s.4 ∙ drop-append_seam (s.0 ∷ s.1) rest) h)
+
 -- a quoted text
 lex_quoted : (raw rest : List ℕ) (ts : List Token) → Ends raw → Lexes rest ts
     → Lexes (in_marks raw rest) (word raw ∷ ts)
 lex_quoted raw rest ts ends h =
     let bs = raw ++ 34 ∷ rest in
     let size : suc (suc (length raw)) ≡ suc (length raw + 1) = omega arith in
+    let long = quoted_is 34 raw rest (inl refl) ends in
     one 34 bs rest (word raw) ts refl
-    (ap (λ o. (quoted_front bs o).token) (ends rest) ∙ ap word (take-append_seam raw (34 ∷ rest)))
-    (ap (λ o. drop (quoted_front bs o).size (34 ∷ bs)) (ends rest) ∙ ap (λ n. drop n (34 ∷ bs)) size
+    (ap (λ o. (quoted_front bs o).token) long ∙ ap word (take-append_seam raw (34 ∷ rest)))
+    (ap (λ o. drop (quoted_front bs o).size (34 ∷ bs)) long ∙ ap (λ n. drop n (34 ∷ bs)) size
     ∙ drop-append-add raw (34 ∷ rest) 1)
     h
 
 -- ---- bare words
 
--- a letter, a digit or one of `_ : . -`
-abbrev IsBare : ℕ → Type 0
-IsBare b = ((65 ≤ b) × (b ≤ 90)) ⊎ (((97 ≤ b) × (b ≤ 122))
-    ⊎ (((48 ≤ b) × (b ≤ 57)) ⊎ ((b ≡ 95) ⊎ ((b ≡ 58) ⊎ ((b ≡ 46) ⊎ (b ≡ 45))))))
-
--- the test of a range of bytes says that the byte is in it
-within : (a b c : ℕ) → (nat_le a b && nat_le b c) ≡ true → (a ≤ b) × (b ≤ c)
-within a b c e =
-    let h = and_parts (nat_le a b) (nat_le b c) e in
-    (leb-true a b h.0, leb-true b c h.1)
-
--- a byte that stands in a bare name is a letter, a digit or one of `_ : . -`
-bare_byte : (b : ℕ) → is_bare_byte b ≡ true → IsBare b
-bare_byte b e = last (or_cases _ _ e)
-  where
-    ranges : (((nat_le 65 b && nat_le b 90) || (nat_le 97 b && nat_le b 122)) ≡ true)
-        ⊎ ((nat_le 48 b && nat_le b 57) ≡ true) → IsBare b
-    ranges (inr h) = inr (inr (inl (within 48 b 57 h)))
-    ranges (inl h) = elim (or_cases _ _ h) [
-      | inl k ↦ inl (within 65 b 90 k)
-      | inr k ↦ inr (inl (within 97 b 122 k))
-    ]
-
-    fourth : (((nat_le 65 b && nat_le b 90) || (nat_le 97 b && nat_le b 122)
-        || (nat_le 48 b && nat_le b 57)) ≡ true) ⊎ ((b == 95) ≡ true) → IsBare b
-    fourth (inr h) = inr (inr (inr (inl (eqb-true b 95 h))))
-    fourth (inl h) = ranges (or_cases _ _ h)
-
-    third : (((nat_le 65 b && nat_le b 90) || (nat_le 97 b && nat_le b 122)
-        || (nat_le 48 b && nat_le b 57) || b == 95) ≡ true) ⊎ ((b == 58) ≡ true) → IsBare b
-    third (inr h) = inr (inr (inr (inr (inl (eqb-true b 58 h)))))
-    third (inl h) = fourth (or_cases _ _ h)
-
-    second : (((nat_le 65 b && nat_le b 90) || (nat_le 97 b && nat_le b 122)
-        || (nat_le 48 b && nat_le b 57) || b == 95 || b == 58) ≡ true)
-        ⊎ ((b == 46) ≡ true) → IsBare b
-    second (inr h) = inr (inr (inr (inr (inr (inl (eqb-true b 46 h))))))
-    second (inl h) = third (or_cases _ _ h)
-
-    last : (((nat_le 65 b && nat_le b 90) || (nat_le 97 b && nat_le b 122)
-        || (nat_le 48 b && nat_le b 57) || b == 95 || b == 58 || b == 46) ≡ true)
-        ⊎ ((b == 45) ≡ true) → IsBare b
-    last (inr h) = inr (inr (inr (inr (inr (inr (eqb-true b 45 h))))))
-    last (inl h) = second (or_cases _ _ h)
-
 -- no byte of a bare name is `\`
 pub no_backslash : (b : ℕ) → is_bare_byte b ≡ true → (b == 92) ≡ false
-no_backslash b e = let h = bare_byte b e in ne_eqb b 92 (λ x. omega arith)
-
--- no byte of a bare name is white space
-space_no : (b : ℕ) → IsBare b → is_space b ≡ false
-space_no b h = or_from _ _
-    (or_from _ _ (or_from _ _ (ne_eqb b 32 (λ e. omega arith)) (ne_eqb b 9 (λ e. omega arith)))
-    (ne_eqb b 10 (λ e. omega arith))) (ne_eqb b 13 (λ e. omega arith))
-
--- no byte of a bare name begins a symbol
-symbol_no : (b : ℕ) → IsBare b → is_symbol b ≡ false
-symbol_no b h = or_from _ _ (or_from _ _ (or_from _ _ (or_from _ _ (or_from _ _
-    (or_from _ _ (or_from _ _ (ne_eqb b 40 (λ e. omega arith)) (ne_eqb b 41 (λ e. omega arith)))
-    (ne_eqb b 33 (λ e. omega arith))) (ne_eqb b 61 (λ e. omega arith)))
-    (ne_eqb b 60 (λ e. omega arith))) (ne_eqb b 62 (λ e. omega arith)))
-    (ne_eqb b 38 (λ e. omega arith))) (ne_eqb b 124 (λ e. omega arith))
-
--- no byte of a bare name is a quotation mark
-mark_no : (b : ℕ) → IsBare b → (b == 34 || b == 39) ≡ false
-mark_no b h = or_from _ _ (ne_eqb b 34 (λ e. omega arith)) (ne_eqb b 39 (λ e. omega arith))
+no_backslash b e = not_that is_bare_byte 92 b refl e
 
 -- no byte of a bare name ends a word
-ends_no : (b : ℕ) → IsBare b → ends_word b ≡ false
-ends_no b h = or_from _ _ (or_from _ _
-    (or_from _ _ (or_from _ _ (or_from _ _ (or_from _ _ (or_from _ _ (or_from _ _ (or_from _ _
-    (or_from _ _ (space_no b h) (ne_eqb b 40 (λ e. omega arith))) (ne_eqb b 41 (λ e. omega arith)))
-    (ne_eqb b 33 (λ e. omega arith))) (ne_eqb b 38 (λ e. omega arith))) (ne_eqb b 124
-    (λ e. omega arith))) (ne_eqb b 61 (λ e. omega arith))) (ne_eqb b 60 (λ e. omega arith)))
-    (ne_eqb b 62 (λ e. omega arith))) (ne_eqb b 34 (λ e. omega arith)))
-    (ne_eqb b 39 (λ e. omega arith))
+ends_no : (b : ℕ) → is_bare_byte b ≡ true → ends_word b ≡ false
+ends_no b e =
+    let no = λ (c : ℕ) (f : is_bare_byte c ≡ false). not_that is_bare_byte c b f e in
+    rw (
+      no 32 refl,
+      no 9 refl,
+      no 10 refl,
+      no 13 refl,
+      no 40 refl,
+      no 41 refl,
+      no 33 refl,
+      no 38 refl,
+      no 124 refl,
+      no 61 refl,
+      no 60 refl,
+      no 62 refl,
+      no 34 refl,
+      no 39 refl,
+    )
 
--- a byte that ends a bare word stands behind it
-abbrev Stopped : List ℕ → Type 0
-Stopped rest =
-    (c : ℕ) × (others : List ℕ) × (rest ≡ c ∷ others) × ((c == 92) ≡ false) × (ends_word c ≡ true)
-
--- no word begins where a byte that ends words stands
-word_stops : (rest : List ℕ) → Stopped rest → word_bytes false rest ≡ 0
-word_stops rest h =
-    ap (word_bytes false) h.2
-    ∙ ap
-    (λ t. cond t (word_bytes true h.1) (cond (ends_word h.0) 0 (suc (word_bytes false h.1)))) h.3
-    ∙ ap (λ t. cond t 0 (suc (word_bytes false h.1))) h.4
-
--- a bare name is a whole word: it has as many bytes as the name
-bare_length : (name rest : List ℕ) → list_all is_bare_byte name ≡ true → Stopped rest
-    → word_bytes false (name ++ rest) ≡ length name
-bare_length [] rest e h = word_stops rest h
-bare_length (b ∷ bs) rest e h =
+-- a bare name is signs none of which ends a word
+bare_signs : (name : List ℕ) → list_all is_bare_byte name ≡ true → AreSigns ends_word name
+bare_signs [] e = ([], refl, tt)
+bare_signs (b ∷ bs) e =
     let all = and_parts (is_bare_byte b) (list_all is_bare_byte bs) e in
-    ap (λ t. cond t (word_bytes true (bs ++ rest))
-    (cond (ends_word b) 0 (suc (word_bytes false (bs ++ rest))))) (no_backslash b all.0)
-    ∙ ap (λ t. cond t 0 (suc (word_bytes false (bs ++ rest)))) (ends_no b (bare_byte b all.0))
-    ∙ ap (λ n. suc n) (bare_length bs rest all.1 h)
-
--- a word of this many bytes at the front of a text
-abbrev word_front_of : List ℕ → ℕ → Front
-word_front_of l n = record { token = word (take n l); size = n; inside = 0 }
-
--- a text that begins with a bare name has that word at its front
-front_bare : (b : ℕ) (bs rest : List ℕ) → list_all is_bare_byte (b ∷ bs) ≡ true → Stopped rest
-    → front b (bs ++ rest) ≡ word_front_of (b ∷ bs ++ rest) (suc (length bs))
-front_bare b bs rest e h =
-    let all = and_parts (is_bare_byte b) (list_all is_bare_byte bs) e in
-    let l = b ∷ bs ++ rest in
-    let n = word_bytes false l in
-    ap (λ t. cond t (symbol_front b (bs ++ rest)) (cond (b == 34 || b == 39)
-    (quoted_front (bs ++ rest) (quoted_bytes b false (bs ++ rest))) (word_front l n)))
-    (symbol_no b (bare_byte b all.0))
-    ∙ ap
-    (λ t. cond t (quoted_front (bs ++ rest) (quoted_bytes b false (bs ++ rest))) (word_front l n))
-    (mark_no b (bare_byte b all.0))
-    ∙ ap (word_front l) (bare_length (b ∷ bs) rest e h)
-    ∙ ap (λ t. cond t (fixed cut (length l)) (word_front_of l (suc (length bs))))
-    (eqb-suc-zero (length bs))
-
--- a text that begins with a bare word has that word, and then the tokens of the rest
-lex_bare : (b : ℕ) (bs rest : List ℕ) (ts : List Token) → list_all is_bare_byte (b ∷ bs) ≡ true
-    → Stopped rest → Lexes rest ts → Lexes (b ∷ bs ++ rest) (word (b ∷ bs) ∷ ts)
-lex_bare b bs rest ts e h k =
-    let all = and_parts (is_bare_byte b) (list_all is_bare_byte bs) e in
-    let f = front_bare b bs rest e h in
-    one b (bs ++ rest) rest (word (b ∷ bs)) ts (space_no b (bare_byte b all.0))
-    (ap (λ x. x.token) f ∙ ap word (take-append_seam (b ∷ bs) rest))
-    (ap (λ x. drop x.size (b ∷ bs ++ rest)) f ∙ drop-append_seam (b ∷ bs) rest)
-    k
-
--- an attribute's name is not empty
-no_empty_name : {X : Type 0} → is_attr_name [] ≡ true → X
-no_empty_name e = cc
-
--- the name of an attribute, written bare, is one word
-bare_attr : (name rest : List ℕ) (ts : List Token)
-    → is_attr_name name ≡ true → list_all is_bare_byte name ≡ true → Stopped rest → Lexes rest ts
-    → Lexes (name ++ rest) (word name ∷ ts)
-bare_attr [] rest ts named e h k = no_empty_name named
-bare_attr (b ∷ bs) rest ts named e h k = lex_bare b bs rest ts e h k
+    let k = bare_signs bs all.1 in
+    (plain b ∷ k.0, ap (λ l. b ∷ l) k.1, ((no_backslash b all.0, ends_no b all.0), k.2))
 
 -- the name of an attribute, written bare or between marks, is one word
 attr_by : (name rest : List ℕ) (ts : List Token) (t : Bool) → is_attr_name name ≡ true
-    → list_all is_bare_byte name ≡ t → Stopped rest → Lexes rest ts
+    → list_all is_bare_byte name ≡ t → EndsWord rest → Lexes rest ts
     → Lexes (if t then name ++ rest else in_marks (quoted name) rest)
     (word (if t then name else quoted name) ∷ ts)
-attr_by name rest ts true named e h k = bare_attr name rest ts named e h k
+attr_by name rest ts true named e h k =
+    let some : name ≡ [] → ⊥ = λ none. false≢true (sym (ap is_attr_name none) ∙ named) in
+    lex_by (word name) 0 name rest ts
+    (unquoted_starts (word name) name rest (refl, (bare_signs name e, some, h))) k
 attr_by name rest ts false named e h k = lex_quoted (quoted name) rest ts (quoted_ends name) k
 
 -- ---- operators and literals
 
 -- a word before an operator ends there
-op_stops : (o : Op) (rest : List ℕ) → Stopped (op_text o ++ rest)
-op_stops Eq rest = (61, 61 ∷ rest, refl, refl, refl)
-op_stops Ne rest = (33, 61 ∷ rest, refl, refl, refl)
-op_stops Lt rest = (60, rest, refl, refl, refl)
-op_stops Le rest = (60, 61 ∷ rest, refl, refl, refl)
-op_stops Gt rest = (62, rest, refl, refl, refl)
-op_stops Ge rest = (62, 61 ∷ rest, refl, refl, refl)
+op_stops : (o : Op) (rest : List ℕ) → EndsWord (op_text o ++ rest)
+op_stops Eq rest = inr (inr (61, 61 ∷ rest, refl, refl))
+op_stops Ne rest = inr (inr (33, 61 ∷ rest, refl, refl))
+op_stops Lt rest = inr (inr (60, rest, refl, refl))
+op_stops Le rest = inr (inr (60, 61 ∷ rest, refl, refl))
+op_stops Gt rest = inr (inr (62, rest, refl, refl))
+op_stops Ge rest = inr (inr (62, 61 ∷ rest, refl, refl))
 
 -- the text of an operator before a quotation mark is that operator's token
 lex_op : (o : Op) (rest : List ℕ) (ts : List Token) → Lexes (34 ∷ rest) ts
@@ -275,11 +176,8 @@ begins_no (Or qs) rest = refl
 lex_bang : (q : Query) (rest : List ℕ) (ts : List Token) → Lexes (written q rest) ts
     → Lexes (33 ∷ written q rest) (bang ∷ ts)
 lex_bang q rest ts h =
-    one 33 (written q rest) (written q rest) bang ts refl
-    (ap (λ t. (cond t (fixed (op Ne) 2) (fixed bang 1)).token) (begins_no q rest))
-    (ap (λ t. drop (cond t (fixed (op Ne) 2) (fixed bang 1)).size (33 ∷ written q rest))
-    (begins_no q rest))
-    h
+    one 33 (written q rest) (written q rest) bang ts refl (rw (begins_no q rest))
+    (rw (begins_no q rest)) h
 
 -- a separator in bytes, and as a token
 abbrev Separates : List ℕ → Token → Type 0
@@ -298,7 +196,7 @@ ors_separate rest ts h = one 124 (124 ∷ rest) rest ors ts refl refl refl h
 in_parens : (inner rest : List ℕ) (ts us : List Token) → Lexes inner (ts ++ closes ∷ us)
     → Lexes (40 ∷ inner) ((opens ∷ (ts ++ closes ∷ [])) ++ us)
 in_parens inner rest ts us h =
-    subst (λ l. Lexes (40 ∷ inner) (opens ∷ l)) (sym (append_assoc ts (closes ∷ []) us))
+    rw (append_assoc ts (closes ∷ []) us)
     (one 40 inner inner opens (ts ++ closes ∷ us) refl refl refl h)
 
 -- `)` is a token of its own
@@ -332,8 +230,7 @@ mutual
       → Lexes (parts_written bytes qs rest) (parts_said t qs ++ ts)
   lexes_parts bytes t s no_more rest ts h k = k
   lexes_parts bytes t s (and_then q qs) rest ts h k =
-      subst (Lexes (written q (others_written bytes qs rest)))
-      (sym (append_assoc (said q) (others_said t qs) ts))
+      rw (append_assoc (said q) (others_said t qs) ts)
       (lexes_written q (others_written bytes qs rest) (others_said t qs ++ ts) h.0
       (lexes_others bytes t s qs rest ts h.1 k))
 
@@ -343,8 +240,7 @@ mutual
       → Lexes (others_written bytes qs rest) (others_said t qs ++ ts)
   lexes_others bytes t s no_more rest ts h k = k
   lexes_others bytes t s (and_then q qs) rest ts h k =
-      subst (λ l. Lexes (bytes ++ written q (others_written bytes qs rest)) (t ∷ l))
-      (sym (append_assoc (said q) (others_said t qs) ts))
+      rw (append_assoc (said q) (others_said t qs) ts)
       (s (written q (others_written bytes qs rest)) (said q ++ (others_said t qs ++ ts))
       (lexes_written q (others_written bytes qs rest) (others_said t qs ++ ts) h.0
       (lexes_others bytes t s qs rest ts h.1 k)))

@@ -62,7 +62,7 @@ record IsText (cs : List ℕ) : Type 0 where
 
 -- the empty text is one that ends at its mark
 none_text : IsText []
-none_text = record { scalar = refl; ends = λ rest. refl }
+none_text = record { scalar = refl; ends = ([], refl, tt) }
 
 -- if both tests are true, so is their 'and'
 both : (x y : Bool) → x ≡ true → y ≡ true → (x && y) ≡ true
