@@ -1,5 +1,5 @@
 -- One character more, and one byte more, of a text whose `\` are taken off.
-use Rattle.std.proofs.Common.{◌≡◌, ◌≤◌, ◌<◌, length, drop, get_or, ◌+◌, ℕ, Bool, true, false, cond, List, [], ◌∷◌, ◌++◌, refl, sym, ap, ◌∙◌, arith, append_assoc, eq-eqb}
+use Rattle.std.proofs.Common.{◌≡◌, ◌≤◌, ◌<◌, length, drop, get_or, ◌+◌, ℕ, Bool, true, false, List, [], ◌∷◌, ◌++◌, refl, sym, ap, ◌∙◌, arith, append_assoc, eq-eqb}
 use Rattle.std.proofs.lemmas.Bool.{ne_eqb}
 use Rattle.std.proofs.lemmas.Str.{encode_ascii}
 use Rattle.std.proofs.Math.Dec.{lit<}
@@ -14,7 +14,7 @@ use Rattle.std.proofs.lemmas.List.{drop_all}
 
 -- a byte that is no `\` stays, and what follows is unescaped
 one_plain : (b : ℕ) (bs : List ℕ) → (b ≡ 92 → ⊥) → unescaped false (b ∷ bs) ≡ b ∷ unescaped false bs
-one_plain b bs h = ap (λ t. cond t (unescaped true bs) (b ∷ unescaped false bs)) (ne_eqb b 92 h)
+one_plain b bs h = rw (ne_eqb b 92 h)
 
 -- bytes of 128 or more stay, and what follows is unescaped
 all_plain : (bs rest : List ℕ) → AreHigh bs
@@ -54,30 +54,22 @@ one_more done bs whole c all tail e f g =
 
 -- ---- by bytes
 
--- one byte more of an unescaped text, by whether it is `\`
-step_by : (bs : List ℕ) (n : ℕ) → n < length bs → (e : Bool) → (get_or bs n 0 == 92) ≡ e
-    → unescaped false (drop n bs)
-    ≡ cond e (unescaped true (drop (n + 1) bs)) (get_or bs n 0 ∷ unescaped false (drop (n + 1) bs))
-step_by bs n h e f = ap (unescaped false) (at_byte bs n h) ∙ ap (λ t.
-    cond t (unescaped true (drop (n + 1) bs)) (get_or bs n 0 ∷ unescaped false (drop (n + 1) bs))) f
-
 -- a byte that is no `\`
 pub plain_byte : (bs : List ℕ) (n : ℕ) → n < length bs → (get_or bs n 0 == 92) ≡ false
     → unescaped false (drop n bs) ≡ get_or bs n 0 ∷ unescaped false (drop (n + 1) bs)
-plain_byte bs n h e = step_by bs n h false e
+plain_byte bs n h e = rw (at_byte bs n h, e)
 
 -- a `\` and the byte behind it
 pub escaped_byte : (bs : List ℕ) (n : ℕ) → n + 1 < length bs → (get_or bs n 0 == 92) ≡ true
     → unescaped false (drop n bs) ≡ get_or bs (n + 1) 0 ∷ unescaped false (drop (n + 2) bs)
 escaped_byte bs n h e =
     let two : n + 1 + 1 ≡ n + 2 = omega arith in
-    step_by bs n (omega arith) true e ∙ ap (unescaped true) (at_byte bs (n + 1) h)
-    ∙ ap (λ i. get_or bs (n + 1) 0 ∷ unescaped false (drop i bs)) two
+    rw (at_byte bs n (omega arith), e, at_byte bs (n + 1) h, two)
 
 -- a last `\`
 pub last_byte : (bs : List ℕ) (n : ℕ) → n < length bs → length bs ≤ n + 1
     → (get_or bs n 0 == 92) ≡ true → unescaped false (drop n bs) ≡ []
-last_byte bs n h k e = step_by bs n h true e ∙ ap (unescaped true) (drop_all (n + 1) bs k)
+last_byte bs n h k e = rw (at_byte bs n h, e, drop_all (n + 1) bs k)
 
 -- what is counted so far, and what is left
 pub record Counted (bs : List ℕ) (n count : ℕ) : Type 0 where
@@ -86,37 +78,28 @@ pub record Counted (bs : List ℕ) (n count : ℕ) : Type 0 where
   pub small : count ≤ n
   pub clean : has_no_nul (unescaped false (drop n bs)) ≡ has_no_nul (unescaped false bs)
 
--- a byte that isn't NUL stands before others
-clear_before : (b : ℕ) (bs : List ℕ) → (b ≡ 0 → ⊥) → has_no_nul (b ∷ bs) ≡ has_no_nul bs
-clear_before b bs h = rw (ne_eqb b 0 h) refl
-
--- and a NUL does
-nul_before : (b : ℕ) (bs : List ℕ) → b ≡ 0 → has_no_nul (b ∷ bs) ≡ false
-nul_before b bs e = rw e refl
+-- a byte that isn't NUL is counted, for so many bytes of the text
+counted_on : (bs : List ℕ) (n count b k : ℕ) → Counted bs n count → 1 ≤ k → n + k ≤ length bs
+    → unescaped false (drop n bs) ≡ b ∷ unescaped false (drop (n + k) bs) → (b ≡ 0 → ⊥)
+    → Counted bs (n + k) (count + 1)
+counted_on bs n count b k s some bound e z = record {
+  bound = bound;
+  size = omega (arith, ap length e, s.size);
+  small = omega (arith, s.small);
+  clean = sym (ap has_no_nul e ∙ rw (ne_eqb b 0 z)) ∙ s.clean;
+}
 
 -- a byte that is no `\` is counted
 pub counted_plain : (bs : List ℕ) (n count : ℕ) → Counted bs n count → n < length bs
     → (get_or bs n 0 ≡ 92 → ⊥) → (get_or bs n 0 ≡ 0 → ⊥) → Counted bs (n + 1) (count + 1)
-counted_plain bs n count s h p z =
-    let e = plain_byte bs n h (ne_eqb _ 92 p) in record {
-      bound = omega arith;
-      size = omega (arith, ap length e, s.size);
-      small = omega (arith, s.small);
-      clean = sym (clear_before (get_or bs n 0) (unescaped false (drop (n + 1) bs)) z)
-          ∙ sym (ap has_no_nul e) ∙ s.clean;
-    }
+counted_plain bs n count s h p z = counted_on bs n count (get_or bs n 0) 1 s (omega arith)
+    (omega arith) (plain_byte bs n h (ne_eqb _ 92 p)) z
 
 -- a `\` and the byte behind it are counted as one
 pub counted_escaped : (bs : List ℕ) (n count : ℕ) → Counted bs n count → n + 1 < length bs
     → get_or bs n 0 ≡ 92 → (get_or bs (n + 1) 0 ≡ 0 → ⊥) → Counted bs (n + 2) (count + 1)
-counted_escaped bs n count s h p z =
-    let e = escaped_byte bs n h (eq-eqb _ 92 p) in record {
-      bound = omega arith;
-      size = omega (arith, ap length e, s.size);
-      small = omega (arith, s.small);
-      clean = sym (clear_before (get_or bs (n + 1) 0) (unescaped false (drop (n + 2) bs)) z)
-          ∙ sym (ap has_no_nul e) ∙ s.clean;
-    }
+counted_escaped bs n count s h p z = counted_on bs n count (get_or bs (n + 1) 0) 2 s
+    (omega arith) (omega arith) (escaped_byte bs n h (eq-eqb _ 92 p)) z
 
 -- where nothing is left, the count is whole
 pub counted_size : (bs : List ℕ) (n count : ℕ) → Counted bs n count
@@ -131,7 +114,7 @@ counted_clear bs n count s e = sym s.clean ∙ ap has_no_nul e
 -- where a NUL is next, one byte is NUL
 pub counted_nul : (bs : List ℕ) (n count b : ℕ) (rest : List ℕ) → Counted bs n count
     → unescaped false (drop n bs) ≡ b ∷ rest → b ≡ 0 → has_no_nul (unescaped false bs) ≡ false
-counted_nul bs n count b rest s e z = sym s.clean ∙ ap has_no_nul e ∙ nul_before b rest z
+counted_nul bs n count b rest s e z = sym s.clean ∙ ap has_no_nul e ∙ rw z
 
 -- nothing is left at the end
 pub none_left : (bs : List ℕ) (n : ℕ) → length bs ≤ n → unescaped false (drop n bs) ≡ []

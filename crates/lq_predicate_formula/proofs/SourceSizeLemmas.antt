@@ -1,6 +1,7 @@
 -- The size of a pattern while its source is read, a piece at a time.
 use Rattle.std.proofs.Common.{◌≡◌, ◌≤◌, ◌+◌, ◌-◌, ◌^◌, ℕ, List, [], ◌∷◌, ◌++◌, length, refl, sym, ap, ◌∙◌, arith, Bool, true, false, Option, Some, None, Bor}
 use Rattle.std.specs.Prelude.{Result, Ok, Err, if◌then◌else◌, encode_utf8}
+use Rattle.std.proofs.lemmas.Option.{none-some, some_pair_parts}
 use Rattle.std.proofs.lemmas.Str.{encode_ascii}
 use Rattle.std.proofs.Math.Dec.{lit<}
 use Rattle.std.specs.Str.{encode_utf8_all, IsUtf8}
@@ -78,31 +79,13 @@ pub record Items (r : Pieces Item) (size : ℕ) (rest : Signs) : Type 0 where
   pub are : r ≡ whole items rest
   pub size_is : size ≡ capped (items_bytes items)
 
--- the size that was counted, or this one
-abbrev first_or : ℕ → Option (ℕ × Signs) → ℕ
-first_or n None = n
-first_or n (Some p) = p.0
-
--- the signs that are left, or these
-abbrev second_or : Signs → Option (ℕ × Signs) → Signs
-second_or ss None = ss
-second_or ss (Some p) = p.1
-
 -- a size that was counted over a set's items is that of whole items
 items_whole : (r : Pieces Item) (size : ℕ) (rest : Signs) → items_sized 0 r ≡ Some (size, rest)
     → Items r size rest
-items_whole (whole is behind) size rest e = record {
-  items = is;
-  are = ap (λ o. whole is (second_or rest o)) e;
-  size_is = let same = ap (first_or 0) e in omega (arith, same);
-}
-items_whole (stuck behind) size rest e = absurd (let no : ⊥ = cc in no)
-
--- items that are not whole make no set
-items_none : (r : Pieces Item) (negated : Bool) → items_sized 0 r ≡ None
-    → set_with negated r ≡ faulty
-items_none (whole is rest) negated e = absurd (let no : ⊥ = cc in no)
-items_none (stuck rest) negated e = refl
+items_whole (whole is behind) size rest e =
+    let same = some_pair_parts (capped (0 + items_bytes is)) size behind rest e in
+    record { items = is; are = ap (whole is) same.1; size_is = omega (arith, same.0) }
+items_whole (stuck behind) size rest e = absurd (none-some (size, rest) e)
 
 -- nothing stands between the `[` and its `]`
 pub set_empty : SourcesAreWalked → (ss rest : Signs) (negated : Bool) → item_at ss ≡ ends rest
@@ -110,9 +93,10 @@ pub set_empty : SourcesAreWalked → (ss rest : Signs) (negated : Bool) → item
 set_empty law ss rest negated e = ap (set_with negated) (step_by law.items ss (ends rest) e)
 
 -- a set whose items are not whole is bad
-pub set_stuck : (ss : Signs) (negated : Bool) → items_sized 0 (pieces_of item_at ss) ≡ None
-    → set_with negated (pieces_of item_at ss) ≡ faulty
-set_stuck ss negated e = items_none (pieces_of item_at ss) negated e
+pub set_stuck : (r : Pieces Item) (negated : Bool) → items_sized 0 r ≡ None
+    → set_with negated r ≡ faulty
+set_stuck (whole is rest) negated e = absurd (none-some _ (sym e))
+set_stuck (stuck rest) negated e = refl
 
 -- a set that has begun with an item is not empty
 begun_some : (i : Item) (r : Pieces Item) (rest : Signs) → begin i r ≡ whole [] rest → ⊥

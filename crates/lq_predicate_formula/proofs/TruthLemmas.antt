@@ -1,10 +1,11 @@
 -- The truth of a predicate goes by what a row shows under its names.
-use Rattle.std.proofs.Common.{◌≡◌, ℕ, List, [], ◌∷◌, ◌++◌, refl, ap, ap₂, sym, Bool, true, false}
-use Rattle.std.specs.Prelude.{not, ◌&&◌, ◌||◌, if◌then◌else◌}
+use Rattle.std.proofs.Common.{◌≡◌, ℕ, List, [], ◌∷◌, ◌++◌, refl, ap, ap₂, sym, ◌∙◌, inl, inr, Bool, true}
+use Rattle.std.specs.Prelude.{not, ◌&&◌, ◌||◌}
 use Rattle.std.specs.List.{list_any, AllByRecursion}
 use Rattle.std.specs.Str.{bytes_eq}
 use Rattle.std.proofs.lemmas.Slice.Eq.{bytes_eq-Decides}
-use Rattle.std.proofs.lemmas.Bool.{or_right}
+use Rattle.std.proofs.lemmas.Bool.{cond_both, false≢true, or_cases, or_left, or_right}
+use Rattle.std.proofs.lemmas.List.Folds.{list_any-append}
 use Rattle.lq_predicate_formula.specs.Query.{Query, Compare, Not, And, Or, Queries, no_more, and_then}
 use Rattle.lq_predicate_formula.specs.Names.{attributes, all_attributes, is_among, with_name, each_once, names_of}
 use Rattle.lq_predicate_formula.specs.Truth.{Look, compares_if_present, truth, all_true, some_true}
@@ -46,56 +47,33 @@ has names name = list_any (bytes_eq name) names
 -- a name among some is among them and more
 among-front : (name : List ℕ) (xs ys : List (List ℕ)) → has xs name ≡ true
     → has (xs ++ ys) name ≡ true
-among-front name [] ys h = absurd (let bad : ⊥ = cc in bad)
-among-front name (x ∷ xs) ys h = by (bytes_eq name x) h (λ more. among-front name xs ys more)
-  where
-    by : (b : Bool) → (b || has xs name) ≡ true → (has xs name ≡ true → has (xs ++ ys) name ≡ true)
-        → (b || has (xs ++ ys) name) ≡ true
-    by true h more = refl
-    by false h more = more h
-
--- a name is equal to itself
-same-among : (name : List ℕ) → bytes_eq name name ≡ true
-same-among name = (bytes_eq-Decides name name).1 refl
+among-front name xs ys h = list_any-append (bytes_eq name) xs ys ∙ or_left _ _ h
 
 -- a name at the end of some is among them
 among-back : (name : List ℕ) (xs : List (List ℕ)) → has (xs ++ name ∷ []) name ≡ true
-among-back name [] = let e = same-among name in rw e refl
-among-back name (x ∷ xs) =
-    or_right (bytes_eq name x) (has (xs ++ name ∷ []) name) (among-back name xs)
+among-back name xs = list_any-append (bytes_eq name) xs (name ∷ [])
+    ∙ or_right (has xs name) _ (or_left _ _ ((bytes_eq-Decides name name).1 refl))
 
--- the definition of names compares the other way round
-turned : (a b : List ℕ) → bytes_eq a b ≡ true → bytes_eq b a ≡ true
-turned a b h =
-    let same : a ≡ b = (bytes_eq-Decides a b).0 h in
-    (bytes_eq-Decides b a).1 (sym same)
-
--- a name that is found among some is among them
+-- a name that is found among some, by the test turned round, is among them
 among-turned : (name : List ℕ) (xs : List (List ℕ)) → is_among xs name ≡ true → has xs name ≡ true
-among-turned name [] h = absurd (let bad : ⊥ = cc in bad)
-among-turned name (x ∷ xs) h = by (bytes_eq x name) refl h (λ more. among-turned name xs more)
-  where
-    by : (b : Bool) → bytes_eq x name ≡ b → (b || is_among xs name) ≡ true
-        → (is_among xs name ≡ true → has xs name ≡ true) → (bytes_eq name x || has xs name) ≡ true
-    by true is h more = let here = turned x name is in rw here refl
-    by false is h more = or_right (bytes_eq name x) (has xs name) (more h)
+among-turned name [] h = absurd (false≢true h)
+among-turned name (x ∷ xs) h = elim (or_cases (bytes_eq x name) (is_among xs name) h) [
+  | inl here ↦
+      let same = (bytes_eq-Decides x name).0 here in
+      or_left _ _ ((bytes_eq-Decides name x).1 (sym same))
+  | inr more ↦ or_right (bytes_eq name x) _ (among-turned name xs more)
+]
 
 -- a name that is added is there
 with-has : (xs : List (List ℕ)) (name : List ℕ) → has (with_name xs name) name ≡ true
-with-has xs name = by (is_among xs name) refl
-  where
-    by : (b : Bool) → is_among xs name ≡ b → has (if b then xs else xs ++ name ∷ []) name ≡ true
-    by true is = among-turned name xs is
-    by false is = among-back name xs
+with-has xs name = cond_both (is_among xs name) xs (xs ++ name ∷ []) (λ l. has l name ≡ true)
+    (among-turned name xs) (λ no. among-back name xs)
 
 -- a name that is there stays where another is added
 with-keeps : (xs : List (List ℕ)) (one name : List ℕ) → has xs name ≡ true
     → has (with_name xs one) name ≡ true
-with-keeps xs one name h = by (is_among xs one)
-  where
-    by : (b : Bool) → has (if b then xs else xs ++ one ∷ []) name ≡ true
-    by true = h
-    by false = among-front name xs (one ∷ []) h
+with-keeps xs one name h = cond_both (is_among xs one) xs (xs ++ one ∷ []) (λ l. has l name ≡ true)
+    (λ yes. h) (λ no. among-front name xs (one ∷ []) h)
 
 -- a name that is there stays where others are added, each once
 each-keeps : (xs uses : List (List ℕ)) (name : List ℕ) → has xs name ≡ true
