@@ -1,8 +1,9 @@
 -- A predicate that needs an attribute is false of a row without attributes.
 use Rattle.std.proofs.Common.{◌≡◌, ℕ, List, refl, ap, Bool, true, false}
 use Rattle.std.specs.Prelude.{◌&&◌, ◌||◌, None}
+use Rattle.std.proofs.lemmas.Bool.{false≢true}
 use Rattle.lq_value.specs.declared.field.Field.{Field}
-use Rattle.lq_value.specs.declared.field.Field.TheVariants.{Name, Size, LastModified, Attribute}
+use Rattle.lq_value.specs.declared.field.Field.TheVariants.{Attribute}
 use Rattle.lq_value.specs.Field.{field_of}
 use Rattle.lq_predicate_formula.specs.Query.{Query, Compare, Not, And, Or, Queries, no_more, and_then}
 use Rattle.lq_predicate_formula.specs.Needs.{is_attribute, needs_attribute, some_need, all_need}
@@ -11,10 +12,8 @@ use Rattle.lq_predicate_formula.specs.Laws.{BareRowsFail}
 
 -- a field that is an attribute
 only-attribute : (f : Field) → is_attribute f ≡ true → f ≡ Attribute
-only-attribute Name h = cc
-only-attribute Size h = cc
-only-attribute LastModified h = cc
 only-attribute Attribute h = refl
+only-attribute f h = absurd (false≢true h)
 
 -- a conjunction is false where one side is, if it needs an attribute, or else the other side
 first-or-rest : (n m t u : Bool) → (n || m) ≡ true → (n ≡ true → t ≡ false)

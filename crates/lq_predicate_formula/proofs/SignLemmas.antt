@@ -1,11 +1,11 @@
 -- What the lexer finds in a text is what its tokens are by their signs, and nothing else is.
-use Rattle.std.proofs.Common.{◌≡◌, ◌⊎◌, ◌<◌, ◌≤◌, ◌+◌, ℕ, zero, suc, Bool, true, false, cond, List, [], ◌∷◌, ◌++◌, length, get_or, take, drop, Option, Some, None, refl, sym, ap, ap₂, ◌∙◌, subst, arith, inl, inr, eq-eqb}
+use Rattle.std.proofs.Common.{◌≡◌, ◌⊎◌, ◌<◌, ◌≤◌, ◌+◌, ℕ, zero, suc, Bool, true, false, List, [], ◌∷◌, ◌++◌, length, get_or, take, drop, Option, Some, None, refl, sym, ap, ap₂, ◌∙◌, subst, arith, inl, inr, eq-eqb}
 use Rattle.std.specs.Prelude.{◌==◌, ◌||◌, ◌&&◌, option_map}
 use Rattle.std.specs.List.{list_all}
 use Rattle.std.proofs.Math.Dec.{eqb-suc-zero}
 use Rattle.std.proofs.Math.Seq.{take-append_seam, drop-append_seam}
 use Rattle.std.proofs.lemmas.Bool.{and_parts, cond_both, eqb-true, false≢true, ne_eqb, or_cases, or_parts, true≢false}
-use Rattle.std.proofs.lemmas.List.{append_assoc, append-nil, length-append, length-take-le, take-append-drop, take_all, drop_all}
+use Rattle.std.proofs.lemmas.List.{append_assoc, append-nil, length-append, length-take-le, take-append-drop}
 use Rattle.lq_value.specs.declared.op.Op.{Op}
 use Rattle.lq_value.specs.declared.op.Op.TheVariants.{Eq, Ne, Lt, Le, Gt, Ge}
 use Rattle.lq_predicate_formula.specs.Bytes.{ends_word, is_space}
@@ -81,9 +81,9 @@ is_not_next c rest h bs e =
     true≢false (sym (eq-eqb c c refl) ∙ sym (ap (begins_with c) e) ∙ h)
 
 -- where the lexer sees it, it is next
-is_next : (c : ℕ) (rest : List ℕ) → begins_with c rest ≡ true → take 1 rest ≡ c ∷ []
+is_next : (c : ℕ) (rest : List ℕ) → begins_with c rest ≡ true → (cs : List ℕ) × (rest ≡ c ∷ cs)
 is_next c [] h = absurd (false≢true h)
-is_next c (b ∷ bs) h = ap (λ x. x ∷ []) (eqb-true b c h)
+is_next c (b ∷ bs) h = (bs, ap (λ x. x ∷ bs) (eqb-true b c h))
 
 -- ---- words: what the signs are, the lexer counts
 
@@ -432,50 +432,41 @@ quoted_splits m (b ∷ bs) =
       closed_escaped m b bs (quoted_bytes m false bs) more.0,
     )
 
--- the token of a front at the start of a text, by its signs
-abbrev Stands : ℕ → List ℕ → Front → Type 0
-Stands at l f = IsTokenAt at (take f.size l) (drop f.size l) (placed_at at f)
-    × (length (take f.size l) ≡ f.size)
-
--- a token whose raw text begins with it
-unquoted : (at : ℕ) (l : List ℕ) (t : Token) (n : ℕ) → length (take n l) ≡ n
-    → IsUnquoted t (take n l) (drop n l) → Stands at l (fixed t n)
-unquoted at l t n long u =
-    (record { place = refl; inside = 0; raw = refl; token = inl (refl, u) }, long)
+-- the text begins with the token of a front, by its signs
+abbrev pub Stands : List ℕ → Front → Type 0
+Stands l f = (part : List ℕ) × (rest : List ℕ) × (l ≡ part ++ rest) × (length part ≡ f.size)
+    × IsToken f.token f.inside part rest
 
 -- a symbol of two bytes, or of one
-longer_stands : (at b c d : ℕ) (bs : List ℕ) (t u : Token) → (b == c) ≡ true
-    → (take 2 (b ∷ bs) ≡ c ∷ d ∷ [] → IsUnquoted t (take 2 (b ∷ bs)) (drop 2 (b ∷ bs)))
-    → (b ∷ [] ≡ c ∷ [] → IsNotNext d bs → IsUnquoted u (b ∷ []) bs)
-    → Stands at (b ∷ bs) (longer d bs t u)
-longer_stands at b c d bs t u e two one =
+longer_stands : (b c d : ℕ) (bs : List ℕ) (t u : Token) → (b == c) ≡ true
+    → ((rest : List ℕ) → IsUnquoted t (c ∷ d ∷ []) rest)
+    → (IsNotNext d bs → IsUnquoted u (c ∷ []) bs) → Stands (b ∷ bs) (longer d bs t u)
+longer_stands b c d bs t u e two one =
     let first = eqb-true b c e in
-    cond_both (begins_with d bs) (fixed t 2) (fixed u 1) (Stands at (b ∷ bs))
-    (λ f. let next = is_next d bs f in
-    unquoted at (b ∷ bs) t 2 (ap (λ l. suc (length l)) next) (two (ap₂ (λ x l. x ∷ l) first next)))
-    (λ f. unquoted at (b ∷ bs) u 1 refl
-    (one (ap (λ x. x ∷ []) first) (is_not_next d bs f)))
+    cond_both (begins_with d bs) (fixed t 2) (fixed u 1) (Stands (b ∷ bs)) (λ f.
+    let next = is_next d bs f in
+    (c ∷ d ∷ [], next.0, ap₂ (λ x l. x ∷ l) first next.1, refl, inl (refl, two next.0))) (λ f.
+    (c ∷ [], bs, ap (λ x. x ∷ bs) first, refl, inl (refl, one (is_not_next d bs f))))
 
 -- a symbol
-symbol_stands : (at b : ℕ) (bs : List ℕ) → is_symbol b ≡ true
-    → Stands at (b ∷ bs) (symbol_front b bs)
-symbol_stands at b bs h =
-    let P = Stands at (b ∷ bs) in
-    let paren = λ (c : ℕ) (e : (b == c) ≡ true). ap (λ x. x ∷ []) (eqb-true b c e) in
-    cond_both (b == 40) _ _ P (λ e. unquoted at (b ∷ bs) opens 1 refl (paren 40 e)) (λ e0.
-    cond_both (b == 41) _ _ P (λ e. unquoted at (b ∷ bs) closes 1 refl (paren 41 e)) (λ e1.
+symbol_stands : (b : ℕ) (bs : List ℕ) → is_symbol b ≡ true → Stands (b ∷ bs) (symbol_front b bs)
+symbol_stands b bs h =
+    let P = Stands (b ∷ bs) in
+    let paren = λ (c : ℕ) (e : (b == c) ≡ true). ap (λ x. x ∷ bs) (eqb-true b c e) in
+    cond_both (b == 40) _ _ P (λ e. (40 ∷ [], bs, paren 40 e, refl, inl (refl, refl))) (λ e0.
+    cond_both (b == 41) _ _ P (λ e. (41 ∷ [], bs, paren 41 e, refl, inl (refl, refl))) (λ e1.
     cond_both (b == 33) _ _ P
-    (λ e. longer_stands at b 33 61 bs (op Ne) bang e (λ k. k) (λ k n. (k, n))) (λ e2.
+    (λ e. longer_stands b 33 61 bs (op Ne) bang e (λ r. refl) (λ n. (refl, n))) (λ e2.
     cond_both (b == 61) _ _ P
-    (λ e. longer_stands at b 61 61 bs (op Eq) (op Eq) e (λ k. inl k) (λ k n. inr (k, n))) (λ e3.
+    (λ e. longer_stands b 61 61 bs (op Eq) (op Eq) e (λ r. inl refl) (λ n. inr (refl, n))) (λ e3.
     cond_both (b == 60) _ _ P
-    (λ e. longer_stands at b 60 61 bs (op Le) (op Lt) e (λ k. k) (λ k n. (k, n))) (λ e4.
+    (λ e. longer_stands b 60 61 bs (op Le) (op Lt) e (λ r. refl) (λ n. (refl, n))) (λ e4.
     cond_both (b == 62) _ _ P
-    (λ e. longer_stands at b 62 61 bs (op Ge) (op Gt) e (λ k. k) (λ k n. (k, n))) (λ e5.
+    (λ e. longer_stands b 62 61 bs (op Ge) (op Gt) e (λ r. refl) (λ n. (refl, n))) (λ e5.
     cond_both (b == 38) _ _ P
-    (λ e. longer_stands at b 38 38 bs ands lone e (λ k. k) (λ k n. inl (k, n))) (λ e6.
-    longer_stands at b 124 124 bs ors lone (rw (e0, e1, e2, e3, e4, e5, e6) at h) (λ k. k)
-    (λ k n. inr (k, n)))))))))
+    (λ e. longer_stands b 38 38 bs ands lone e (λ r. refl) (λ n. inl (refl, n))) (λ e6.
+    longer_stands b 124 124 bs ors lone (rw (e0, e1, e2, e3, e4, e5, e6) at h) (λ r. refl)
+    (λ n. inr (refl, n)))))))))
 
 -- a mark is one of two
 mark_is : (b : ℕ) → (b == 34 || b == 39) ≡ true → IsQuote b
@@ -485,42 +476,25 @@ mark_is b e = elim (or_cases _ _ e) [
 ]
 
 -- a quoted text, with its end or without
-quoted_stands_by : (at m : ℕ) (bs : List ℕ) (o : Option ℕ) → IsQuote m → Closed m o bs
-    → Stands at (m ∷ bs) (quoted_front bs o)
-quoted_stands_by at m bs None mark c =
-    unquoted at (m ∷ bs) cut (suc (length bs))
-    (ap (λ l. suc (length l)) (take_all (length bs) bs (omega arith))) (
-      drop_all (length bs) bs (omega arith),
-      inr (m, bs, mark, c, ap (λ l. m ∷ l) (take_all (length bs) bs (omega arith))),
-    )
-quoted_stands_by at m bs (Some n) mark c =
+quoted_stands : (m : ℕ) (bs : List ℕ) (o : Option ℕ) → IsQuote m → Closed m o bs
+    → Stands (m ∷ bs) (quoted_front bs o)
+quoted_stands m bs None mark c =
+    (m ∷ bs, [], sym (append-nil (m ∷ bs)), refl, inl (refl, (refl, inr (m, bs, mark, c, refl))))
+quoted_stands m bs (Some n) mark c =
     let raw = c.1 in
-    let size : n ≡ length raw = sym c.3 in
-    let is_raw : take n bs ≡ raw = ap (λ k. take k bs) size ∙ ap (take (length raw)) c.4
-    ∙ take-append_seam raw (m ∷ c.0) in
-    let whole : bs ≡ (raw ++ m ∷ []) ++ c.0 = c.4 ∙ sym (append_assoc raw (m ∷ []) c.0) in
-    let long : suc n ≡ length (raw ++ m ∷ []) =
-    omega (arith, size, length-append raw (m ∷ [])) in
-    let part : take (suc n) bs ≡ raw ++ m ∷ [] = ap (λ k. take k bs) long
-    ∙ ap (take (length (raw ++ m ∷ []))) whole ∙ take-append_seam (raw ++ m ∷ []) c.0 in (
-      record {
-        place = refl;
-        inside = 1;
-        raw = refl;
-        token = inr (refl, (raw, ap word is_raw, (m, mark, c.2, ap (λ l. m ∷ l) part)));
-      },
-      ap (λ l. suc (length l)) part ∙ ap (λ k. suc k) (sym long),
+    let is_raw : take n bs ≡ raw = ap₂ take (sym c.3) c.4 ∙ take-append_seam raw (m ∷ c.0) in (
+      m ∷ (raw ++ m ∷ []),
+      c.0,
+      ap (λ l. m ∷ l) (c.4 ∙ sym (append_assoc raw (m ∷ []) c.0)),
+      omega (arith, c.3, length-append raw (m ∷ [])),
+      inr (refl, (raw, ap word is_raw, (m, mark, c.2, refl))),
     )
 
 -- a word, or a `\` with nothing after it
-word_stands_by : (at b : ℕ) (bs : List ℕ) (n : ℕ) → ends_word b ≡ false → Splits n (b ∷ bs)
-    → Stands at (b ∷ bs) (word_front (b ∷ bs) n)
-word_stands_by at b bs zero inner s =
-    unquoted at (b ∷ bs) cut (suc (length bs))
-    (ap (λ l. suc (length l)) (take_all (length bs) bs (omega arith))) (
-      drop_all (length bs) bs (omega arith),
-      inl (ap (λ l. b ∷ l) (take_all (length bs) bs (omega arith)) ∙ only s.1),
-    )
+word_stands : (b : ℕ) (bs : List ℕ) (n : ℕ) → ends_word b ≡ false → Splits n (b ∷ bs)
+    → Stands (b ∷ bs) (word_front (b ∷ bs) n)
+word_stands b bs zero inner s =
+    (b ∷ bs, [], sym (append-nil (b ∷ bs)), refl, inl (refl, (refl, inl (only s.1))))
   where
     only : EndsWord (b ∷ bs) → b ∷ bs ≡ 92 ∷ []
     only (inl e) = let l : suc (length bs) ≡ 0 = ap length e in absurd (omega arith)
@@ -528,24 +502,31 @@ word_stands_by at b bs zero inner s =
     only (inr (inr h)) =
         let same : b ≡ h.0 = ap (λ l. get_or l 0 0) h.2 in
         absurd (true≢false (sym h.3 ∙ sym (ap ends_word same) ∙ inner))
-word_stands_by at b bs (suc n) inner s =
-    subst (λ t. Stands at (b ∷ bs) (cond t (fixed cut (suc (length bs)))
-    (front_with (word (take (suc n) (b ∷ bs))) (suc n) 0))) (sym (eqb-suc-zero n))
-    (unquoted at (b ∷ bs) (word (take (suc n) (b ∷ bs))) (suc n) s.2
-    (refl, (s.0, none, s.1)))
-  where
-    none : b ∷ take n bs ≡ [] → ⊥
-    none e = let l : suc (length (take n bs)) ≡ 0 = ap length e in omega arith
+word_stands b bs (suc n) inner s = rw (eqb-suc-zero n) (
+  take (suc n) (b ∷ bs),
+  drop (suc n) (b ∷ bs),
+  sym (take-append-drop (suc n) (b ∷ bs)),
+  s.2,
+  inl (
+    refl,
+    (
+      refl,
+      (
+        s.0,
+        (λ e. let l : suc (length (take n bs)) ≡ 0 = ap length e in omega arith),
+        s.1,
+      ),
+    ),
+  ),
+)
 
 -- the token that the lexer finds at the start of a text
-pub front_stands : (at b : ℕ) (bs : List ℕ) → is_space b ≡ false
-    → Stands at (b ∷ bs) (front b bs)
-front_stands at b bs s =
-    cond_both (is_symbol b) _ _ (Stands at (b ∷ bs)) (symbol_stands at b bs) (λ h.
-    cond_both (b == 34 || b == 39) _ _ (Stands at (b ∷ bs)) (λ m.
-    quoted_stands_by at b bs (quoted_bytes b false bs) (mark_is b m) (quoted_splits b bs).0) (λ m.
-    word_stands_by at b bs (word_bytes false (b ∷ bs)) (no_end b s h m)
-    (word_splits (b ∷ bs)).0))
+pub front_stands : (b : ℕ) (bs : List ℕ) → is_space b ≡ false → Stands (b ∷ bs) (front b bs)
+front_stands b bs s =
+    cond_both (is_symbol b) _ _ (Stands (b ∷ bs)) (symbol_stands b bs) (λ h.
+    cond_both (b == 34 || b == 39) _ _ (Stands (b ∷ bs)) (λ m.
+    quoted_stands b bs (quoted_bytes b false bs) (mark_is b m) (quoted_splits b bs).0) (λ m.
+    word_stands b bs (word_bytes false (b ∷ bs)) (no_end b s h m) (word_splits (b ∷ bs)).0))
 
 -- what the lexer finds at the start of a text, after white space, is its token
 pub yields_of : (at : ℕ) (bs : List ℕ) (t : Placed) (next : ℕ) (rest : List ℕ)
@@ -555,18 +536,19 @@ yields_of at bs t next rest y =
     let l = trimmed bs in
     let f = front_at l in
     let b = trimmed_begun bs y.0 in
-    let stands : Stands (at + n) l f = subst (λ x. Stands (at + n) x (front_at x)) (sym b.2)
-    (front_stands (at + n) b.0 b.1 b.3) in
+    let k : Stands l f = subst (λ x. Stands x (front_at x)) (sym b.2) (front_stands b.0 b.1 b.3) in
     let long : length (take n bs) ≡ n = length-take-le n bs (trims bs).1 in
-    let whole : l ≡ take f.size l ++ rest = sym (take-append-drop f.size l)
-    ∙ ap (λ r. take f.size l ++ r) (sym y.3) in
+    let same : rest ≡ k.1 = y.3 ∙ ap₂ drop (sym k.3) k.2 ∙ drop-append_seam k.0 k.1 in
+    let token : IsTokenAt (at + n) k.0 k.1 (placed_at (at + n) f) =
+    record { place = refl; inside = f.inside; raw = refl; token = k.4 } in
     record {
       blank = take n bs;
-      part = take f.size l;
-      split = sym (take-append-drop n bs) ∙ ap (λ x. take n bs ++ x) whole;
+      part = k.0;
+      split = sym (take-append-drop n bs) ∙ ap (λ x. take n bs ++ x)
+          (k.2 ∙ ap (λ r. k.0 ++ r) (sym same));
       white = (trims bs).0;
-      token = rw (long, y.3, y.1) stands.0;
-      is_next = y.2 ∙ ap₂ (λ k m. (at + k) + m) (sym long) (sym stands.1);
+      token = rw (long, same, y.1) token;
+      is_next = y.2 ∙ ap₂ (λ i m. (at + i) + m) (sym long) (sym k.3);
     }
 
 -- the same for all tokens of a text

@@ -1,5 +1,5 @@
 -- Each text has tokens, and one list of them: those that the lexer finds.
-use Rattle.std.proofs.Common.{◌≡◌, ◌<◌, ◌≤◌, ◌+◌, ℕ, zero, suc, true, false, List, [], ◌∷◌, length, get_or, take, drop, refl, sym, ap, ap₂, ◌∙◌, arith, subst, length-drop}
+use Rattle.std.proofs.Common.{◌≡◌, ◌<◌, ◌≤◌, ◌+◌, ℕ, zero, suc, true, false, List, [], ◌∷◌, length, get_or, drop, refl, sym, ap, ap₂, ◌∙◌, arith, subst, length-drop}
 use Rattle.lq_predicate_formula.specs.Bytes.{is_space}
 use Rattle.lq_predicate_formula.specs.Tokens.{Placed, HasOneTokenList, HasTokens}
 use Rattle.lq_predicate_formula.specs.Lexing.{spaces, is_symbol, symbol_front, front, front_at, placed_at, BeginsBy, trimmed}
@@ -8,11 +8,10 @@ use Rattle.lq_predicate_formula.proofs.SignLemmas.{HasFronts, front_stands, toke
 -- what stands at the front of a text has a size
 front_size : (b : ℕ) (bs : List ℕ) → is_space b ≡ false → 0 < (front b bs).size
 front_size b bs dark =
-    let n = (front b bs).size in
-    let h = front_stands 0 b bs dark in
-    let s = token_starts _ _ _ _ h.0.token in
-    let some : length (take n (b ∷ bs)) ≡ suc (length s.1) = ap length s.2 in
-    omega (arith, some, h.1)
+    let h = front_stands b bs dark in
+    let s = token_starts _ _ _ _ h.4 in
+    let some : length h.0 ≡ suc (length s.1) = ap length s.2 in
+    omega (arith, some, h.3)
 
 -- what stands at the front of a text that begins with a symbol
 pub front_symbol : (bs : List ℕ) → 0 < length bs → is_symbol (get_or bs 0 0) ≡ true
