@@ -16,35 +16,26 @@ pub record Opened (c : ℕ) (bs : List ℕ) : Type 0 where
   pub high : AreHigh tail
   pub first_is : (first ≡ c) ⊎ (128 ≤ first)
 
+-- such bytes
+opened_by : (c first : ℕ) (tail : List ℕ) → AreHigh tail → (first ≡ c) ⊎ (128 ≤ first)
+    → Opened c (first ∷ tail)
+opened_by c first tail high is =
+    record { first = first; tail = tail; split = refl; high = high; first_is = is }
+
 -- each form of an encoded character has such bytes
 cases : (x y z : Bool) (c p q r u v w m n o : ℕ)
     → Opened c (cond x (c ∷ [])
     (cond y ((192 + p) ∷ (128 + q) ∷ [])
     (cond z ((224 + r) ∷ (128 + u) ∷ (128 + v) ∷ [])
     ((240 + w) ∷ (128 + m) ∷ (128 + n) ∷ (128 + o) ∷ []))))
-cases true y z c p q r u v w m n o =
-    record { first = c; tail = []; split = refl; high = tt; first_is = inl refl }
-cases false true z c p q r u v w m n o = record {
-  first = 192 + p;
-  tail = (128 + q) ∷ [];
-  split = refl;
-  high = (omega arith, tt);
-  first_is = inr (omega arith);
-}
-cases false false true c p q r u v w m n o = record {
-  first = 224 + r;
-  tail = (128 + u) ∷ (128 + v) ∷ [];
-  split = refl;
-  high = (omega arith, (omega arith, tt));
-  first_is = inr (omega arith);
-}
-cases false false false c p q r u v w m n o = record {
-  first = 240 + w;
-  tail = (128 + m) ∷ (128 + n) ∷ (128 + o) ∷ [];
-  split = refl;
-  high = (omega arith, (omega arith, (omega arith, tt)));
-  first_is = inr (omega arith);
-}
+cases true y z c p q r u v w m n o = opened_by c c [] tt (inl refl)
+cases false true z c p q r u v w m n o =
+    opened_by c (192 + p) ((128 + q) ∷ []) (omega arith) (inr (omega arith))
+cases false false true c p q r u v w m n o =
+    opened_by c (224 + r) ((128 + u) ∷ (128 + v) ∷ []) (omega arith) (inr (omega arith))
+cases false false false c p q r u v w m n o =
+    opened_by c (240 + w) ((128 + m) ∷ (128 + n) ∷ (128 + o) ∷ []) (omega arith)
+    (inr (omega arith))
 
 -- an encoded character has such bytes
 pub opened : (c : ℕ) → Opened c (encode c)

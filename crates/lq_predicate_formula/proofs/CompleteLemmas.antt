@@ -58,11 +58,8 @@ module _ (n : ℕ) (P : Reading) (takes : Takes n P) where
       (below : List Frame) (os : List Query) (rest : List Token)
       → run (at operand below (frame os []) n) (ts ++ rest)
       ≡ run (behind below os (h.0 ∷ h.1) n) rest
-  and_runs ts r h below os rest =
-      ap (λ l. run (at operand below (frame os []) n) (l ++ rest)) h.3.2
-      ∙ ap (run (at operand below (frame os []) n)) (append_assoc h.3.0 h.3.1 rest)
-      ∙ operand_runs h.3.0 h.0 h.3.3 below os [] (h.3.1 ++ rest)
-      ∙ ands_run h.3.1 h.1 h.3.4 below os (h.0 ∷ []) rest
+  and_runs ts r h below os rest = ands_run (ands ∷ ts) (h.0 ∷ h.1)
+      (h.3.0, h.3.1, ap (λ l. ands ∷ l) h.3.2, h.3.3, h.3.4) below os [] rest
 
   -- the machine runs over `||` and an and, as often as they follow, and has them in its frame
   ors_run : (ts : List Token) (rs : List Query) → Follows (IsAnd P) ors ts rs

@@ -1,9 +1,12 @@
--- One byte more of white space, of a word and of a quoted text.
-use Rattle.std.proofs.Common.{◌≡◌, ◌<◌, ◌≤◌, ◌+◌, ℕ, suc, true, false, List, ◌∷◌, length, get_or, drop, Option, Some, None, refl, ap, arith, add-one, drop-cons}
+-- One byte more of white space, of a word and of a quoted text, and where a text may be cut.
+use Rattle.std.proofs.Common.{◌≡◌, ◌<◌, ◌≤◌, ◌+◌, ℕ, suc, true, false, List, ◌∷◌, length, get_or, drop, Option, Some, None, refl, ap, arith, add-one, drop-cons, zero, pred, IsUtf8, subst, length-drop, get_or-drop, ◌∙◌}
 use Rattle.std.specs.Prelude.{option_map, ◌==◌}
 use Rattle.std.proofs.lemmas.List.{drop_all}
 use Rattle.lq_predicate_formula.specs.Bytes.{is_space, ends_word}
 use Rattle.lq_predicate_formula.specs.Lexing.{spaces, word_bytes, quoted_bytes}
+use Rattle.std.specs.Str.{IsCharBoundary}
+use Rattle.std.proofs.lemmas.Str.{IsCharBoundary-after_ascii}
+use Rattle.std.proofs.iter.FirstChar.{at_start}
 
 -- a text from a place on is the byte there, and then the text from the next place on
 pub at_byte : (bs : List ℕ) (n : ℕ) → n < length bs → drop n bs ≡ get_or bs n 0 ∷ drop (n + 1) bs
@@ -83,3 +86,22 @@ added_none (Some k) = let e : 0 + k ≡ k = omega arith in ap Some e
 -- and none in the count is what was counted before it
 pub added_zero : (n : ℕ) → Some n ≡ added n (Some 0)
 added_zero n = let e : n ≡ n + 0 = omega arith in ap Some e
+
+-- a text of UTF-8 may be cut at its start and after each ASCII byte
+pub boundary_behind : (bs : List ℕ) (n : ℕ)
+    → IsUtf8 bs → n ≤ length bs → (0 < n → get_or bs (pred n) 0 < 128) → IsCharBoundary bs n
+boundary_behind bs zero u h a = (h, (at_start bs u).1)
+boundary_behind bs (suc n) u h a =
+    let e : n + 1 ≡ suc n = omega arith in
+    subst (IsCharBoundary bs) e (IsCharBoundary-after_ascii bs n u (omega arith) (a (omega arith)))
+
+-- behind the first byte and n more, and a mark
+pub boundary_quoted : (bs : List ℕ) (n : ℕ)
+    → IsUtf8 bs → n < length (drop 1 bs) → get_or (drop 1 bs) n 0 < 128 → IsCharBoundary bs (n + 2)
+boundary_quoted bs n u h a =
+    let l : suc n < length bs = omega (arith, length-drop 1 bs) in
+    let e : suc (suc n) ≡ n + 2 = omega arith in
+    let at : get_or (drop 1 bs) n 0 ≡ get_or bs (suc n) 0 = get_or-drop 1 bs n 0
+    ∙ ap (λ i. get_or bs i 0) (let k : 1 + n ≡ suc n = omega arith in k) in
+    subst (IsCharBoundary bs) e
+    (boundary_behind bs (suc (suc n)) u (omega arith) (λ _. subst (λ x. x < 128) at a))

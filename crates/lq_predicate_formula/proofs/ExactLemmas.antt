@@ -53,13 +53,10 @@ module _ (ts : List Token) (s : MachineState) (e : steps (start nesting) ts ≡ 
       → fault_place end s.expected here ≡ p
   fault_is end here p (stray h k is) = plain_place end s.expected here.token here k
       (λ a o w x y. h (word_stands here.token a o w x y)) ∙ sym is
-  fault_is end here p (cut_off h is) =
-      ap (λ t. fault_place_of end s.expected t here) h ∙ sym is
-  fault_is end here p (alone h is) = ap (λ t. fault_place_of end s.expected t here) h ∙ sym is
-  fault_is end here p (too_deep (inl h) d is) =
-      ap (λ t. fault_place_of end s.expected t here) h ∙ sym is
-  fault_is end here p (too_deep (inr h) d is) =
-      ap (λ t. fault_place_of end s.expected t here) h ∙ sym is
+  fault_is end here p (cut_off h is) = rw h (sym is)
+  fault_is end here p (alone h is) = rw h (sym is)
+  fault_is end here p (too_deep (inl h) d is) = rw h (sym is)
+  fault_is end here p (too_deep (inr h) d is) = rw h (sym is)
   fault_is end here p (bad_name w h a n is) = plain_place end s.expected here.token here
       (λ x. no_cut_word w (sym h ∙ x)) (λ b o v x y. not_literal b o a x) ∙ sym is
   fault_is end here p (one_more w h a m is) = plain_place end s.expected here.token here

@@ -1,11 +1,11 @@
 -- A pattern that is read from a text has a source: it is of
 -- characters, its sets have items, no range falls.
-use Rattle.std.proofs.Common.{◌≡◌, ℕ, Bool, true, false, cond, List, [], ◌∷◌, ◌++◌, subst, refl, Some}
+use Rattle.std.proofs.Common.{◌≡◌, ℕ, Bool, true, false, List, [], ◌∷◌, ◌++◌, subst, refl, Some}
 use Rattle.std.specs.Prelude.{◌==◌, Result, Ok, Err}
 use Rattle.std.specs.Char.{IsScalar}
 use Rattle.std.specs.Str.{IsUtf8, chars}
 use Rattle.std.proofs.Math.Utf8.{scalar, scalars}
-use Rattle.std.proofs.lemmas.Bool.{and_parts}
+use Rattle.std.proofs.lemmas.Bool.{and_parts, cond_both}
 use Rattle.std.proofs.lemmas.Option.{none-some, same_Some}
 use Rattle.std.proofs.lemmas.Str.{scalars-chars}
 use Rattle.lq_value.specs.Item.{Item}
@@ -40,25 +40,15 @@ abbrev AllScalar : List Sign → Type 0
 AllScalar [] = Unit {0}
 AllScalar (s ∷ ss) = StandsForScalar s × AllScalar ss
 
--- a number that equals a Unicode scalar value is one
-same_scalar : (d c : ℕ) → d ≡ c → IsScalar d → IsScalar c
-same_scalar d c e h = subst IsScalar e h
-
 -- a bare sign of a scalar value stands for that value alone
 bare_scalar : (d : ℕ) → IsScalar d → StandsForScalar (bare d)
 bare_scalar d h =
-    record { outside = λ c k. same_scalar d c k.0 h; inside = λ c k. same_scalar d c k.0 h }
+    record { outside = λ c k. subst IsScalar k.0 h; inside = λ c k. subst IsScalar k.0 h }
 
 -- an escaped sign of a scalar value stands for that value alone
 escaped_scalar : (d : ℕ) → IsScalar d → StandsForScalar (escaped d)
 escaped_scalar d h =
-    record { outside = λ c k. same_scalar d c k h; inside = λ c k. same_scalar d c k h }
-
--- one character more: either it escapes the next, or it is a sign
-signs_by : (b : Bool) (c : ℕ) (cs : List ℕ) → IsScalar c → AllScalar (signs true cs)
-    → AllScalar (signs false cs) → AllScalar (cond b (signs true cs) (bare c ∷ signs false cs))
-signs_by true c cs h k l = k
-signs_by false c cs h k l = (bare_scalar c h, l)
+    record { outside = λ c k. subst IsScalar k h; inside = λ c k. subst IsScalar k h }
 
 -- the signs of a text of scalar values stand for scalar values
 signs_scalar : (b : Bool) (cs : List ℕ) → scalars cs ≡ true → AllScalar (signs b cs)
@@ -66,7 +56,8 @@ signs_scalar false [] e = tt
 signs_scalar true [] e = (record { outside = λ c k. absurd k; inside = λ c k. absurd k }, tt)
 signs_scalar false (c ∷ cs) e =
     let h = and_parts (scalar c) (scalars cs) e in
-    signs_by (c == 92) c cs h.0 (signs_scalar true cs h.1) (signs_scalar false cs h.1)
+    cond_both (c == 92) (signs true cs) (bare c ∷ signs false cs) AllScalar
+    (λ yes. signs_scalar true cs h.1) (λ no. (bare_scalar c h.0, signs_scalar false cs h.1))
 signs_scalar true (c ∷ cs) e =
     let h = and_parts (scalar c) (scalars cs) e in
     (escaped_scalar c h.0, signs_scalar false cs h.1)

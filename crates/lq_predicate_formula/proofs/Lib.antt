@@ -1,15 +1,12 @@
--- Read in this order. The tokens of a text: CountLemmas, CutLemmas, SignLemmas, TokenLemmas.
--- The machine's steps: MoveLemmas. Grammar and machine read the same: CompleteLemmas, SoundLemmas,
--- WordLemmas, ProperLemmas.
--- Faults: StopLemmas, DepthLemmas, OutlineLemmas, RefusedLemmas, BalanceLemmas, TakenLemmas,
--- StoppedLemmas, ExactLemmas. Each text has one reading: OneReadingLemmas. What is
--- written reads back: QuotingLemmas, CharLemmas, EncodedLemmas, PatternTextLemmas,
--- CanonicalLemmas, RoundLemmas, GoodLemmas. What the writers and counters do, a piece at a time:
--- RawLemmas, WritingLemmas, SizeLemmas, SourceSizeLemmas. The texts of trees, a piece at a time:
--- PartLemmas, TreeTextLemmas, TreeSizeLemmas, TreeDepthLemmas. Names and truth: NameLemmas,
--- FormedLemmas, TruthLemmas, SpanLemmas, NeedLemmas.
+-- Read in this order. The tokens of a text: CountLemmas, SignLemmas, TokenLemmas. The machine's
+-- steps: MoveLemmas. Grammar and machine read the same: CompleteLemmas, SoundLemmas, WordLemmas,
+-- ProperLemmas. Faults: StopLemmas, DepthLemmas, OutlineLemmas, RefusedLemmas, BalanceLemmas,
+-- TakenLemmas, StoppedLemmas, ExactLemmas. Each text has one reading: OneReadingLemmas. What is
+-- written reads back: CharLemmas, QuotingLemmas, PatternTextLemmas, CanonicalLemmas, RoundLemmas,
+-- GoodLemmas. What the writers and counters do, a piece at a time: RawLemmas, WritingLemmas,
+-- SizeLemmas, SourceSizeLemmas. The texts of trees, a piece at a time: PartLemmas, TreeTextLemmas,
+-- TreeSizeLemmas. Names and truth: TruthLemmas, SpanLemmas, NeedLemmas.
 pub mod CountLemmas
-pub mod CutLemmas
 pub mod SignLemmas
 pub mod TokenLemmas
 pub mod MoveLemmas
@@ -25,7 +22,6 @@ pub mod TakenLemmas
 pub mod StoppedLemmas
 pub mod QuotingLemmas
 pub mod CharLemmas
-pub mod EncodedLemmas
 pub mod PatternTextLemmas
 pub mod CanonicalLemmas
 pub mod RoundLemmas
@@ -40,9 +36,6 @@ pub mod SourceSizeLemmas
 pub mod PartLemmas
 pub mod TreeTextLemmas
 pub mod TreeSizeLemmas
-pub mod TreeDepthLemmas
-pub mod NameLemmas
-pub mod FormedLemmas
 pub mod TruthLemmas
 pub mod SpanLemmas
 pub mod NeedLemmas

@@ -53,27 +53,25 @@ mapped : {A : Type 0} (o : Option A) (f : A → MachineState) (s : MachineState)
 mapped None f s e = absurd (none-some s e)
 mapped (Some x) f s e = (x, refl, same_Some (f x) s e)
 
+-- a move to a state that is this one
+to : {x y s : MachineState} {t : Token} → Some y ≡ Some s → Move x t y → Move x t s
+to {x} {y} {s} {t} e m = subst (Move x t) (same_Some y s e) m
+
 -- a step that is taken is a move, by the parts of its state
 moved : (p : Expected) (below : List Frame) (f : Frame) (n : ℕ) (t : Token) (s : MachineState)
     → step (at p below f n) t ≡ Some s → Move (at p below f n) t s
-moved operand below f (suc n) opens s e =
-    subst (Move (at operand below f (suc n)) opens) (same_Some _ s e) (enter below f n)
-moved operand below f (suc n) bang s e =
-    subst (Move (at operand below f (suc n)) bang) (same_Some _ s e) (deny below f n)
+moved operand below f (suc n) opens s e = to e (enter below f n)
+moved operand below f (suc n) bang s e = to e (deny below f n)
 moved operand below f n (word w) s e =
     let h = mapped (name_of w) (λ a. at (after_attr a) below f n) s e in
-    subst (Move (at operand below f n) (word w)) h.2 (attribute below f n w h.0 h.1)
-moved (after_attr a) below f n (op o) s e =
-    subst (Move (at (after_attr a) below f n) (op o)) (same_Some _ s e) (operator below f n a o)
+    to (ap Some h.2) (attribute below f n w h.0 h.1)
+moved (after_attr a) below f n (op o) s e = to e (operator below f n a o)
 moved (after_op a o) below f n (word w) s e =
     let h = mapped (literal_of o w) (λ l. completed (Compare a o l) below f n) s e in
-    subst (Move (at (after_op a o) below f n) (word w)) h.2 (complete below f n a o w h.0 h.1)
-moved after_operand below f n ands s e =
-    subst (Move (at after_operand below f n) ands) (same_Some _ s e) (one_and below f n)
-moved after_operand below f n ors s e =
-    subst (Move (at after_operand below f n) ors) (same_Some _ s e) (one_or below f n)
-moved after_operand (g ∷ below) f n closes s e =
-    subst (Move (at after_operand (g ∷ below) f n) closes) (same_Some _ s e) (leave g below f n)
+    to (ap Some h.2) (complete below f n a o w h.0 h.1)
+moved after_operand below f n ands s e = to e (one_and below f n)
+moved after_operand below f n ors s e = to e (one_or below f n)
+moved after_operand (g ∷ below) f n closes s e = to e (leave g below f n)
 moved p below f n t s e = absurd (none-some s e)
 
 -- a step that is taken is a move

@@ -1,7 +1,7 @@
 -- A predicate that needs an attribute is false of a row without attributes.
-use Rattle.std.proofs.Common.{◌≡◌, ℕ, List, refl, ap, Bool, true, false}
-use Rattle.std.specs.Prelude.{◌&&◌, ◌||◌, None}
-use Rattle.std.proofs.lemmas.Bool.{false≢true}
+use Rattle.std.proofs.Common.{◌≡◌, ℕ, List, inl, inr, refl, ap, true, false}
+use Rattle.std.specs.Prelude.{None}
+use Rattle.std.proofs.lemmas.Bool.{and_left, and_parts, and_right, false≢true, or_cases, or_from}
 use Rattle.lq_value.specs.declared.field.Field.{Field}
 use Rattle.lq_value.specs.declared.field.Field.TheVariants.{Attribute}
 use Rattle.lq_value.specs.Field.{field_of}
@@ -14,19 +14,6 @@ use Rattle.lq_predicate_formula.specs.Laws.{BareRowsFail}
 only-attribute : (f : Field) → is_attribute f ≡ true → f ≡ Attribute
 only-attribute Attribute h = refl
 only-attribute f h = absurd (false≢true h)
-
--- a conjunction is false where one side is, if it needs an attribute, or else the other side
-first-or-rest : (n m t u : Bool) → (n || m) ≡ true → (n ≡ true → t ≡ false)
-    → (m ≡ true → u ≡ false) → (t && u) ≡ false
-first-or-rest true m t u h first rest = rw (first refl) refl
-first-or-rest false m false u h first rest = refl
-first-or-rest false m true u h first rest = rest h
-
--- a disjunction is false where both sides are, since both need an attribute
-first-and-rest : (n m t u : Bool) → (n && m) ≡ true → (n ≡ true → t ≡ false)
-    → (m ≡ true → u ≡ false) → (t || u) ≡ false
-first-and-rest true m t u h first rest = rw (first refl) (rest h)
-first-and-rest false m t u h first rest = cc
 
 -- of a row that shows nothing under the name of an attribute
 module _ (look : Look) (bare : (name : List ℕ) → field_of name ≡ Attribute → look name ≡ None) where
@@ -42,16 +29,17 @@ module _ (look : Look) (bare : (name : List ℕ) → field_of name ≡ Attribute
     -- not all of some queries are true if one of them needs an attribute
     some-false : (qs : Queries) → some_need qs ≡ true → all_true qs look ≡ false
     some-false no_more h = cc
-    some-false (and_then q qs) h =
-        first-or-rest (needs_attribute q) (some_need qs) (truth q look) (all_true qs look) h
-        (λ n. needs-false q n) (λ n. some-false qs n)
+    some-false (and_then q qs) h = elim (or_cases (needs_attribute q) (some_need qs) h) [
+      | inl n ↦ and_left (truth q look) (all_true qs look) (needs-false q n)
+      | inr n ↦ and_right (truth q look) (all_true qs look) (some-false qs n)
+    ]
 
     -- none of some queries is true if each of them needs one
     each-false : (qs : Queries) → all_need qs ≡ true → some_true qs look ≡ false
     each-false no_more h = refl
     each-false (and_then q qs) h =
-        first-and-rest (needs_attribute q) (all_need qs) (truth q look) (some_true qs look) h
-        (λ n. needs-false q n) (λ n. each-false qs n)
+        let n = and_parts (needs_attribute q) (all_need qs) h in
+        or_from (truth q look) (some_true qs look) (needs-false q n.0) (each-false qs n.1)
 
 -- a predicate that needs an attribute is false of a row without attributes
 pub needs-bare : BareRowsFail

@@ -3,6 +3,7 @@ use Rattle.std.proofs.Common.{◌≡◌, ℕ, zero, suc, List, [], ◌∷◌, �
 use Rattle.std.specs.Prelude.{option_map}
 use Rattle.std.proofs.lemmas.List.{map-append}
 use Rattle.std.proofs.lemmas.Option.{none-some, option_and_then_some, same_Some}
+use Rattle.lq_value.specs.declared.op.Op.TheVariants.{Eq}
 use Rattle.lq_predicate_formula.specs.Tokens.{Token, opens, closes, bang, ands, ors, op, word}
 use Rattle.lq_predicate_formula.specs.Machine.{Expected, operand, after_attr, after_op, after_operand, MachineState, start, step, steps}
 use Rattle.lq_predicate_formula.specs.Faults.{CanStand, kind_of}
@@ -10,24 +11,16 @@ use Rattle.lq_predicate_formula.proofs.CompleteLemmas.{formula_runs}
 use Rattle.lq_predicate_formula.proofs.DepthLemmas.{comes}
 use Rattle.lq_predicate_formula.proofs.MoveLemmas.{led, move, Move, enter, deny, attribute, operator, complete, one_and, one_or, leave}
 
--- what is expected, without its name and operator
-pub data ExpectedKind : Type 0 where
-  some_operand : ExpectedKind
-  an_op : ExpectedKind
-  a_literal : ExpectedKind
-  behind : ExpectedKind
-
 -- what is expected, and how many parentheses are open
 pub record Outline : Type 0 where
-  pub expected : ExpectedKind
+  pub expected : Expected
   pub parens : ℕ
 
 -- what is expected, without its name and operator
-abbrev kind_expected : Expected → ExpectedKind
-kind_expected operand = some_operand
-kind_expected (after_attr a) = an_op
-kind_expected (after_op a o) = a_literal
-kind_expected after_operand = behind
+abbrev kind_expected : Expected → Expected
+kind_expected (after_attr a) = after_attr []
+kind_expected (after_op a o) = after_op [] Eq
+kind_expected p = p
 
 -- the outline of a state
 abbrev pub outline_of : MachineState → Outline
@@ -36,18 +29,18 @@ outline_of s = record { expected = kind_expected s.expected; parens = length s.b
 -- one parenthesis less is open, if one was
 abbrev closed : ℕ → Option Outline
 closed zero = None
-closed (suc n) = Some (record { expected = behind; parens = n })
+closed (suc n) = Some (record { expected = after_operand; parens = n })
 
 -- the outline after a token, by what is expected
-abbrev outline_at : ExpectedKind → ℕ → Token → Option Outline
-outline_at some_operand n opens = Some (record { expected = some_operand; parens = suc n })
-outline_at some_operand n bang = Some (record { expected = some_operand; parens = n })
-outline_at some_operand n (word w) = Some (record { expected = an_op; parens = n })
-outline_at an_op n (op u) = Some (record { expected = a_literal; parens = n })
-outline_at a_literal n (word w) = Some (record { expected = behind; parens = n })
-outline_at behind n closes = closed n
-outline_at behind n ands = Some (record { expected = some_operand; parens = n })
-outline_at behind n ors = Some (record { expected = some_operand; parens = n })
+abbrev outline_at : Expected → ℕ → Token → Option Outline
+outline_at operand n opens = Some (record { expected = operand; parens = suc n })
+outline_at operand n bang = Some (record { expected = operand; parens = n })
+outline_at operand n (word w) = Some (record { expected = after_attr []; parens = n })
+outline_at (after_attr a) n (op u) = Some (record { expected = after_op [] Eq; parens = n })
+outline_at (after_op a o) n (word w) = Some (record { expected = after_operand; parens = n })
+outline_at after_operand n closes = closed n
+outline_at after_operand n ands = Some (record { expected = operand; parens = n })
+outline_at after_operand n ors = Some (record { expected = operand; parens = n })
 outline_at p n t = None
 
 -- the outline after a token

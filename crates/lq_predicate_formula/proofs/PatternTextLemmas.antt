@@ -14,8 +14,7 @@ use Rattle.lq_value.specs.Sign.{signs, signs_of}
 use Rattle.lq_value.specs.Written.{AreItems, BeginsNoRange, IsElement, StandsFor, StandsInSet, Writes}
 use Rattle.lq_predicate_formula.specs.Canonical.{element_then, in_set_then, items_then, pattern_text, plain_then}
 use Rattle.lq_predicate_formula.specs.Limits.{AreGoodItems, IsGoodElement, IsGoodPattern}
-use Rattle.lq_predicate_formula.proofs.EncodedLemmas.{ends_clear, ends_escaped}
-use Rattle.lq_predicate_formula.proofs.QuotingLemmas.{Ends}
+use Rattle.lq_predicate_formula.proofs.QuotingLemmas.{Ends, ends_clear, ends_escaped}
 
 -- ---- signs, which are known by the texts that they are read from
 

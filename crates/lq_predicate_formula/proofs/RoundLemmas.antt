@@ -21,7 +21,7 @@ use Rattle.lq_predicate_formula.proofs.SignLemmas.{tokens_of_fronts}
 use Rattle.lq_predicate_formula.proofs.SoundLemmas.{comparison_reads}
 use Rattle.lq_predicate_formula.proofs.QuotingLemmas.{quoted_back}
 use Rattle.lq_predicate_formula.proofs.PatternTextLemmas.{pattern_written}
-use Rattle.lq_predicate_formula.proofs.TreeDepthLemmas.{over_zero}
+use Rattle.lq_predicate_formula.proofs.PartLemmas.{over_zero}
 use Rattle.lq_predicate_formula.proofs.CanonicalLemmas.{lexes_end, lexes_written, no_backslash, others_said, parts_said, raw_attr, said}
 
 -- ---- names and literals

@@ -37,14 +37,6 @@ widened-append span ns ms =
 abbrev Alike : ℤ → ℤ → List ℤ → Type 0
 Alike a b ns = AllByRecursion (λ n. int_cmp a n ≡ int_cmp b n) ns
 
--- a lower number is found less
-is-less : (a n : ℤ) → a <ℤ n → int_cmp a n ≡ Less
-is-less a n h = sym (int_cmp_is a n Less h)
-
--- a higher number is found greater
-is-greater : (a n : ℤ) → n <ℤ a → int_cmp a n ≡ Greater
-is-greater a n h = sym (int_cmp_is a n Greater h)
-
 -- below the lesser of two numbers is below both
 below-both : (a m n : ℤ) → int_lt a (int_min m n) ≡ true → (int_lt a m ≡ true) × (a <ℤ n)
 below-both a m n h = (grind (arith, ints, clamps), omega (arith, ints, clamps))
@@ -62,14 +54,14 @@ beside-one l g n a b h = elim (or_cases _ _ h) [
       let k = and_parts _ _ low in
       let one = below-both a l n k.0 in
       let other = below-both b l n k.1 in (
-        is-less a n one.1 ∙ sym (is-less b n other.1),
+        sym (int_cmp_is a n Less one.1) ∙ int_cmp_is b n Less other.1,
         or_left _ _ (and_from _ _ one.0 other.0),
       )
   | inr high ↦
       let k = and_parts _ _ high in
       let one = above-both a g n k.0 in
       let other = above-both b g n k.1 in (
-        is-greater a n one.1 ∙ sym (is-greater b n other.1),
+        sym (int_cmp_is a n Greater one.1) ∙ int_cmp_is b n Greater other.1,
         or_right _ _ (and_from _ _ one.0 other.0),
       )
 ]

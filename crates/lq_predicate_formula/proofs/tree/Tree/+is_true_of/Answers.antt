@@ -3,8 +3,7 @@ use Rattle.std.proofs.lemmas.Bool.{and_parts}
 use Rattle.lq_predicate_formula.specs.Query.{And, Or, queries}
 use Rattle.lq_predicate_formula.specs.Canonical.{depth}
 use Rattle.lq_predicate_formula.specs.PredicateLimits.{is_formed}
-use Rattle.lq_predicate_formula.proofs.PartLemmas.{depth_le-deepest}
-use Rattle.lq_predicate_formula.proofs.FormedLemmas.{part_formed}
+use Rattle.lq_predicate_formula.proofs.PartLemmas.{depth_le-deepest, part_formed}
 use Rattle.lq_predicate_formula.proofs.tree.Tree.+is_true_of.Goals as goal
 
 pub is_true_of-requires-in-loop-part : goal.is_true_of-requires-in-loop-part
