@@ -101,22 +101,9 @@ no_backslash b e = not_that is_bare_byte 92 b refl e
 ends_no : (b : ℕ) → is_bare_byte b ≡ true → ends_word b ≡ false
 ends_no b e =
     let no = λ (c : ℕ) (f : is_bare_byte c ≡ false). not_that is_bare_byte c b f e in
-    rw (
-      no 32 refl,
-      no 9 refl,
-      no 10 refl,
-      no 13 refl,
-      no 40 refl,
-      no 41 refl,
-      no 33 refl,
-      no 38 refl,
-      no 124 refl,
-      no 61 refl,
-      no 60 refl,
-      no 62 refl,
-      no 34 refl,
-      no 39 refl,
-    )
+    rw (no 32 refl, no 9 refl, no 10 refl, no 13 refl, no 40 refl)
+    (rw (no 41 refl, no 33 refl, no 38 refl, no 124 refl, no 61 refl)
+    (rw (no 60 refl, no 62 refl, no 34 refl, no 39 refl)))
 
 -- a bare name is signs none of which ends a word
 bare_signs : (name : List ℕ) → list_all is_bare_byte name ≡ true → AreSigns ends_word name

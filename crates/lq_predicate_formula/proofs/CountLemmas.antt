@@ -40,41 +40,17 @@ word_escaped bs n k e =
     let two : n + 1 + 1 ≡ n + 2 = omega arith in
     rw (at_byte bs n (omega arith), e, at_byte bs (n + 1) k, two)
 
--- a quoted text that ends with `\` is not closed
-pub quoted_cut : (m : ℕ) (bs : List ℕ) (n : ℕ) → n < length bs → length bs ≤ n + 1
-    → (get_or bs n 0 == 92) ≡ true → quoted_bytes m false (drop n bs) ≡ None
-quoted_cut m bs n h k e = rw (at_byte bs n h, e, drop_all (n + 1) bs k)
-
--- `\` and the byte after it count two more than the quoted text that follows them
-pub quoted_escaped : (m : ℕ) (bs : List ℕ) (n : ℕ)
-    → n + 1 < length bs → (get_or bs n 0 == 92) ≡ true → quoted_bytes m false (drop n bs)
-    ≡ option_map (λ k. suc (suc k)) (quoted_bytes m false (drop (n + 2) bs))
-quoted_escaped m bs n k e =
-    let two : n + 1 + 1 ≡ n + 2 = omega arith in
-    rw (at_byte bs n (omega arith), e, at_byte bs (n + 1) k, two)
-
--- the mark itself ends a quoted text
-pub quoted_end : (m : ℕ) (bs : List ℕ) (n : ℕ) → n < length bs → (get_or bs n 0 == 92) ≡ false
-    → (get_or bs n 0 == m) ≡ true → quoted_bytes m false (drop n bs) ≡ Some 0
-quoted_end m bs n h e f = rw (at_byte bs n h, e, f)
-
--- a byte that is no `\` and no mark counts one more than the quoted text that follows it
-pub quoted_more : (m : ℕ) (bs : List ℕ) (n : ℕ) → n < length bs → (get_or bs n 0 == 92) ≡ false
-    → (get_or bs n 0 == m) ≡ false → quoted_bytes m false (drop n bs)
-    ≡ option_map (λ k. suc k) (quoted_bytes m false (drop (n + 1) bs))
-quoted_more m bs n h e f = rw (at_byte bs n h, e, f)
-
 -- n more bytes on the way
 abbrev pub added : ℕ → Option ℕ → Option ℕ
 added n o = option_map (λ k. n + k) o
 
 -- one more in the count is one more in what was counted before it
-pub added_suc : (n : ℕ) (o : Option ℕ) → added n (option_map (λ k. suc k) o) ≡ added (n + 1) o
+added_suc : (n : ℕ) (o : Option ℕ) → added n (option_map (λ k. suc k) o) ≡ added (n + 1) o
 added_suc n None = refl
 added_suc n (Some k) = let e : n + suc k ≡ n + 1 + k = omega arith in ap Some e
 
 -- two more in the count are two more in what was counted before it
-pub added_two : (n : ℕ) (o : Option ℕ) → added n (option_map (λ k. suc (suc k)) o) ≡ added (n + 2) o
+added_two : (n : ℕ) (o : Option ℕ) → added n (option_map (λ k. suc (suc k)) o) ≡ added (n + 2) o
 added_two n None = refl
 added_two n (Some k) = let e : n + suc (suc k) ≡ n + 2 + k = omega arith in ap Some e
 
@@ -83,9 +59,31 @@ pub added_none : (o : Option ℕ) → added 0 o ≡ o
 added_none None = refl
 added_none (Some k) = let e : 0 + k ≡ k = omega arith in ap Some e
 
--- and none in the count is what was counted before it
-pub added_zero : (n : ℕ) → Some n ≡ added n (Some 0)
-added_zero n = let e : n ≡ n + 0 = omega arith in ap Some e
+-- a quoted text that ends with `\` is not closed
+pub quoted_cut : (m : ℕ) (bs : List ℕ) (n : ℕ) → n < length bs → length bs ≤ n + 1
+    → (get_or bs n 0 == 92) ≡ true → added n (quoted_bytes m false (drop n bs)) ≡ None
+quoted_cut m bs n h k e = rw (at_byte bs n h, e, drop_all (n + 1) bs k)
+
+-- `\` and the byte after it count two more than the quoted text that follows them
+pub quoted_escaped : (m : ℕ) (bs : List ℕ) (n : ℕ)
+    → n + 1 < length bs → (get_or bs n 0 == 92) ≡ true → added n (quoted_bytes m false (drop n bs))
+    ≡ added (n + 2) (quoted_bytes m false (drop (n + 2) bs))
+quoted_escaped m bs n k e =
+    let two : n + 1 + 1 ≡ n + 2 = omega arith in
+    rw (at_byte bs n (omega arith), e, at_byte bs (n + 1) k, two) (added_two n _)
+
+-- the mark itself ends a quoted text
+pub quoted_end : (m : ℕ) (bs : List ℕ) (n : ℕ) → n < length bs → (get_or bs n 0 == 92) ≡ false
+    → (get_or bs n 0 == m) ≡ true → added n (quoted_bytes m false (drop n bs)) ≡ Some n
+quoted_end m bs n h e f =
+    let same : n + 0 ≡ n = omega arith in
+    rw (at_byte bs n h, e, f) (ap Some same)
+
+-- a byte that is no `\` and no mark counts one more than the quoted text that follows it
+pub quoted_more : (m : ℕ) (bs : List ℕ) (n : ℕ) → n < length bs → (get_or bs n 0 == 92) ≡ false
+    → (get_or bs n 0 == m) ≡ false → added n (quoted_bytes m false (drop n bs))
+    ≡ added (n + 1) (quoted_bytes m false (drop (n + 1) bs))
+quoted_more m bs n h e f = rw (at_byte bs n h, e, f) (added_suc n _)
 
 -- a text of UTF-8 may be cut at its start and after each ASCII byte
 pub boundary_behind : (bs : List ℕ) (n : ℕ)

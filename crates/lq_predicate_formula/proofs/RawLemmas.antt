@@ -10,7 +10,7 @@ use Rattle.lq_value.specs.Name.{is_attr_name}
 use Rattle.lq_predicate_formula.specs.Literals.{has_no_nul, name_refusal, unescaped}
 use Rattle.lq_predicate_formula.proofs.CharLemmas.{AreHigh, first_not, opened}
 use Rattle.lq_predicate_formula.proofs.CountLemmas.{at_byte}
-use Rattle.std.proofs.lemmas.List.{drop_all}
+use Rattle.std.proofs.lemmas.List.{drop_all, nil_from_length}
 
 -- a byte that is no `\` stays, and what follows is unescaped
 one_plain : (b : ℕ) (bs : List ℕ) → (b ≡ 92 → ⊥) → unescaped false (b ∷ bs) ≡ b ∷ unescaped false bs
@@ -20,25 +20,23 @@ one_plain b bs h = rw (ne_eqb b 92 h)
 all_plain : (bs rest : List ℕ) → AreHigh bs
     → unescaped false (bs ++ rest) ≡ bs ++ unescaped false rest
 all_plain [] rest h = refl
-all_plain (b ∷ bs) rest h = one_plain b (bs ++ rest) (λ e. omega (arith, h.0, e))
-    ∙ ap (λ l. b ∷ l) (all_plain bs rest h.1)
+all_plain (b ∷ bs) rest h =
+    rw (one_plain b (bs ++ rest) (λ e. omega (arith, h.0, e)), all_plain bs rest h.1)
 
 -- a character after `\` stays whole
 pub escaped_char : (c : ℕ) (rest : List ℕ)
     → unescaped true (encode c ++ rest) ≡ encode c ++ unescaped false rest
 escaped_char c rest =
     let o = opened c in
-    ap (λ l. unescaped true (l ++ rest)) o.split ∙ ap (λ l. o.first ∷ l)
-    (all_plain o.tail rest o.high) ∙ sym (ap (λ l. l ++ unescaped false rest) o.split)
+    rw (o.split, all_plain o.tail rest o.high)
 
 -- a character that is no `\` stays whole
 pub plain_char : (c : ℕ) (rest : List ℕ) → (c ≡ 92 → ⊥)
     → unescaped false (encode c ++ rest) ≡ encode c ++ unescaped false rest
 plain_char c rest h =
     let o = opened c in
-    ap (λ l. unescaped false (l ++ rest)) o.split
-    ∙ one_plain o.first (o.tail ++ rest) (first_not 92 c o.first (lit< tt) o.first_is h)
-    ∙ ap (λ l. o.first ∷ l) (all_plain o.tail rest o.high) ∙ sym (ap (λ l. l ++ unescaped false rest) o.split)
+    let other = first_not 92 c o.first (lit< tt) o.first_is h in
+    rw (o.split, one_plain o.first (o.tail ++ rest) other, all_plain o.tail rest o.high)
 
 -- the character `\` is taken off and escapes the next
 pub backslash : (c : ℕ) (rest : List ℕ) → c ≡ 92
@@ -101,15 +99,11 @@ pub counted_escaped : (bs : List ℕ) (n count : ℕ) → Counted bs n count →
 counted_escaped bs n count s h p z = counted_on bs n count (get_or bs (n + 1) 0) 2 s
     (omega arith) (omega arith) (escaped_byte bs n h (eq-eqb _ 92 p)) z
 
--- where nothing is left, the count is whole
-pub counted_size : (bs : List ℕ) (n count : ℕ) → Counted bs n count
-    → unescaped false (drop n bs) ≡ [] → count ≡ length (unescaped false bs)
-counted_size bs n count s e = omega (arith, ap length e, s.size)
-
--- and no byte was NUL
-pub counted_clear : (bs : List ℕ) (n count : ℕ) → Counted bs n count
-    → unescaped false (drop n bs) ≡ [] → has_no_nul (unescaped false bs) ≡ true
-counted_clear bs n count s e = sym s.clean ∙ ap has_no_nul e
+-- where nothing is left, the count is whole, and no byte was NUL
+pub counted_end : (bs : List ℕ) (n count : ℕ) → Counted bs n count
+    → unescaped false (drop n bs) ≡ []
+    → (count ≡ length (unescaped false bs)) × (has_no_nul (unescaped false bs) ≡ true)
+counted_end bs n count s e = (omega (arith, ap length e, s.size), sym s.clean ∙ ap has_no_nul e)
 
 -- where a NUL is next, one byte is NUL
 pub counted_nul : (bs : List ℕ) (n count b : ℕ) (rest : List ℕ) → Counted bs n count
@@ -122,10 +116,8 @@ none_left bs n h = ap (unescaped false) (drop_all n bs h)
 
 -- and no text is none, behind a `\` too
 pub unescaped_none : (b : Bool) (bs : List ℕ) → length bs ≡ 0 → unescaped b bs ≡ []
-unescaped_none true [] h = refl
-unescaped_none false [] h = refl
-unescaped_none true (x ∷ xs) h = absurd (omega arith)
-unescaped_none false (x ∷ xs) h = absurd (omega arith)
+unescaped_none true bs h = ap (unescaped true) (nil_from_length bs h)
+unescaped_none false bs h = ap (unescaped false) (nil_from_length bs h)
 
 -- a test that gives a name or None refuses a bad name just where it gives None
 refusal_by : (b : Bool) (u : List ℕ) → (if b then None else Some BadName)

@@ -67,53 +67,27 @@ single_and P a q h = (q, [], refl, (a, [], sym (append-nil a), h, refl))
 single_or : (P : Reading) (a : List Token) (q : Query) → IsAnd P a q → IsOr P a q
 single_or P a q h = (q, [], refl, (a, [], sym (append-nil a), h, refl))
 
+-- one part alone is an or
+alone : (P : Reading) (a : List Token) (q : Query) → P a q → IsOr P a q
+alone P a q h = single_or P a q (single_and P a q h)
+
 -- a list of queries made of some queries gives them back
 same_queries : (qs : Queries) → queries (list_of qs) ≡ qs
 same_queries no_more = refl
 same_queries (and_then q qs) = ap (and_then q) (same_queries qs)
 
--- a comparison alone is an or of one part
-comparison_or : (n : ℕ) (a : List ℕ) (o : Op) (l name : List ℕ) (literal : Literal)
-    → name_of a ≡ Some name → literal_of o l ≡ Some literal
-    → IsOr (IsNot n) (word a ∷ op o ∷ word l ∷ []) (Compare name o literal)
-comparison_or n a o l name literal h k =
-    let q = Compare name o literal in
-    let ts = word a ∷ op o ∷ word l ∷ [] in
-    single_or (IsNot n) ts q (single_and (IsNot n) ts q (comparison_reads n a o l name literal h k))
-
--- an And of two parts or more, in its parts
-and_of_parts : (n : ℕ) (q r : Query) (qs : Queries) → IsNot n (said q) q
-    → Follows (IsNot n) ands (others_said ands (and_then r qs)) (list_of (and_then r qs)) → IsOr
-    (IsNot n) (parts_said ands (and_then q (and_then r qs))) (And (and_then q (and_then r qs)))
-and_of_parts n q r qs h k =
-    single_or (IsNot n) (parts_said ands (and_then q (and_then r qs)))
-    (And (and_then q (and_then r qs))) (
-      q,
-      list_of (and_then r qs),
-      ap (λ l. And (and_then q (and_then r l))) (sym (same_queries qs)),
-      (said q, others_said ands (and_then r qs), refl, h, k),
-    )
-
--- the parts of an Or, read one by one, are read as that Or
-or_of_parts : (n : ℕ) (q r : Query) (qs : Queries) → IsNot n (said q) q
-    → Follows (IsAnd (IsNot n)) ors (others_said ors (and_then r qs)) (list_of (and_then r qs))
-    → IsOr (IsNot n) (parts_said ors (and_then q (and_then r qs))) (Or (and_then q (and_then r qs)))
-or_of_parts n q r qs h k = (
-  q,
-  list_of (and_then r qs),
-  ap (λ l. Or (and_then q (and_then r l))) (sym (same_queries qs)),
-  (said q, others_said ors (and_then r qs), refl, single_and (IsNot n) (said q) q h, k),
-)
-
 mutual
   -- the tokens of a proper query that is not too deep are read as that query
   said_reads : SourcesAreRead → (q : Query) (n : ℕ) → IsProper q → depth q ≤ n → IsNot n (said q) q
   said_reads law (Compare attr o literal) (suc n) h d =
+      let l = literal_text literal in
+      let a = word (raw_attr attr) ∷ op o ∷ word l ∷ [] in
       inr (inl (
-        word (raw_attr attr) ∷ op o ∷ word (literal_text literal) ∷ [],
+        a,
         refl,
-        comparison_or n (raw_attr attr) o (literal_text literal) attr literal (attr_back attr h.0)
-            (literal_back law literal o h.1.0 h.1.1),
+        alone (IsNot n) a (Compare attr o literal)
+            (comparison_reads n (raw_attr attr) o l attr literal (attr_back attr h.0)
+            (literal_back law literal o h.1.0 h.1.1)),
       ))
   said_reads law (Not q) (suc n) h d =
       inr (inr (said q, q, refl, refl, said_reads law q n h (omega arith)))
@@ -129,9 +103,23 @@ mutual
   parts_read law no_more n two h d = absurd two
   parts_read law (and_then q no_more) n two h d = absurd two
   parts_read law (and_then q (and_then r qs)) n two h d =
+      let ps = and_then r qs in
       let one = said_reads law q n h.0 (omega arith) in
       let others = others_read law (and_then r qs) n h.1 (omega arith) in
-      (and_of_parts n q r qs one others.0, or_of_parts n q r qs one others.1)
+      let back = sym (same_queries ps) in (
+        single_or (IsNot n) (parts_said ands (and_then q ps)) (And (and_then q ps)) (
+          q,
+          list_of ps,
+          ap (λ l. And (and_then q l)) back,
+          (said q, others_said ands ps, refl, one, others.0),
+        ),
+        (
+          q,
+          list_of ps,
+          ap (λ l. Or (and_then q l)) back,
+          (said q, others_said ors ps, refl, single_and (IsNot n) (said q) q one, others.1),
+        ),
+      )
 
   -- the tokens of the parts after the first are read as those parts
   others_read : SourcesAreRead → (qs : Queries) (n : ℕ) → AreProper qs → deepest qs ≤ n
@@ -149,8 +137,8 @@ mutual
 pub canonical_reads : SourcesAreRead → (q : Query) → IsWithinLimits q → Reads (canonical q) q
 canonical_reads law q h =
     let lexed = lexes_written q [] [] h.proper lexes_end 0 in
-    let reads : IsFormula nesting (said q) q = single_or (IsNot nesting) (said q) q
-    (single_and (IsNot nesting) (said q) q (said_reads law q nesting h.proper h.shallow)) in
+    let reads : IsFormula nesting (said q) q =
+    alone (IsNot nesting) (said q) q (said_reads law q nesting h.proper h.shallow) in
     record {
       short = h.brief;
       tokens = lexed.0;

@@ -33,16 +33,8 @@ no_space b h =
 no_symbol : (b : ℕ) → ends_word b ≡ false → is_symbol b ≡ false
 no_symbol b h =
     let no = λ (c : ℕ) (e : ends_word c ≡ true). not_this ends_word c b e h in
-    rw (
-      no 40 refl,
-      no 41 refl,
-      no 33 refl,
-      no 61 refl,
-      no 60 refl,
-      no 62 refl,
-      no 38 refl,
-      no 124 refl,
-    )
+    rw (no 40 refl, no 41 refl, no 33 refl, no 61 refl)
+    (rw (no 60 refl, no 62 refl, no 38 refl, no 124 refl))
 
 -- and no mark
 no_mark : (b : ℕ) → ends_word b ≡ false → (b == 34 || b == 39) ≡ false
@@ -54,19 +46,8 @@ no_end : (b : ℕ) → is_space b ≡ false → is_symbol b ≡ false → (b == 
 no_end b s h m =
     let no = λ (c : ℕ) (e : is_symbol c ≡ true). not_this is_symbol c b e h in
     let marks = or_parts (b == 34) (b == 39) m in
-    rw (
-      s,
-      no 40 refl,
-      no 41 refl,
-      no 33 refl,
-      no 38 refl,
-      no 124 refl,
-      no 61 refl,
-      no 60 refl,
-      no 62 refl,
-      marks.0,
-      marks.1,
-    )
+    rw (s, no 40 refl, no 41 refl, no 33 refl, no 38 refl)
+    (rw (no 124 refl, no 61 refl, no 60 refl, no 62 refl, marks.0, marks.1))
 
 -- ---- a byte that is next, or isn't
 

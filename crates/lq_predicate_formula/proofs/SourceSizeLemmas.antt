@@ -1,12 +1,12 @@
 -- The size of a pattern while its source is read, a piece at a time.
-use Rattle.std.proofs.Common.{◌≡◌, ◌≤◌, ◌+◌, ◌-◌, ◌^◌, ℕ, List, [], ◌∷◌, ◌++◌, length, refl, sym, ap, ◌∙◌, arith, Bool, true, false, Option, Some, None, Bor}
+use Rattle.std.proofs.Common.{◌≡◌, ◌<◌, ◌≤◌, ◌+◌, ◌-◌, ◌^◌, ℕ, List, [], ◌∷◌, ◌++◌, length, refl, sym, ap, ◌∙◌, arith, Bool, true, false, Option, Some, None, Bor}
 use Rattle.std.specs.Prelude.{Result, Ok, Err, if◌then◌else◌, encode_utf8}
 use Rattle.std.proofs.lemmas.Option.{none-some, some_pair_parts}
 use Rattle.std.proofs.lemmas.Str.{encode_ascii}
 use Rattle.std.proofs.Math.Dec.{lit<}
 use Rattle.std.specs.Str.{encode_utf8_all, IsUtf8}
 use Rattle.lq_value.specs.Element.{Element}
-use Rattle.lq_value.specs.Element.TheVariants.{Any, Set, Star}
+use Rattle.lq_value.specs.Element.TheVariants.{Set}
 use Rattle.lq_value.specs.Item.{Item}
 use Rattle.lq_value.specs.FirstItem.{FirstItem}
 use Rattle.lq_value.specs.FirstItem.TheVariants as items
@@ -32,8 +32,7 @@ item_more : (n n' p : ℕ) (i : Item) (r : Pieces Item)
     → items_sized n' r ≡ items_sized n (begin i r)
 item_more n n' p i (whole is rest) e new =
     let split = item_split i is in
-    ap (λ k. Some (k, rest)) (let same : capped (n' + items_bytes is)
-    ≡ capped (n + items_bytes (i ∷ is)) = omega (arith, e, new, split) in same)
+    ap (λ k. Some (k, rest)) (omega (arith, e, new, split))
 item_more n n' p i (stuck rest) e new = refl
 
 -- while a set's source is read: one item more keeps what the whole will be
@@ -45,25 +44,18 @@ items_on law n n' p ss rest i all so_far is e new =
     item_more n n' p i (pieces_of item_at rest) e new
     ∙ sym (ap (items_sized n) (step_by law.items ss (has i rest) is)) ∙ so_far
 
--- a set with no more items has one byte, its `]`
-end_bytes : items_bytes [] ≡ 1
-end_bytes = ap (λ t. length (t ++ [])) (encode_ascii 93 (lit< tt))
-
--- `*` has one byte
-pub star_bytes : length (encode_utf8_all (element_then Star [])) ≡ 1
-star_bytes = ap (λ t. length (t ++ [])) (encode_ascii 42 (lit< tt))
-
--- and so has `?`
-pub any_bytes : length (encode_utf8_all (element_then Any [])) ≡ 1
-any_bytes = ap (λ t. length (t ++ [])) (encode_ascii 63 (lit< tt))
+-- an ASCII character has one byte
+pub one_byte : (c : ℕ) → c < 128 → length (encode_utf8_all (c ∷ [])) ≡ 1
+one_byte c small = ap (λ t. length (t ++ [])) (encode_ascii c small)
 
 -- a set's source that ends here is as large as was counted, and its `]`
 pub items_end : SourcesAreWalked → (n n' : ℕ) (ss rest : Signs) (all : Option (ℕ × Signs))
     → items_sized n (pieces_of item_at ss) ≡ all → item_at ss ≡ ends rest → n' ≡ capped (n + 1)
     → all ≡ Some (n', rest)
 items_end law n n' ss rest all so_far is new =
-    sym so_far ∙ ap (items_sized n) (step_by law.items ss (ends rest) is) ∙ ap (λ k. Some (k, rest))
-    (let same : capped (n + items_bytes []) ≡ n' = omega (arith, new, end_bytes) in same)
+    let size : capped (n + items_bytes []) ≡ n' = omega (arith, new, one_byte 93 (lit< tt)) in
+    sym so_far ∙ ap (items_sized n) (step_by law.items ss (ends rest) is)
+    ∙ ap (λ k. Some (k, rest)) size
 
 -- a set's source that is bad here is bad
 pub items_stuck : SourcesAreWalked → (n : ℕ) (ss : Signs) (all : Option (ℕ × Signs))
@@ -125,14 +117,13 @@ set_bytes : (negated : Bool) (is : List Item)
     → length (encode_utf8_all (element_then (Set negated is) []))
     ≡ (if negated then 2 else 1) + items_bytes is
 set_bytes true is =
-    let one = ap (λ t. length (t ++ (encode_utf8 94 ++ encode_utf8_all (items_then is []))))
-    (encode_ascii 91 (lit< tt)) in
-    let two =
-    ap (λ t. length (t ++ encode_utf8_all (items_then is []))) (encode_ascii 94 (lit< tt)) in
+    let text = encode_utf8_all (items_then is []) in
+    let one = ap (λ t. length (t ++ (encode_utf8 94 ++ text))) (encode_ascii 91 (lit< tt)) in
+    let two = ap (λ t. length (t ++ text)) (encode_ascii 94 (lit< tt)) in
     omega (arith, one, two)
 set_bytes false is =
-    let one =
-    ap (λ t. length (t ++ encode_utf8_all (items_then is []))) (encode_ascii 91 (lit< tt)) in
+    let text = encode_utf8_all (items_then is []) in
+    let one = ap (λ t. length (t ++ text)) (encode_ascii 91 (lit< tt)) in
     omega (arith, one)
 
 -- a set with an item is an element
@@ -170,8 +161,7 @@ measured text n (stuck rest) = Err (length text - signs_len rest)
 -- nothing counted before leaves a pattern's size as it is
 measured_by : (text : List ℕ) (r : Pieces Element)
     → measured text 0 r ≡ pattern_sized (elements_or_place text r)
-measured_by text (whole es rest) = ap Ok
-    (let same : capped (0 + pattern_bytes es) ≡ capped (pattern_bytes es) = omega arith in same)
+measured_by text (whole es rest) = ap Ok (omega arith)
 measured_by text (stuck rest) = refl
 
 -- before the first element, what is to be counted is the size of the whole pattern
@@ -185,8 +175,7 @@ element_more : (text : List ℕ) (n n' p : ℕ) (e : Element) (r : Pieces Elemen
     → measured text n' r ≡ measured text n (begin e r)
 element_more text n n' p e (whole es rest) is new =
     let split = element_split e es in
-    ap Ok (let same : capped (n' + pattern_bytes es)
-    ≡ capped (n + pattern_bytes (e ∷ es)) = omega (arith, is, new, split) in same)
+    ap Ok (omega (arith, is, new, split))
 element_more text n n' p e (stuck rest) is new = refl
 
 -- while a pattern's source is read: one element more keeps what the whole will be

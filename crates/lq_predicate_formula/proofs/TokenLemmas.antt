@@ -2,7 +2,7 @@
 use Rattle.std.proofs.Common.{◌≡◌, ◌<◌, ◌≤◌, ◌+◌, ℕ, zero, suc, true, false, List, [], ◌∷◌, length, get_or, drop, refl, sym, ap, ap₂, ◌∙◌, arith, subst, length-drop}
 use Rattle.lq_predicate_formula.specs.Bytes.{is_space}
 use Rattle.lq_predicate_formula.specs.Tokens.{Placed, HasOneTokenList, HasTokens}
-use Rattle.lq_predicate_formula.specs.Lexing.{spaces, is_symbol, symbol_front, front, front_at, placed_at, BeginsBy, trimmed}
+use Rattle.lq_predicate_formula.specs.Lexing.{spaces, is_symbol, symbol_front, front, front_at, placed_at, trimmed}
 use Rattle.lq_predicate_formula.proofs.SignLemmas.{HasFronts, front_stands, token_starts, tokens_by, tokens_of_fronts, trimmed_begun}
 
 -- what stands at the front of a text has a size
@@ -41,12 +41,10 @@ has_first n at bs (c ∷ cs) e h others =
     let b = trimmed_begun bs (omega arith) in
     let same : b.0 ≡ c = ap (λ l. get_or l 0 0) (sym b.2 ∙ e) in
     let some : 0 < (front c cs).size = front_size c cs (sym (ap is_space same) ∙ b.3) in
-    let next = at + spaces bs + (front c cs).size in
-    let P : List ℕ → Type 0 =
-    λ l. BeginsBy (at + spaces bs) l (placed_at (at + spaces bs) (front c cs)) next ds in (
+    let next = at + spaces bs + (front c cs).size in (
       next,
       ds,
-      subst P (sym e) (omega arith, refl, refl, refl),
+      rw e (omega arith, refl, refl, refl),
       others next ds (omega (arith, length-drop (front c cs).size (c ∷ cs))),
     )
 

@@ -106,17 +106,15 @@ one_clear b bs h k = rw (ne_eqb b 92 h, ne_eqb b 34 k)
 all_high : (bs : List ℕ) → AreHigh bs → quoted bs ≡ bs
 all_high [] h = refl
 all_high (b ∷ bs) h =
-    one_clear b bs (λ e. omega (arith, h.0, e)) (λ e. omega (arith, h.0, e))
-    ∙ ap (λ l. b ∷ l) (all_high bs h.1)
+    rw (one_clear b bs (λ e. omega (arith, h.0, e)) (λ e. omega (arith, h.0, e)), all_high bs h.1)
 
 -- a character that is no `\` and no `"` is quoted as itself
 pub quoted_clear : (c : ℕ) → (c ≡ 92 → ⊥) → (c ≡ 34 → ⊥) → quoted (encode_utf8 c) ≡ encode_utf8 c
 quoted_clear c h k =
     let o = opened c in
-    ap quoted o.split ∙ one_clear o.first o.tail
-    (first_not 92 c o.first (lit< tt) o.first_is h)
-    (first_not 34 c o.first (lit< tt) o.first_is k)
-    ∙ ap (λ l. o.first ∷ l) (all_high o.tail o.high) ∙ sym o.split
+    let clear = one_clear o.first o.tail (first_not 92 c o.first (lit< tt) o.first_is h)
+    (first_not 34 c o.first (lit< tt) o.first_is k) in
+    rw (o.split, clear, all_high o.tail o.high)
 
 -- `\` is quoted as two of it
 pub quoted_backslash : (c : ℕ) → c ≡ 92 → quoted (encode_utf8 c) ≡ 92 ∷ 92 ∷ []
@@ -199,10 +197,10 @@ module _ {V : Type 0} (after : V → List ℕ → V)
   comparison_put base s1 s2 s3 s4 s5 s6 attr op literal e1 e2 e3 e4 e5 e6 =
       let last = literal_text literal ++ 34 ∷ 41 ∷ [] in
       let behind = op_text op ++ 34 ∷ last in
-      e6 ∙ ap (λ s. after s (34 ∷ 41 ∷ [])) e5 ∙ joined s4 (literal_text literal) (34 ∷ 41 ∷ [])
-      ∙ ap (λ s. after s last) e4 ∙ joined s3 (34 ∷ []) last
-      ∙ ap (λ s. after s (34 ∷ last)) e3 ∙ joined s2 (op_text op) (34 ∷ last)
-      ∙ ap (λ s. after s behind) e2 ∙ joined s1 (attr_then attr []) behind
-      ∙ ap (λ s. after s (attr_then attr [] ++ behind)) e1
-      ∙ joined base (40 ∷ []) (attr_then attr [] ++ behind)
+      let text = attr_then attr [] ++ behind in
+      e6 ∙ on s4 s5 _ (literal_text literal) (34 ∷ 41 ∷ []) last refl
+      (on s3 s4 _ (34 ∷ []) last (34 ∷ last) refl
+      (on s2 s3 _ (op_text op) (34 ∷ last) behind refl
+      (on s1 s2 _ (attr_then attr []) behind text refl
+      (on base s1 _ (40 ∷ []) text (40 ∷ text) refl refl e1) e2) e3) e4) e5
       ∙ ap (λ t. after base (40 ∷ t)) (sym (attr_then-append attr [] behind))
