@@ -2,11 +2,11 @@
 use Rattle.std.proofs.Common.{◌≡◌, ◌<◌, ◌≤◌, ◌+◌, ℕ, suc, true, false, List, ◌∷◌, length, get_or, drop, Option, Some, None, refl, ap, arith, add-one, drop-cons, zero, pred, IsUtf8, subst, length-drop, get_or-drop, ◌∙◌}
 use Rattle.std.specs.Prelude.{option_map, ◌==◌}
 use Rattle.std.proofs.lemmas.List.{drop_all}
-use Rattle.lq_predicate_formula.specs.Bytes.{is_space, ends_word}
-use Rattle.lq_predicate_formula.specs.Lexing.{spaces, word_bytes, quoted_bytes}
 use Rattle.std.specs.Str.{IsCharBoundary}
 use Rattle.std.proofs.lemmas.Str.{IsCharBoundary-after_ascii}
 use Rattle.std.proofs.iter.FirstChar.{at_start}
+use Rattle.lq_predicate_formula.specs.Bytes.{is_space, ends_word}
+use Rattle.lq_predicate_formula.specs.Lexing.{spaces, word_bytes, quoted_bytes}
 
 -- a text from a place on is the byte there, and then the text from the next place on
 pub at_byte : (bs : List ℕ) (n : ℕ) → n < length bs → drop n bs ≡ get_or bs n 0 ∷ drop (n + 1) bs

@@ -6,7 +6,7 @@ use Rattle.lq_value.specs.declared.literal.Literal.{Literal}
 use Rattle.lq_value.specs.declared.op.Op.{Op}
 use Rattle.lq_predicate_formula.specs.Tokens.{Token, opens, closes, bang, ands, ors, op, word}
 use Rattle.lq_predicate_formula.specs.Literals.{name_of, literal_of}
-use Rattle.lq_predicate_formula.specs.Query.{Compare, both_of}
+use Rattle.lq_predicate_formula.specs.Query.{Query, Compare, both_of}
 use Rattle.lq_predicate_formula.specs.Grammar.{nesting}
 use Rattle.lq_predicate_formula.specs.Machine.{Frame, Expected, operand, after_attr, after_op, after_operand, MachineState, completed, empty_frame, run, said_by, start, step, steps}
 
@@ -119,6 +119,15 @@ steps_run [] x s rest e = ap (λ y. run y rest) (same_Some x s e)
 steps_run (t ∷ ts) x s rest e =
     let h = led (λ y. steps y ts) (step x t) s e in
     ap (option_and_then (λ y. run y (ts ++ rest))) h.1 ∙ steps_run ts h.0 s rest h.2
+
+-- tokens that begin what is read lead to a state
+pub comes : (ts rest : List Token) (x : MachineState) (q : Query)
+    → run x (ts ++ rest) ≡ Some q → (s : MachineState) × (steps x ts ≡ Some s)
+comes [] rest x q e = (x, refl)
+comes (t ∷ ts) rest x q e =
+    let h = led (λ y. run y (ts ++ rest)) (step x t) q e in
+    let c = comes ts rest h.0 q h.2 in
+    (c.0, ap (option_and_then (λ y. steps y ts)) h.1 ∙ c.1)
 
 -- ---- the last token
 

@@ -11,11 +11,9 @@ use Rattle.lq_predicate_formula.specs.Faults.{AreFine, HasOneReading, IsFaultOf,
 use Rattle.lq_predicate_formula.specs.MachineReading.{finished, machine_reading, read_tokens}
 use Rattle.lq_predicate_formula.proofs.TokenLemmas.{one_token_list, tokens_same}
 use Rattle.lq_predicate_formula.proofs.CompleteLemmas.{formula_runs}
-use Rattle.lq_predicate_formula.proofs.DepthLemmas.{comes}
-use Rattle.lq_predicate_formula.proofs.ExactLemmas.{fault_is}
-use Rattle.lq_predicate_formula.proofs.MoveLemmas.{steps_run}
+use Rattle.lq_predicate_formula.proofs.StoppedLemmas.{fault_is, Seen, seen_fine, next, Stops, at_one, behind_all, stops}
+use Rattle.lq_predicate_formula.proofs.MoveLemmas.{comes, steps_run}
 use Rattle.lq_predicate_formula.proofs.StopLemmas.{ends_none, reads_at_end}
-use Rattle.lq_predicate_formula.proofs.StoppedLemmas.{Seen, seen_fine, next, Stops, at_one, behind_all, stops}
 use Rattle.lq_predicate_formula.proofs.TakenLemmas.{fine as fine_of}
 use Rattle.lq_predicate_formula.proofs.WordLemmas.{formula_words}
 

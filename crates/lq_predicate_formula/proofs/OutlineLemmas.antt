@@ -8,8 +8,7 @@ use Rattle.lq_predicate_formula.specs.Tokens.{Token, opens, closes, bang, ands, 
 use Rattle.lq_predicate_formula.specs.Machine.{Expected, operand, after_attr, after_op, after_operand, MachineState, start, step, steps}
 use Rattle.lq_predicate_formula.specs.Faults.{CanStand, kind_of}
 use Rattle.lq_predicate_formula.proofs.CompleteLemmas.{formula_runs}
-use Rattle.lq_predicate_formula.proofs.DepthLemmas.{comes}
-use Rattle.lq_predicate_formula.proofs.MoveLemmas.{led, move, Move, enter, deny, attribute, operator, complete, one_and, one_or, leave}
+use Rattle.lq_predicate_formula.proofs.MoveLemmas.{comes, led, move, Move, enter, deny, attribute, operator, complete, one_and, one_or, leave}
 
 -- what is expected, and how many parentheses are open
 pub record Outline : Type 0 where

@@ -2,12 +2,12 @@
 use Rattle.std.proofs.Common.{◌≡◌, ℕ, zero, suc, ◌+◌, ◌<◌, ◌≤◌, List, [], ◌∷◌, ◌++◌, length, drop, get_or, sym, ap, ◌∙◌, arith, refl, true, false, nat_le}
 use Rattle.std.specs.List.{AllByRecursion}
 use Rattle.std.proofs.lemmas.List.{at_drop_more}
+use Rattle.std.proofs.lemmas.Bool.{and_parts}
+use Rattle.std.proofs.Math.Dec.{leb-suc-zero}
 use Rattle.lq_predicate_formula.specs.Query.{Query, Queries, and_then, queries, Compare, Not, And, Or}
 use Rattle.lq_predicate_formula.specs.Canonical.{depth, deepest}
 use Rattle.lq_predicate_formula.specs.Names.{with_name, each_once}
-use Rattle.std.proofs.lemmas.Bool.{and_parts}
 use Rattle.lq_predicate_formula.specs.PredicateLimits.{is_formed, are_formed}
-use Rattle.std.proofs.Math.Dec.{leb-suc-zero}
 
 -- what is made of the parts from a place on, at a part and at the end
 pub parts_here : {Y : Type 0} (F : Queries → Y) (parts : List Query) (i : ℕ) (q : Query)

@@ -1,15 +1,60 @@
--- What was quoted reads back, and ends at its mark; characters between marks.
-use Rattle.std.proofs.Common.{◌≡◌, ℕ, Bool, true, false, List, [], ◌∷◌, refl, ap, ◌++◌, sym, ◌∙◌, subst, arith}
+-- The bytes of an encoded character; what was quoted reads back, and ends at its mark.
+use Rattle.std.proofs.Common.{◌≡◌, ◌≤◌, ◌<◌, ◌⊎◌, ◌+◌, ◌/◌, ◌%◌, ℕ, Bool, true, false, cond, List, [], ◌∷◌, refl, inl, inr, ◌∙◌, sym, arith, ap, ◌++◌, subst}
+use Rattle.std.proofs.Math.Dec.{ltb, lit<}
+use Rattle.std.proofs.Math.Utf8.{encode}
 use Rattle.std.specs.Prelude.{◌==◌, ◌||◌, if◌then◌else◌}
-use Rattle.lq_predicate_formula.specs.Literals.{unescaped}
-use Rattle.lq_predicate_formula.specs.Canonical.{quoted}
-use Rattle.lq_predicate_formula.specs.Tokens.{plain, escaped, AreWithout}
 use Rattle.std.specs.Str.{encode_utf8_all}
 use Rattle.std.proofs.lemmas.Bool.{ne_eqb}
 use Rattle.std.proofs.lemmas.Str.{encode_ascii}
-use Rattle.std.proofs.Math.Dec.{lit<}
-use Rattle.std.proofs.Math.Utf8.{encode}
-use Rattle.lq_predicate_formula.proofs.CharLemmas.{AreHigh, first_not, opened}
+use Rattle.lq_predicate_formula.specs.Literals.{unescaped}
+use Rattle.lq_predicate_formula.specs.Canonical.{quoted}
+use Rattle.lq_predicate_formula.specs.Tokens.{plain, escaped, AreWithout}
+
+-- each byte is 128 or more
+abbrev pub AreHigh : List ℕ → Type 0
+AreHigh [] = Unit {0}
+AreHigh (b ∷ bs) = (128 ≤ b) × AreHigh bs
+
+-- a first byte, which is the character or 128 or more, and bytes of 128 or more after it
+pub record Opened (c : ℕ) (bs : List ℕ) : Type 0 where
+  pub first : ℕ
+  pub tail : List ℕ
+  pub split : bs ≡ first ∷ tail
+  pub high : AreHigh tail
+  pub first_is : (first ≡ c) ⊎ (128 ≤ first)
+
+-- such bytes
+opened_by : (c first : ℕ) (tail : List ℕ) → AreHigh tail → (first ≡ c) ⊎ (128 ≤ first)
+    → Opened c (first ∷ tail)
+opened_by c first tail high is =
+    record { first = first; tail = tail; split = refl; high = high; first_is = is }
+
+-- each form of an encoded character has such bytes
+cases : (x y z : Bool) (c p q r u v w m n o : ℕ)
+    → Opened c (cond x (c ∷ [])
+    (cond y ((192 + p) ∷ (128 + q) ∷ [])
+    (cond z ((224 + r) ∷ (128 + u) ∷ (128 + v) ∷ [])
+    ((240 + w) ∷ (128 + m) ∷ (128 + n) ∷ (128 + o) ∷ []))))
+cases true y z c p q r u v w m n o = opened_by c c [] tt (inl refl)
+cases false true z c p q r u v w m n o =
+    opened_by c (192 + p) ((128 + q) ∷ []) (omega arith) (inr (omega arith))
+cases false false true c p q r u v w m n o =
+    opened_by c (224 + r) ((128 + u) ∷ (128 + v) ∷ []) (omega arith) (inr (omega arith))
+cases false false false c p q r u v w m n o =
+    opened_by c (240 + w) ((128 + m) ∷ (128 + n) ∷ (128 + o) ∷ []) (omega arith)
+    (inr (omega arith))
+
+-- an encoded character has such bytes
+pub opened : (c : ℕ) → Opened c (encode c)
+unfolding encode
+opened c = cases (ltb c 128) (ltb c 2048) (ltb c 65536) c (c / 64) (c % 64) (c / 4096) (c / 64 % 64)
+    (c % 64) (c / 262144) (c / 4096 % 64) (c / 64 % 64) (c % 64)
+
+-- the first byte of a character other than this ASCII one is not its byte
+pub first_not : (m c first : ℕ) → m < 128 → (first ≡ c) ⊎ (128 ≤ first) → (c ≡ m → ⊥) → first ≡ m
+    → ⊥
+first_not m c first small (inl e) other is = other (sym e ∙ is)
+first_not m c first small (inr high) other is = omega (arith, small, high, is)
 
 -- one byte more, escaped or not, reads back
 back_by : (b : ℕ) (bs : List ℕ) (x y : Bool) → (b == 92) ≡ x → unescaped false (quoted bs) ≡ bs

@@ -8,7 +8,7 @@ use Rattle.std.specs.Prelude.{◌==◌, if◌then◌else◌, is_some, Some, None
 use Rattle.lq_value.specs.declared.refusal.Refusal.TheVariants.{BadName}
 use Rattle.lq_value.specs.Name.{is_attr_name}
 use Rattle.lq_predicate_formula.specs.Literals.{has_no_nul, name_refusal, unescaped}
-use Rattle.lq_predicate_formula.proofs.CharLemmas.{AreHigh, first_not, opened}
+use Rattle.lq_predicate_formula.proofs.QuotingLemmas.{AreHigh, first_not, opened}
 use Rattle.lq_predicate_formula.proofs.CountLemmas.{at_byte}
 use Rattle.std.proofs.lemmas.List.{drop_all, nil_from_length}
 

@@ -1,23 +1,58 @@
--- The size of a pattern while its source is read, a piece at a time.
-use Rattle.std.proofs.Common.{◌≡◌, ◌<◌, ◌≤◌, ◌+◌, ◌-◌, ◌^◌, ℕ, List, [], ◌∷◌, ◌++◌, length, refl, sym, ap, ◌∙◌, arith, Bool, true, false, Option, Some, None, Bor}
+-- The lengths of canonical texts, and the size of a pattern while its source is read.
+use Rattle.std.proofs.Common.{◌≡◌, ◌+◌, ◌≤◌, min, ℕ, List, [], ◌∷◌, ◌++◌, length, ap, ◌∙◌, arith, ◌<◌, ◌-◌, ◌^◌, refl, sym, Bool, true, false, Option, Some, None, Bor}
+use Rattle.std.proofs.lemmas.List.{length-append}
+use Rattle.std.specs.Str.{encode_utf8_all, IsUtf8}
 use Rattle.std.specs.Prelude.{Result, Ok, Err, if◌then◌else◌, encode_utf8}
 use Rattle.std.proofs.lemmas.Option.{none-some, some_pair_parts}
 use Rattle.std.proofs.lemmas.Str.{encode_ascii}
 use Rattle.std.proofs.Math.Dec.{lit<}
-use Rattle.std.specs.Str.{encode_utf8_all, IsUtf8}
 use Rattle.lq_value.specs.Element.{Element}
-use Rattle.lq_value.specs.Element.TheVariants.{Set}
 use Rattle.lq_value.specs.Item.{Item}
+use Rattle.lq_value.specs.declared.literal.Literal.{Literal}
+use Rattle.lq_value.specs.declared.op.Op.{Op}
+use Rattle.lq_value.specs.Element.TheVariants.{Set}
 use Rattle.lq_value.specs.FirstItem.{FirstItem}
 use Rattle.lq_value.specs.FirstItem.TheVariants as items
 use Rattle.lq_value.specs.Reading.{first_item_of}
 use Rattle.lq_value.specs.Laws.{AreWalked, SourcesAreWalked}
 use Rattle.lq_value.specs.Sign.{Signs, signs_of, signs_len}
 use Rattle.lq_value.specs.Source.{First, ends, has, faulty, Pieces, whole, stuck, begin, after_first, elements_or_place, element_at, item_at, pattern_of, pieces_of, set_with}
-use Rattle.lq_predicate_formula.specs.Canonical.{element_then, item_then, items_then}
+use Rattle.lq_predicate_formula.specs.Query.{Compare}
+use Rattle.lq_predicate_formula.specs.Canonical.{in_marks, attr_then, op_text, literal_text, pattern_text, element_then, item_then, items_then, canonical}
 use Rattle.lq_predicate_formula.specs.Capped.{capped}
 use Rattle.lq_predicate_formula.specs.Sizes.{HasSize, pattern_bytes, items_bytes, pattern_sized, items_sized}
-use Rattle.lq_predicate_formula.proofs.SizeLemmas.{element_split, item_split}
+use Rattle.lq_predicate_formula.proofs.WritingLemmas.{attr_then-append, items_step, list_step}
+
+-- a comparison's text has four bytes beside those of its three parts
+pub length-comparison : (attr : List ℕ) (op : Op) (literal : Literal)
+    → length (canonical (Compare attr op literal))
+    ≡ ((length (attr_then attr []) + length (op_text op)) + length (literal_text literal)) + 4
+length-comparison attr op literal =
+    let behind = op_text op ++ in_marks (literal_text literal) (41 ∷ []) in
+    let a =
+    ap length (attr_then-append attr [] behind) ∙ length-append (attr_then attr []) behind in
+    let b = length-append (op_text op) (in_marks (literal_text literal) (41 ∷ [])) in
+    let d = length-append (literal_text literal) (34 ∷ 41 ∷ []) in
+    omega (arith, a, b, d)
+
+-- ---- patterns
+
+-- a pattern's text is as long as that of its first element and that of the others
+pub element_split : (e : Element) (es : List Element)
+    → length (encode_utf8_all (pattern_text (e ∷ es)))
+    ≡ length (encode_utf8_all (element_then e [])) + length (encode_utf8_all (pattern_text es))
+element_split e es = ap length (list_step e es)
+    ∙ length-append (encode_utf8_all (element_then e [])) (encode_utf8_all (pattern_text es))
+
+-- a set's text is as long as that of its first item and that of the others
+pub item_split : (i : Item) (is : List Item) → length (encode_utf8_all (items_then (i ∷ is) []))
+    ≡ length (encode_utf8_all (item_then i [])) + length (encode_utf8_all (items_then is []))
+item_split i is = ap length (items_step i is)
+    ∙ length-append (encode_utf8_all (item_then i [])) (encode_utf8_all (items_then is []))
+
+-- the smaller of two is no larger than the second
+pub capped_bound : (n n' m : ℕ) → n' ≡ min n m → n' ≤ m
+capped_bound n n' m e = omega (arith, e)
 
 -- the pieces, where it is known what is first
 step_by : {A : Type 0} {first : Signs → First A} (w : AreWalked first) (ss : Signs) (r : First A)

@@ -17,7 +17,7 @@ use Rattle.lq_value.specs.Item.TheVariants.{One, Range}
 use Rattle.lq_value.specs.Pattern.{plain_elements}
 use Rattle.lq_value.specs.declared.literal.Literal.{Literal}
 use Rattle.lq_value.specs.declared.op.Op.{Op}
-use Rattle.lq_predicate_formula.proofs.CharLemmas.{AreHigh, first_not, opened}
+use Rattle.lq_predicate_formula.proofs.QuotingLemmas.{AreHigh, first_not, opened}
 use Rattle.lq_predicate_formula.specs.Query.{Compare}
 use Rattle.lq_predicate_formula.specs.Canonical.{is_bare_byte, quoted, in_marks, attr_then, op_text, literal_text, pattern_text, element_then, plain_then, in_set_then, item_then, items_then, canonical}
 

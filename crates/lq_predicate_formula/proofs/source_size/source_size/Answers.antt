@@ -1,6 +1,5 @@
 use Rattle.std.proofs.Common.{arith}
-use Rattle.lq_predicate_formula.proofs.SourceSizeLemmas.{elements_on, elements_end, elements_stuck, none_measured}
-use Rattle.lq_predicate_formula.proofs.SizeLemmas.{capped_bound}
+use Rattle.lq_predicate_formula.proofs.SourceSizeLemmas.{elements_on, elements_end, elements_stuck, none_measured, capped_bound}
 use Rattle.lq_predicate_formula.proofs.source_size.source_size.Goals as goal
 
 pub returns-in-End : goal.returns-in-End
