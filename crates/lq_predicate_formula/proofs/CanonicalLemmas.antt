@@ -1,22 +1,21 @@
 -- The tokens of a canonical text.
-use Rattle.std.proofs.Common.{◌≡◌, ◌+◌, ℕ, suc, Bool, true, false, cond, List, [], ◌∷◌, ◌++◌, length, drop, refl, sym, ap, ap₂, ◌∙◌, subst, arith, inl, inr, append_assoc}
+use Rattle.std.proofs.Common.{◌≡◌, ◌+◌, ℕ, Bool, true, false, List, [], ◌∷◌, ◌++◌, length, refl, sym, ap, ◌∙◌, subst, inl, inr, append_assoc}
 use Rattle.std.specs.Prelude.{◌==◌, if◌then◌else◌}
 use Rattle.std.specs.List.{list_all}
-use Rattle.std.proofs.Math.Seq.{take-append_seam, drop-append_seam, drop-append-add}
 use Rattle.std.proofs.lemmas.Bool.{and_parts, false≢true}
 use Rattle.lq_value.specs.declared.literal.Literal.{Literal}
 use Rattle.lq_value.specs.declared.literal.Literal.TheVariants.{Pattern, Plain}
 use Rattle.lq_value.specs.declared.op.Op.{Op}
 use Rattle.lq_value.specs.declared.op.Op.TheVariants.{Eq, Ne, Lt, Le, Gt, Ge}
 use Rattle.lq_value.specs.Name.{is_attr_name}
-use Rattle.lq_predicate_formula.specs.Bytes.{ends_word, is_space}
-use Rattle.lq_predicate_formula.specs.Tokens.{Token, opens, closes, bang, ands, ors, op, word, Placed, bare, plain, AreSigns, EndsWord}
+use Rattle.lq_predicate_formula.specs.Bytes.{ends_word}
+use Rattle.lq_predicate_formula.specs.Tokens.{Token, opens, closes, bang, ands, ors, op, word, Placed, bare, plain, AreSigns, EndsWord, HasTokens, IsNotNext, IsOp, IsToken, IsUnquoted, Yields}
 use Rattle.lq_predicate_formula.specs.Query.{Query, Compare, Not, And, Or, Queries, no_more, and_then}
 use Rattle.lq_predicate_formula.specs.Canonical.{attr_then, in_marks, is_bare_byte, literal_text, op_text, others_written, parts_written, quoted, written}
 use Rattle.lq_predicate_formula.specs.Limits.{AreProper, IsGoodLiteral, IsProper}
-use Rattle.lq_predicate_formula.specs.Lexing.{BeginsBy, begins_with, front, placed_at, quoted_front, spaces}
+use Rattle.lq_predicate_formula.specs.Lexing.{begins_with}
 use Rattle.lq_predicate_formula.proofs.QuotingLemmas.{Ends, quoted_ends}
-use Rattle.lq_predicate_formula.proofs.SignLemmas.{HasFronts, Starts, not_that, quoted_is, unquoted_starts}
+use Rattle.lq_predicate_formula.proofs.SignLemmas.{is_not_next, not_that}
 use Rattle.lq_predicate_formula.proofs.PatternTextLemmas.{pattern_ends}
 
 -- ---- what a canonical text says
@@ -48,48 +47,41 @@ abbrev mutual
 
 -- the bytes have these tokens, wherever they stand
 abbrev pub Lexes : List ℕ → List Token → Type 0
-Lexes bs ts = (at : ℕ) → (ps : List Placed) × HasFronts at bs ps × (bare ps ≡ ts)
+Lexes bs ts = (at : ℕ) → (ps : List Placed) × HasTokens at bs ps × (bare ps ≡ ts)
 
 -- the empty text has no tokens
 pub lexes_end : Lexes [] []
 lexes_end at = ([], refl, refl)
 
--- a text whose first byte is no space has the token at its front, and then those of the rest
-one : (b : ℕ) (bs rest : List ℕ) (t : Token) (ts : List Token) → is_space b ≡ false
-    → (front b bs).token ≡ t → drop (front b bs).size (b ∷ bs) ≡ rest → Lexes rest ts
-    → Lexes (b ∷ bs) (t ∷ ts)
-one b bs rest t ts e f g h at =
-    let next = at + 0 + (front b bs).size in
+-- a text that begins with a token has that token, and then those of the rest
+one : (t : Token) (inside : ℕ) (part rest : List ℕ) (ts : List Token) → IsToken t inside part rest
+    → Lexes rest ts → Lexes (part ++ rest) (t ∷ ts)
+one t inside part rest ts k h at =
+    let here : Placed = record { place = at + 0; raw_place = at + 0 + inside; token = t } in
+    let next = at + 0 + length part in
     let others = h next in
-    let none : spaces (b ∷ bs) ≡ 0 = ap (λ x. cond x (suc (spaces bs)) 0) e in
-    let P : ℕ → Type 0 =
-    λ n. BeginsBy (at + n) (drop n (b ∷ bs)) (placed_at (at + 0) (front b bs)) next rest in (
-      placed_at (at + 0) (front b bs) ∷ others.0,
-      (next, rest, subst P (sym none) (omega arith, refl, refl, sym g), others.1),
-      ap₂ (λ x xs. x ∷ xs) f others.2,
-    )
+    let first : Yields at (part ++ rest) here next rest = record {
+      blank = [];
+      part = part;
+      split = refl;
+      white = refl;
+      token = record { place = refl; inside = inside; raw = refl; token = k };
+      is_next = refl;
+    } in
+    (here ∷ others.0, (next, rest, first, others.1), ap (λ us. t ∷ us) others.2)
 
--- a text that starts with a token has that token, and then those of the rest
-lex_by : (t : Token) (inside : ℕ) (part rest : List ℕ) (ts : List Token)
-    → Starts t inside part rest → Lexes rest ts → Lexes (part ++ rest) (t ∷ ts)
-lex_by t inside part rest ts s h =
-    let bs = s.1 ++ rest in
-    subst (λ p. Lexes (p ++ rest) (t ∷ ts)) (sym s.2)
-    (one s.0 bs rest t ts s.3 (ap (λ f. f.token) s.4)
-    (ap (λ f. drop f.size (s.0 ∷ bs)) s.4 ∙ drop-append_seam (s.0 ∷ s.1) rest) h)
+-- a token that is no quoted text
+plainly : (t : Token) (part rest : List ℕ) (ts : List Token) → IsUnquoted t part rest
+    → Lexes rest ts → Lexes (part ++ rest) (t ∷ ts)
+plainly t part rest ts k h = one t 0 part rest ts (inl (refl, k)) h
 
 -- a quoted text
 lex_quoted : (raw rest : List ℕ) (ts : List Token) → Ends raw → Lexes rest ts
     → Lexes (in_marks raw rest) (word raw ∷ ts)
 lex_quoted raw rest ts ends h =
-    let bs = raw ++ 34 ∷ rest in
-    let size : suc (suc (length raw)) ≡ suc (length raw + 1) = omega arith in
-    let long = quoted_is 34 raw rest (inl refl) ends in
-    one 34 bs rest (word raw) ts refl
-    (ap (λ o. (quoted_front bs o).token) long ∙ ap word (take-append_seam raw (34 ∷ rest)))
-    (ap (λ o. drop (quoted_front bs o).size (34 ∷ bs)) long ∙ ap (λ n. drop n (34 ∷ bs)) size
-    ∙ drop-append-add raw (34 ∷ rest) 1)
-    h
+    subst (λ l. Lexes (34 ∷ l) (word raw ∷ ts)) (append_assoc raw (34 ∷ []) rest)
+    (one (word raw) 1 (34 ∷ (raw ++ 34 ∷ [])) rest ts
+    (inr (refl, (raw, refl, (34, inl refl, ends, refl)))) h)
 
 -- ---- bare words
 
@@ -120,8 +112,7 @@ attr_by : (name rest : List ℕ) (ts : List Token) (t : Bool) → is_attr_name n
     (word (if t then name else quoted name) ∷ ts)
 attr_by name rest ts true named e h k =
     let some : name ≡ [] → ⊥ = λ none. false≢true (sym (ap is_attr_name none) ∙ named) in
-    lex_by (word name) 0 name rest ts
-    (unquoted_starts (word name) name rest (refl, (bare_signs name e, some, h))) k
+    plainly (word name) name rest ts (refl, (bare_signs name e, some, h)) k
 attr_by name rest ts false named e h k = lex_quoted (quoted name) rest ts (quoted_ends name) k
 
 -- ---- operators and literals
@@ -135,15 +126,18 @@ op_stops Le rest = inr (inr (60, 61 ∷ rest, refl, refl))
 op_stops Gt rest = inr (inr (62, rest, refl, refl))
 op_stops Ge rest = inr (inr (62, 61 ∷ rest, refl, refl))
 
--- the text of an operator before a quotation mark is that operator's token
-lex_op : (o : Op) (rest : List ℕ) (ts : List Token) → Lexes (34 ∷ rest) ts
-    → Lexes (op_text o ++ 34 ∷ rest) (op o ∷ ts)
-lex_op Eq rest ts h = one 61 (61 ∷ 34 ∷ rest) (34 ∷ rest) (op Eq) ts refl refl refl h
-lex_op Ne rest ts h = one 33 (61 ∷ 34 ∷ rest) (34 ∷ rest) (op Ne) ts refl refl refl h
-lex_op Lt rest ts h = one 60 (34 ∷ rest) (34 ∷ rest) (op Lt) ts refl refl refl h
-lex_op Le rest ts h = one 60 (61 ∷ 34 ∷ rest) (34 ∷ rest) (op Le) ts refl refl refl h
-lex_op Gt rest ts h = one 62 (34 ∷ rest) (34 ∷ rest) (op Gt) ts refl refl refl h
-lex_op Ge rest ts h = one 62 (61 ∷ 34 ∷ rest) (34 ∷ rest) (op Ge) ts refl refl refl h
+-- no `=` stands before a quotation mark
+no_equals : (rest : List ℕ) → IsNotNext 61 (34 ∷ rest)
+no_equals rest = is_not_next 61 (34 ∷ rest) refl
+
+-- the text of an operator before a quotation mark is that operator
+is_op : (o : Op) (rest : List ℕ) → IsOp o (op_text o) (34 ∷ rest)
+is_op Eq rest = inl refl
+is_op Ne rest = refl
+is_op Lt rest = (refl, no_equals rest)
+is_op Le rest = refl
+is_op Gt rest = (refl, no_equals rest)
+is_op Ge rest = refl
 
 -- the text of a good literal ends at its closing mark and not before
 literal_ends : (literal : Literal) → IsGoodLiteral literal → Ends (literal_text literal)
@@ -159,60 +153,41 @@ begins_no (Not q) rest = refl
 begins_no (And qs) rest = refl
 begins_no (Or qs) rest = refl
 
--- `!` before a canonical text is a token of its own
-lex_bang : (q : Query) (rest : List ℕ) (ts : List Token) → Lexes (written q rest) ts
-    → Lexes (33 ∷ written q rest) (bang ∷ ts)
-lex_bang q rest ts h =
-    one 33 (written q rest) (written q rest) bang ts refl (rw (begins_no q rest))
-    (rw (begins_no q rest)) h
-
--- a separator in bytes, and as a token
-abbrev Separates : List ℕ → Token → Type 0
-Separates bytes t =
-    (rest : List ℕ) (ts : List Token) → Lexes rest ts → Lexes (bytes ++ rest) (t ∷ ts)
-
--- `&&` is one token between two parts
-ands_separate : Separates (38 ∷ 38 ∷ []) ands
-ands_separate rest ts h = one 38 (38 ∷ rest) rest ands ts refl refl refl h
-
--- `||` is one token between two parts
-ors_separate : Separates (124 ∷ 124 ∷ []) ors
-ors_separate rest ts h = one 124 (124 ∷ rest) rest ors ts refl refl refl h
-
 -- a text between parentheses has its tokens between the two parentheses
 in_parens : (inner rest : List ℕ) (ts us : List Token) → Lexes inner (ts ++ closes ∷ us)
     → Lexes (40 ∷ inner) ((opens ∷ (ts ++ closes ∷ [])) ++ us)
 in_parens inner rest ts us h =
     rw (append_assoc ts (closes ∷ []) us)
-    (one 40 inner inner opens (ts ++ closes ∷ us) refl refl refl h)
+    (plainly opens (40 ∷ []) inner (ts ++ closes ∷ us) refl h)
 
 -- `)` is a token of its own
 closing : (rest : List ℕ) (ts : List Token) → Lexes rest ts → Lexes (41 ∷ rest) (closes ∷ ts)
-closing rest ts h = one 41 rest rest closes ts refl refl refl h
+closing rest ts h = plainly closes (41 ∷ []) rest ts refl h
 
 mutual
   -- the canonical text of a proper query has the tokens of `said`
   pub lexes_written : (q : Query) (rest : List ℕ) (ts : List Token) → IsProper q → Lexes rest ts
       → Lexes (written q rest) (said q ++ ts)
   lexes_written (Compare attr o literal) rest ts h k =
-      let behind = op_text o ++ in_marks (literal_text literal) (41 ∷ rest) in
-      one 40 (attr_then attr behind) (attr_then attr behind) opens
-      (word (raw_attr attr) ∷ op o ∷ word (literal_text literal) ∷ closes ∷ ts) refl refl refl
-      (attr_by attr behind (op o ∷ word (literal_text literal) ∷ closes ∷ ts) (list_all is_bare_byte
-      attr) h.0 refl (op_stops o (in_marks (literal_text literal) (41 ∷ rest)))
-      (lex_op o (literal_text literal ++ 34 ∷ 41 ∷ rest) (word (literal_text literal) ∷ closes ∷ ts)
-      (lex_quoted (literal_text literal) (41 ∷ rest) (closes ∷ ts) (literal_ends literal h.1.1)
-      (closing rest ts k))))
-  lexes_written (Not q) rest ts h k = lex_bang q rest (said q ++ ts) (lexes_written q rest ts h k)
+      let l = literal_text literal in
+      let marked = in_marks l (41 ∷ rest) in
+      let us = word l ∷ closes ∷ ts in
+      let behind = op_text o ++ marked in
+      plainly opens (40 ∷ []) (attr_then attr behind) (word (raw_attr attr) ∷ op o ∷ us) refl
+      (attr_by attr behind (op o ∷ us) (list_all is_bare_byte attr) h.0 refl (op_stops o marked)
+      (plainly (op o) (op_text o) marked us (is_op o (l ++ 34 ∷ 41 ∷ rest))
+      (lex_quoted l (41 ∷ rest) (closes ∷ ts) (literal_ends literal h.1.1) (closing rest ts k))))
+  lexes_written (Not q) rest ts h k = plainly bang (33 ∷ []) (written q rest) (said q ++ ts)
+      (refl, is_not_next 61 (written q rest) (begins_no q rest)) (lexes_written q rest ts h k)
   lexes_written (And qs) rest ts h k = in_parens (parts_written (38 ∷ 38 ∷ []) qs (41 ∷ rest)) rest
-      (parts_said ands qs) ts (lexes_parts (38 ∷ 38 ∷ []) ands ands_separate qs (41 ∷ rest)
+      (parts_said ands qs) ts (lexes_parts (38 ∷ 38 ∷ []) ands (λ l. refl) qs (41 ∷ rest)
       (closes ∷ ts) h.1 (closing rest ts k))
   lexes_written (Or qs) rest ts h k = in_parens (parts_written (124 ∷ 124 ∷ []) qs (41 ∷ rest)) rest
-      (parts_said ors qs) ts (lexes_parts (124 ∷ 124 ∷ []) ors ors_separate qs (41 ∷ rest)
+      (parts_said ors qs) ts (lexes_parts (124 ∷ 124 ∷ []) ors (λ l. refl) qs (41 ∷ rest)
       (closes ∷ ts) h.1 (closing rest ts k))
 
   -- the same of the parts of an And or an Or
-  lexes_parts : (bytes : List ℕ) (t : Token) → Separates bytes t
+  lexes_parts : (bytes : List ℕ) (t : Token) → ((l : List ℕ) → IsUnquoted t bytes l)
       → (qs : Queries) (rest : List ℕ) (ts : List Token) → AreProper qs → Lexes rest ts
       → Lexes (parts_written bytes qs rest) (parts_said t qs ++ ts)
   lexes_parts bytes t s no_more rest ts h k = k
@@ -222,12 +197,13 @@ mutual
       (lexes_others bytes t s qs rest ts h.1 k))
 
   -- the same of the parts after the first
-  lexes_others : (bytes : List ℕ) (t : Token) → Separates bytes t
+  lexes_others : (bytes : List ℕ) (t : Token) → ((l : List ℕ) → IsUnquoted t bytes l)
       → (qs : Queries) (rest : List ℕ) (ts : List Token) → AreProper qs → Lexes rest ts
       → Lexes (others_written bytes qs rest) (others_said t qs ++ ts)
   lexes_others bytes t s no_more rest ts h k = k
   lexes_others bytes t s (and_then q qs) rest ts h k =
       rw (append_assoc (said q) (others_said t qs) ts)
-      (s (written q (others_written bytes qs rest)) (said q ++ (others_said t qs ++ ts))
+      (plainly t bytes (written q (others_written bytes qs rest))
+      (said q ++ (others_said t qs ++ ts)) (s (written q (others_written bytes qs rest)))
       (lexes_written q (others_written bytes qs rest) (others_said t qs ++ ts) h.0
       (lexes_others bytes t s qs rest ts h.1 k)))

@@ -1,10 +1,10 @@
 -- What the grammar reads, the machine reads, as the same query.
-use Rattle.std.proofs.Common.{◌≡◌, ℕ, zero, suc, ◌+◌, List, [], ◌∷◌, ◌++◌, Some, sym, ap, ◌∙◌, arith, append_assoc, append-nil, add-zero, inl, inr, option_and_then}
+use Rattle.std.proofs.Common.{◌≡◌, ℕ, zero, suc, ◌+◌, List, [], ◌∷◌, ◌++◌, Some, refl, sym, ap, ◌∙◌, arith, append_assoc, append-nil, add-zero, inl, inr, option_and_then}
 use Rattle.std.specs.Prelude.{option_map}
 use Rattle.std.proofs.lemmas.Option.{same_Some}
 use Rattle.lq_predicate_formula.specs.Tokens.{Token, closes, ands, ors, op, word}
 use Rattle.lq_predicate_formula.specs.Query.{Query, Compare, Not, both_of, either_of}
-use Rattle.lq_predicate_formula.specs.Grammar.{Reading, Follows, IsAnd, IsOr, IsComparison, IsNot, IsFormula}
+use Rattle.lq_predicate_formula.specs.Grammar.{Reading, Follows, Parts, IsAnd, IsComparison, IsNot, IsFormula}
 use Rattle.lq_predicate_formula.specs.Machine.{Frame, operand, after_attr, after_operand, MachineState, empty_frame, start, frame_with, completed, run}
 use Rattle.lq_predicate_formula.proofs.MoveLemmas.{at, negated}
 
@@ -61,42 +61,31 @@ module _ (n : ℕ) (P : Reading) (takes : Takes n P) where
   and_runs ts r h below os rest = ands_run (ands ∷ ts) (h.0 ∷ h.1)
       (h.3.0, h.3.1, ap (λ l. ands ∷ l) h.3.2, h.3.3, h.3.4) below os [] rest
 
-  -- the machine runs over `||` and an and, as often as they follow, and has them in its frame
-  ors_run : (ts : List Token) (rs : List Query) → Follows (IsAnd P) ors ts rs
-      → (below : List Frame) (os xs : List Query) (rest : List Token)
-      → Ends below n (behind below os xs n) ts rest ((os ++ both_of xs ∷ []) ++ rs)
-  ors_run ts [] h below os xs rest = record {
+  -- the machine runs over ands and the `||` between them, and has them in its frame
+  ors_run : (ts : List Token) (r : Query) (rs : List Query) → Parts (IsAnd P) ors ts r rs
+      → (below : List Frame) (os : List Query) (rest : List Token)
+      → Ends below n (at operand below (frame os []) n) ts rest (os ++ (r ∷ rs))
+  ors_run ts r [] h below os rest = record {
     os = os;
-    xs = xs;
-    goes = ap (λ l. run (behind below os xs n) (l ++ rest)) h;
-    says = sym (append-nil (os ++ both_of xs ∷ []));
+    xs = h.3.0 ∷ h.3.1;
+    goes = ap (λ l. run (at operand below (frame os []) n) (l ++ rest))
+        (h.2 ∙ ap (λ b. h.0 ++ b) h.4 ∙ append-nil h.0) ∙ and_runs h.0 r h.3 below os rest;
+    says = ap (λ q. os ++ q ∷ []) (sym h.3.2);
   }
-  ors_run ts (r ∷ rs) h below os xs rest =
-      let more = os ++ both_of xs ∷ [] in
-      let ends = ors_run h.1 rs h.4 below more (h.3.0 ∷ h.3.1) rest in
+  ors_run ts r (q ∷ qs) h below os rest =
+      let k = h.4 in
+      let more = os ++ r ∷ [] in
+      let ends = ors_run (k.0 ++ k.1) q qs (k.0, k.1, refl, k.3, k.4) below more rest in
       record {
         os = ends.os;
         xs = ends.xs;
-        goes = ap (λ l. run (behind below os xs n) (l ++ rest)) h.2
-            ∙ ap (run (at operand below (frame more []) n)) (append_assoc h.0 h.1 rest)
-            ∙ and_runs h.0 r h.3 below more (h.1 ++ rest) ∙ ends.goes;
-        says = ends.says ∙ ap (λ q. (more ++ q ∷ []) ++ rs) (sym h.3.2)
-            ∙ append_assoc more (r ∷ []) rs;
-      }
-
-  -- the machine runs over a whole or, whose parts then stand in its frame
-  or_runs : (ts : List Token) (r : Query) (h : IsOr P ts r) (below : List Frame) (rest : List Token)
-      → Ends below n (at operand below empty_frame n) ts rest (h.0 ∷ h.1)
-  or_runs ts r h below rest =
-      let first = h.3.3 in
-      let ends = ors_run h.3.1 h.1 h.3.4 below [] (first.0 ∷ first.1) rest in
-      record {
-        os = ends.os;
-        xs = ends.xs;
-        goes = ap (λ l. run (at operand below empty_frame n) (l ++ rest)) h.3.2
-            ∙ ap (run (at operand below empty_frame n)) (append_assoc h.3.0 h.3.1 rest)
-            ∙ and_runs h.3.0 h.0 first below [] (h.3.1 ++ rest) ∙ ends.goes;
-        says = ends.says ∙ ap (λ q. q ∷ h.1) (sym first.2);
+        goes = ap (λ l. run (at operand below (frame os []) n) (l ++ rest)) h.2
+            ∙ ap (run (at operand below (frame os []) n)) (append_assoc h.0 h.1 rest)
+            ∙ and_runs h.0 r h.3 below os (h.1 ++ rest)
+            ∙ ap (λ l. run (behind below os (h.3.0 ∷ h.3.1) n) (l ++ rest)) k.2
+            ∙ ap (λ p. run (at operand below (frame (os ++ p ∷ []) []) n) ((k.0 ++ k.1) ++ rest))
+            (sym h.3.2) ∙ ends.goes;
+        says = ends.says ∙ append_assoc os (r ∷ []) (q ∷ qs);
       }
 
 -- the machine takes a comparison, wherever an operand is awaited
@@ -116,7 +105,8 @@ not_runs (suc n) a q h below f rest = elim h [
   | inl c ↦ comparison_runs (suc n) a q c below f rest
   | inr g ↦ elim g [
     | inl p ↦
-        let ends = or_runs n (IsNot n) (not_runs n) p.0 q p.2 (f ∷ below) (closes ∷ rest) in
+        let ends = ors_run n (IsNot n) (not_runs n) p.0 p.2.0 p.2.1 p.2.3 (f ∷ below) []
+        (closes ∷ rest) in
         ap (λ l. run (at operand below f (suc n)) (l ++ rest)) p.1
         ∙ ap (run (at operand (f ∷ below) empty_frame n)) (append_assoc p.0 (closes ∷ []) rest)
         ∙ ends.goes
@@ -134,7 +124,7 @@ not_runs (suc n) a q h below f rest = elim h [
 pub formula_runs : (n : ℕ) (ts : List Token) (q : Query) → IsFormula n ts q
     → run (start n) ts ≡ Some q
 formula_runs n ts q h =
-    let ends = or_runs n (IsNot n) (not_runs n) ts q h [] [] in
+    let ends = ors_run n (IsNot n) (not_runs n) ts h.0 h.1 h.3 [] [] [] in
     ap (run (start n)) (sym (append-nil ts)) ∙ ends.goes ∙ ap (λ ps. Some (either_of ps)) ends.says
     ∙ ap Some (sym h.2)
 

@@ -17,7 +17,6 @@ use Rattle.lq_predicate_formula.specs.Grammar.{Reading, Follows, IsAnd, IsOr, Is
 use Rattle.lq_predicate_formula.specs.Canonical.{canonical, deepest, depth, is_bare_byte, literal_text, quoted}
 use Rattle.lq_predicate_formula.specs.Limits.{AreProper, HasTwo, IsGoodLiteral, IsProper, IsWithinLimits}
 use Rattle.lq_predicate_formula.specs.Faults.{Reads}
-use Rattle.lq_predicate_formula.proofs.SignLemmas.{tokens_of_fronts}
 use Rattle.lq_predicate_formula.proofs.SoundLemmas.{comparison_reads}
 use Rattle.lq_predicate_formula.proofs.QuotingLemmas.{quoted_back}
 use Rattle.lq_predicate_formula.proofs.PatternTextLemmas.{pattern_written}
@@ -142,7 +141,7 @@ canonical_reads law q h =
     record {
       short = h.brief;
       tokens = lexed.0;
-      has = tokens_of_fronts lexed.0 0 (canonical q) lexed.1;
+      has = lexed.1;
       formula = subst (λ ts. IsFormula nesting ts q) (sym (lexed.2 ∙ append-nil (said q))) reads;
       few = h.few;
       shallow = h.shallow;

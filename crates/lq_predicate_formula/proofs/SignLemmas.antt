@@ -57,7 +57,7 @@ not_next c [] h = refl
 not_next c (b ∷ bs) h = ne_eqb b c (λ e. absurd (h bs (ap (λ x. x ∷ bs) e)))
 
 -- where the lexer doesn't see a byte, it isn't next
-is_not_next : (c : ℕ) (rest : List ℕ) → begins_with c rest ≡ false → IsNotNext c rest
+pub is_not_next : (c : ℕ) (rest : List ℕ) → begins_with c rest ≡ false → IsNotNext c rest
 is_not_next c rest h bs e =
     true≢false (sym (eq-eqb c c refl) ∙ sym (ap (begins_with c) e) ∙ h)
 
@@ -147,7 +147,7 @@ mark_ends m rest (inl e) = rw e
 mark_ends m rest (inr e) = rw e
 
 -- a quoted text ends at its mark
-pub quoted_is : (m : ℕ) (raw rest : List ℕ) → IsQuote m → AreWithout m raw
+quoted_is : (m : ℕ) (raw rest : List ℕ) → IsQuote m → AreWithout m raw
     → quoted_bytes m false (raw ++ m ∷ rest) ≡ Some (length raw)
 quoted_is m raw rest mark h =
     let e : length (sign_bytes h.0) + 0 ≡ length (sign_bytes h.0) = omega arith in
@@ -187,7 +187,7 @@ op_starts Gt part rest h = (62, [], h.0, refl, rw (not_next 61 rest h.1))
 op_starts Ge part rest e = (62, 61 ∷ [], e, refl, refl)
 
 -- a token that is no quoted text
-pub unquoted_starts : (t : Token) (part rest : List ℕ) → IsUnquoted t part rest → Starts t 0 part rest
+unquoted_starts : (t : Token) (part rest : List ℕ) → IsUnquoted t part rest → Starts t 0 part rest
 unquoted_starts opens part rest e = (40, [], e, refl, refl)
 unquoted_starts closes part rest e = (41, [], e, refl, refl)
 unquoted_starts bang part rest h = (33, [], h.0, refl, rw (not_next 61 rest h.1))
