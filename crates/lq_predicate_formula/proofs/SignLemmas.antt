@@ -360,42 +360,26 @@ word_splits (b ∷ bs) =
       ),
     )
 
+-- the raw text is all, but perhaps a last `\`, or it has this many bytes and the mark comes next
+abbrev Tail : ℕ → Option ℕ → List ℕ → List ℕ → Type 0
+Tail m None raw bs = (bs ≡ raw) ⊎ (bs ≡ raw ++ 92 ∷ [])
+Tail m (Some n) raw bs = (rest : List ℕ) × (length raw ≡ n) × (bs ≡ raw ++ m ∷ rest)
+
 -- a quoted text of this many bytes, or one without an end
 abbrev Closed : ℕ → Option ℕ → List ℕ → Type 0
-Closed m None bs = HasNoEnd m bs
-Closed m (Some n) bs = (rest : List ℕ) × (raw : List ℕ) × AreWithout m raw × (length raw ≡ n)
-    × (bs ≡ raw ++ m ∷ rest)
+Closed m o bs = (raw : List ℕ) × AreWithout m raw × Tail m o raw bs
 
--- one sign more before the end
-closed_plain : (m b : ℕ) (bs : List ℕ) (o : Option ℕ) → (b == 92) ≡ false → (b == m) ≡ false
-    → Closed m o bs → Closed m (option_map (λ n. suc n) o) (b ∷ bs)
-closed_plain m b bs None e f c = (
-  b ∷ c.0,
-  (plain b ∷ c.1.0, ap (λ l. b ∷ l) c.1.1, ((e, f), c.1.2)),
-  elim c.2 [ inl h ↦ inl (ap (λ l. b ∷ l) h) | inr h ↦ inr (ap (λ l. b ∷ l) h) ],
-)
-closed_plain m b bs (Some n) e f c = (
-  c.0,
-  b ∷ c.1,
-  (plain b ∷ c.2.0, ap (λ l. b ∷ l) c.2.1, ((e, f), c.2.2)),
-  ap (λ k. suc k) c.3,
-  ap (λ l. b ∷ l) c.4,
-)
-
--- two bytes more before the end: a `\` and the byte after it
-closed_escaped : (m d : ℕ) (bs : List ℕ) (o : Option ℕ) → Closed m o bs
-    → Closed m (option_map (λ n. suc (suc n)) o) (92 ∷ d ∷ bs)
-closed_escaped m d bs None c = (
-  92 ∷ d ∷ c.0,
-  (escaped d ∷ c.1.0, ap (λ l. 92 ∷ d ∷ l) c.1.1, (tt, c.1.2)),
-  elim c.2 [ inl h ↦ inl (ap (λ l. 92 ∷ d ∷ l) h) | inr h ↦ inr (ap (λ l. 92 ∷ d ∷ l) h) ],
-)
-closed_escaped m d bs (Some n) c = (
-  c.0,
-  92 ∷ d ∷ c.1,
-  (escaped d ∷ c.2.0, ap (λ l. 92 ∷ d ∷ l) c.2.1, (tt, c.2.2)),
-  ap (λ k. suc (suc k)) c.3,
-  ap (λ l. 92 ∷ d ∷ l) c.4,
+-- a sign more before the end
+tail_more : (m : ℕ) (sign : List ℕ) (grow : ℕ → ℕ)
+    → ((l : List ℕ) → length (sign ++ l) ≡ grow (length l)) → (o : Option ℕ) (raw bs : List ℕ)
+    → Tail m o raw bs → Tail m (option_map grow o) (sign ++ raw) (sign ++ bs)
+tail_more m sign grow long None raw bs (inl h) = inl (ap (λ l. sign ++ l) h)
+tail_more m sign grow long None raw bs (inr h) =
+    inr (ap (λ l. sign ++ l) h ∙ sym (append_assoc sign raw (92 ∷ [])))
+tail_more m sign grow long (Some n) raw bs h = (
+  h.0,
+  long raw ∙ ap grow h.1,
+  ap (λ l. sign ++ l) h.2 ∙ sym (append_assoc sign raw (m ∷ h.0)),
 )
 
 -- the bytes of a quoted text that the lexer counts are signs without the mark; the same after a `\`
@@ -403,14 +387,23 @@ quoted_splits : (m : ℕ) (bs : List ℕ)
     → Closed m (quoted_bytes m false bs) bs × Closed m (quoted_bytes m true bs) (92 ∷ bs)
 quoted_splits m [] = (([], ([], refl, tt), inl refl), ([], ([], refl, tt), inr refl))
 quoted_splits m (b ∷ bs) =
-    let more = quoted_splits m bs in (
-      cond_both (b == 92) _ _ (λ o. Closed m o (b ∷ bs))
+    let more = quoted_splits m bs in
+    let k = more.0 in
+    let o = quoted_bytes m false bs in (
+      cond_both (b == 92) _ _ (λ r. Closed m r (b ∷ bs))
           (λ e. subst (λ x. Closed m (quoted_bytes m true bs) (x ∷ bs)) (sym (eqb-true b 92 e))
           more.1)
-          (λ e. cond_both (b == m) _ _ (λ o. Closed m o (b ∷ bs))
-          (λ f. (bs, [], ([], refl, tt), refl, ap (λ x. x ∷ bs) (eqb-true b m f)))
-          (λ f. closed_plain m b bs (quoted_bytes m false bs) e f more.0)),
-      closed_escaped m b bs (quoted_bytes m false bs) more.0,
+          (λ e. cond_both (b == m) _ _ (λ r. Closed m r (b ∷ bs))
+          (λ f. ([], ([], refl, tt), (bs, refl, ap (λ x. x ∷ bs) (eqb-true b m f)))) (λ f. (
+            b ∷ k.0,
+            (plain b ∷ k.1.0, ap (λ l. b ∷ l) k.1.1, ((e, f), k.1.2)),
+            tail_more m (b ∷ []) (λ n. suc n) (λ l. refl) o k.0 bs k.2,
+          ))),
+      (
+        92 ∷ b ∷ k.0,
+        (escaped b ∷ k.1.0, ap (λ l. 92 ∷ b ∷ l) k.1.1, (tt, k.1.2)),
+        tail_more m (92 ∷ b ∷ []) (λ n. suc (suc n)) (λ l. refl) o k.0 bs k.2,
+      ),
     )
 
 -- the text begins with the token of a front, by its signs
@@ -462,13 +455,14 @@ quoted_stands : (m : ℕ) (bs : List ℕ) (o : Option ℕ) → IsQuote m → Clo
 quoted_stands m bs None mark c =
     (m ∷ bs, [], sym (append-nil (m ∷ bs)), refl, inl (refl, (refl, inr (m, bs, mark, c, refl))))
 quoted_stands m bs (Some n) mark c =
-    let raw = c.1 in
-    let is_raw : take n bs ≡ raw = ap₂ take (sym c.3) c.4 ∙ take-append_seam raw (m ∷ c.0) in (
+    let raw = c.0 in
+    let end = c.2 in
+    let is_raw : take n bs ≡ raw = ap₂ take (sym end.1) end.2 ∙ take-append_seam raw (m ∷ end.0) in (
       m ∷ (raw ++ m ∷ []),
-      c.0,
-      ap (λ l. m ∷ l) (c.4 ∙ sym (append_assoc raw (m ∷ []) c.0)),
-      omega (arith, c.3, length-append raw (m ∷ [])),
-      inr (refl, (raw, ap word is_raw, (m, mark, c.2, refl))),
+      end.0,
+      ap (λ l. m ∷ l) (end.2 ∙ sym (append_assoc raw (m ∷ []) end.0)),
+      omega (arith, end.1, length-append raw (m ∷ [])),
+      inr (refl, (raw, ap word is_raw, (m, mark, c.1, refl))),
     )
 
 -- a word, or a `\` with nothing after it

@@ -10,7 +10,7 @@ use Rattle.lq_value.specs.declared.field.Field.{Field}
 use Rattle.lq_value.specs.declared.field.Field.TheVariants.{Attribute}
 use Rattle.lq_value.specs.Field.{field_of}
 use Rattle.lq_predicate_formula.specs.Query.{Query, Compare, Not, And, Or, Queries, no_more, and_then}
-use Rattle.lq_predicate_formula.specs.Names.{attributes, all_attributes, is_among, with_name, each_once, names_of}
+use Rattle.lq_predicate_formula.specs.Names.{attributes, all_attributes, is_among, with_name, each_once}
 use Rattle.lq_predicate_formula.specs.Truth.{Look, compares_if_present, truth, all_true, some_true}
 use Rattle.lq_predicate_formula.specs.Laws.{TruthGoesByNames, BareRowsFail}
 use Rattle.lq_predicate_formula.specs.Needs.{is_attribute, needs_attribute, some_need, all_need}
@@ -86,27 +86,20 @@ each-keeps xs [] name h = h
 each-keeps xs (use_ ∷ uses) name h =
     each-keeps (with_name xs use_) uses name (with-keeps xs use_ name h)
 
--- each name that is used is among the names, each once
-each-has : (xs uses : List (List ℕ))
-    → AllByRecursion (λ name. has (each_once xs uses) name ≡ true) uses
-each-has xs [] = tt
-each-has xs (one ∷ uses) =
-    (each-keeps (with_name xs one) uses one (with-has xs one), each-has (with_name xs one) uses)
-
--- rows that agree under the names agree under all that are used
-all-alike : (look other : Look) (all uses : List (List ℕ))
-    → AllByRecursion (λ name. has all name ≡ true) uses
-    → ((name : List ℕ) → has all name ≡ true → look name ≡ other name)
+-- rows that agree under the names, each once, agree under all that are used
+each-agrees : (look other : Look) (xs uses : List (List ℕ))
+    → ((name : List ℕ) → has (each_once xs uses) name ≡ true → look name ≡ other name)
     → AllByRecursion (λ name. look name ≡ other name) uses
-all-alike look other all [] h same = tt
-all-alike look other all (one ∷ uses) h same =
-    (same one h.0, all-alike look other all uses h.1 same)
+each-agrees look other xs [] same = tt
+each-agrees look other xs (one ∷ uses) same = (
+  same one (each-keeps (with_name xs one) uses one (with-has xs one)),
+  each-agrees look other (with_name xs one) uses same,
+)
 
 -- the truth of a predicate goes by what a row shows under its names
 pub truth-names : TruthGoesByNames
 truth-names q look other same =
-    truth-same look other q
-    (all-alike look other (names_of q) (attributes q) (each-has [] (attributes q)) same)
+    truth-same look other q (each-agrees look other [] (attributes q) same)
 
 -- a field that is an attribute
 only-attribute : (f : Field) → is_attribute f ≡ true → f ≡ Attribute
