@@ -1,8 +1,9 @@
 -- A pattern that is read from a text has a source: it is of
 -- characters, its sets have items, no range falls.
-use Rattle.std.proofs.Common.{◌≡◌, ℕ, Bool, true, false, List, [], ◌∷◌, ◌++◌, subst, refl, Some}
+use Rattle.std.proofs.Common.{◌≡◌, ℕ, Bool, true, false, List, [], ◌∷◌, subst, refl, Some}
 use Rattle.std.specs.Prelude.{◌==◌, Result, Ok, Err}
 use Rattle.std.specs.Char.{IsScalar}
+use Rattle.std.specs.List.{AllByRecursion}
 use Rattle.std.specs.Str.{IsUtf8, chars}
 use Rattle.std.proofs.Math.Utf8.{scalar, scalars}
 use Rattle.std.proofs.lemmas.Bool.{and_parts, cond_both}
@@ -28,6 +29,7 @@ use Rattle.lq_predicate_formula.specs.Tokens.{Token}
 use Rattle.lq_predicate_formula.specs.Limits.{AreGoodItems, IsGoodBehind, IsGoodElement, IsGoodItem, IsGoodLiteral, IsGoodPattern, IsProper}
 use Rattle.lq_predicate_formula.specs.Words.{WordsAre}
 use Rattle.lq_predicate_formula.proofs.ProperLemmas.{formula_proper_by, read_suits}
+use Rattle.lq_predicate_formula.proofs.PartLemmas.{all_parts}
 use Rattle.lq_predicate_formula.proofs.PatternTextLemmas.{Sign, bare, escaped}
 
 -- what a sign stands for is a character
@@ -37,8 +39,7 @@ record StandsForScalar (s : Sign) : Type 0 where
 
 -- all signs stand for scalar values
 abbrev AllScalar : List Sign → Type 0
-AllScalar [] = Unit {0}
-AllScalar (s ∷ ss) = StandsForScalar s × AllScalar ss
+AllScalar ss = AllByRecursion StandsForScalar ss
 
 -- a bare sign of a scalar value stands for that value alone
 bare_scalar : (d : ℕ) → IsScalar d → StandsForScalar (bare d)
@@ -62,13 +63,6 @@ signs_scalar true (c ∷ cs) e =
     let h = and_parts (scalar c) (scalars cs) e in
     (escaped_scalar c h.0, signs_scalar false cs h.1)
 
--- if all of two lists stand for scalar values, those of each do
-parts_scalar : (a b : List Sign) → AllScalar (a ++ b) → AllScalar a × AllScalar b
-parts_scalar [] b h = (tt, h)
-parts_scalar (s ∷ a) b h =
-    let k = parts_scalar a b h.1 in
-    ((h.0, k.0), k.1)
-
 -- an item that is written by signs of scalar values is of scalar values
 item_good : (i : Item) (part rest : List Sign) → IsItem i part rest → AllScalar part → IsGoodItem i
 item_good (One c) part rest h k = let l = subst AllScalar h.1 k in l.0.inside c h.2
@@ -81,7 +75,7 @@ items_good : (items : List Item) (text : List Sign) → AreItems items text → 
     → AreGoodItems items
 items_good [] text h k = tt
 items_good (i ∷ is) text h k =
-    let l = parts_scalar h.0 h.1 (subst AllScalar h.2 k) in
+    let l = all_parts StandsForScalar h.0 h.1 (subst AllScalar h.2 k) in
     (item_good i h.0 h.1 h.3 l.0, items_good is h.1 h.4 l.1)
 
 -- an element that is written by signs of scalar values is of scalar values
@@ -102,7 +96,7 @@ pattern_good : (es : List Element) (text : List Sign) → Writes text es → All
     → IsGoodPattern es
 pattern_good [] text h k = tt
 pattern_good (e ∷ es) text h k =
-    let l = parts_scalar h.0 h.1 (subst AllScalar h.2 k) in
+    let l = all_parts StandsForScalar h.0 h.1 (subst AllScalar h.2 k) in
     (element_good e h.0 h.3 l.0, pattern_good es h.1 h.4 l.1)
 
 -- a pattern that is read has a source

@@ -59,16 +59,12 @@ passes end ts fine (behind_all s count seen goes) =
 module _ (text : List ℕ) (ts : List Placed) (has : HasTokens 0 text ts) where
   -- the reading of a text that is too long
   long_reading : most_bytes < length text → machine_reading text ts ≡ Err most_bytes
-  long_reading h =
-      ap (λ b. if b then read_tokens (length text) (start nesting) 0 ts else Err most_bytes)
-      (lt-leb _ _ h)
+  long_reading h = rw (lt-leb (length text) most_bytes h)
 
   -- the reading of a text that is not too long is that of its tokens
   short_reading : length text ≤ most_bytes
       → machine_reading text ts ≡ read_tokens (length text) (start nesting) 0 ts
-  short_reading h =
-      ap (λ b. if b then read_tokens (length text) (start nesting) 0 ts else Err most_bytes)
-      (le-leb _ _ h)
+  short_reading h = rw (le-leb (length text) most_bytes h)
 
   -- the reading of a text whose tokens are passed over is what stands at the end
   whole_reading : length text ≤ most_bytes → (s : MachineState) (count : ℕ) → ((rest : List Placed)

@@ -1,12 +1,13 @@
 -- Where a formula stands behind tokens, by their kinds alone; what can't stand there.
-use Rattle.std.proofs.Common.{◌≡◌, ℕ, zero, suc, List, [], ◌∷◌, ◌++◌, length, map, Option, Some, None, refl, sym, ap, ◌∙◌, option_and_then}
+use Rattle.std.proofs.Common.{◌≡◌, ◌+◌, ℕ, zero, suc, List, [], ◌∷◌, ◌++◌, length, map, Option, Some, None, refl, sym, ap, ◌∙◌, option_and_then}
 use Rattle.std.specs.Prelude.{option_map}
 use Rattle.std.proofs.lemmas.List.{map-append}
 use Rattle.std.proofs.lemmas.Option.{none-some, option_and_then_some, same_Some}
 use Rattle.lq_value.specs.declared.op.Op.TheVariants.{Eq}
 use Rattle.lq_predicate_formula.specs.Tokens.{Token, opens, closes, bang, ands, ors, op, word}
 use Rattle.lq_predicate_formula.specs.Machine.{Expected, operand, after_attr, after_op, after_operand, MachineState, start, step, steps}
-use Rattle.lq_predicate_formula.specs.Faults.{CanStand, kind_of}
+use Rattle.lq_predicate_formula.specs.Faults.{CanStand, kind_of, op_count}
+use Rattle.lq_predicate_formula.specs.MachineReading.{word_count}
 use Rattle.lq_predicate_formula.proofs.CompleteLemmas.{formula_runs}
 use Rattle.lq_predicate_formula.proofs.MoveLemmas.{comes, led, move, Move, enter, deny, attribute, operator, complete, one_and, one_or, leave}
 
@@ -51,17 +52,32 @@ abbrev pub outline_steps : Outline → List Token → Option Outline
 outline_steps o [] = Some o
 outline_steps o (t ∷ ts) = option_and_then (λ o'. outline_steps o' ts) (outline_step o t)
 
--- a move of the machine, in outline
-move_outline : {x s : MachineState} {t : Token} → Move x t s
-    → outline_step (outline_of x) (kind_of t) ≡ Some (outline_of s)
-move_outline (enter below f n) = refl
-move_outline (deny below f n) = refl
-move_outline (attribute below f n raw attr e) = refl
-move_outline (operator below f n a o) = refl
-move_outline (complete below f n a o raw literal e) = refl
-move_outline (one_and below f n) = refl
-move_outline (one_or below f n) = refl
-move_outline (leave g below f n) = refl
+-- a word whose operator is awaited, and an operator whose literal is
+abbrev extra_word : Expected → ℕ
+extra_word (after_attr a) = 1
+extra_word p = 0
+
+-- an operator whose literal is awaited
+abbrev extra_op : Expected → ℕ
+extra_op (after_op a o) = 1
+extra_op p = 0
+
+-- from one place to another by so many words and operators
+abbrev pub Balances : Expected → ℕ → ℕ → Expected → Type 0
+Balances p m n p' = m + extra_op p' + extra_word p ≡ n + n + extra_word p' + extra_op p
+
+-- a move of the machine, in outline; it keeps two words for each operator, but for what is awaited
+pub move_keeps : {x s : MachineState} {t : Token} → Move x t s
+    → (outline_step (outline_of x) (kind_of t) ≡ Some (outline_of s))
+    × Balances x.expected (word_count t) (op_count t) s.expected
+move_keeps (enter below f n) = (refl, refl)
+move_keeps (deny below f n) = (refl, refl)
+move_keeps (attribute below f n raw attr e) = (refl, refl)
+move_keeps (operator below f n a o) = (refl, refl)
+move_keeps (complete below f n a o raw literal e) = (refl, refl)
+move_keeps (one_and below f n) = (refl, refl)
+move_keeps (one_or below f n) = (refl, refl)
+move_keeps (leave g below f n) = (refl, refl)
 
 -- steps of the machine, in outline
 pub steps_outline : (ts : List Token) (x s : MachineState) → steps x ts ≡ Some s
@@ -69,7 +85,7 @@ pub steps_outline : (ts : List Token) (x s : MachineState) → steps x ts ≡ So
 steps_outline [] x s e = ap (option_map outline_of) e
 steps_outline (t ∷ ts) x s e =
     let h = led (λ y. steps y ts) (step x t) s e in
-    ap (option_and_then (λ o. outline_steps o (map kind_of ts))) (move_outline (move x t h.0 h.1))
+    ap (option_and_then (λ o. outline_steps o (map kind_of ts))) (move_keeps (move x t h.0 h.1)).0
     ∙ steps_outline ts h.0 s h.2
 
 -- outlines over two lists are those over the second, from where the first has led

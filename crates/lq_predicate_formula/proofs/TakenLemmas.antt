@@ -10,42 +10,15 @@ use Rattle.lq_value.specs.Source.{pattern_of}
 use Rattle.lq_predicate_formula.specs.Tokens.{Token, word, Placed, op, lone, cut, bare}
 use Rattle.lq_predicate_formula.specs.Grammar.{nesting}
 use Rattle.lq_predicate_formula.specs.Machine.{Expected, operand, after_attr, after_op, MachineState, start, step, steps, after_operand, step_at}
-use Rattle.lq_predicate_formula.specs.Faults.{AwaitsAttr, IsFaultOf, one_more, most_comparisons, op_count, operators, AreFine, stray, cut_off, alone, too_deep, bad_name, bad_pattern}
-use Rattle.lq_predicate_formula.specs.MachineReading.{word_count}
+use Rattle.lq_predicate_formula.specs.Faults.{AwaitsAttr, IsFaultOf, one_more, most_comparisons, operators, AreFine, stray, cut_off, alone, too_deep, bad_name, bad_pattern}
 use Rattle.lq_predicate_formula.specs.Literals.{bad_place, literal_fault, literal_of, name_of, pattern_literal}
-use Rattle.lq_predicate_formula.proofs.MoveLemmas.{at, led, move, Move, enter, deny, attribute, operator, complete, one_and, one_or, leave, last_move, split_steps, steps_push}
+use Rattle.lq_predicate_formula.proofs.MoveLemmas.{at, led, move, Move, attribute, operator, complete, last_move, split_steps, steps_push}
 use Rattle.lq_predicate_formula.proofs.WordLemmas.{words, words_append}
 use Rattle.lq_predicate_formula.proofs.RefusedLemmas.{awaits_attr}
 use Rattle.lq_predicate_formula.proofs.StopLemmas.{begun_at, can_stand}
-use Rattle.lq_predicate_formula.proofs.OutlineLemmas.{Outline, outline_of, outline_steps, stands_outline}
+use Rattle.lq_predicate_formula.proofs.OutlineLemmas.{Balances, Outline, move_keeps, outline_of, outline_steps, stands_outline}
 
 -- ---- words and operators
-
--- a word whose operator is awaited, and an operator whose literal is
-abbrev extra_word : Expected → ℕ
-extra_word (after_attr a) = 1
-extra_word p = 0
-
--- an operator whose literal is awaited
-abbrev extra_op : Expected → ℕ
-extra_op (after_op a o) = 1
-extra_op p = 0
-
--- from one place to another by so many words and operators
-abbrev Balances : Expected → ℕ → ℕ → Expected → Type 0
-Balances p m n p' = m + extra_op p' + extra_word p ≡ n + n + extra_word p' + extra_op p
-
--- a move over a token keeps two words for each operator, but for what is still awaited
-move_balances : {x s : MachineState} {t : Token} → Move x t s
-    → Balances x.expected (word_count t) (op_count t) s.expected
-move_balances (enter below f n) = refl
-move_balances (deny below f n) = refl
-move_balances (attribute below f n raw attr e) = refl
-move_balances (operator below f n a o) = refl
-move_balances (complete below f n a o raw literal e) = refl
-move_balances (one_and below f n) = refl
-move_balances (one_or below f n) = refl
-move_balances (leave g below f n) = refl
 
 -- steps keep two words for each operator, but for what is still awaited
 pub balanced : (ts : List Token) (x s : MachineState) → steps x ts ≡ Some s
@@ -54,7 +27,7 @@ balanced [] x s e =
     subst (λ y. Balances x.expected 0 0 y.expected) (same_Some x s e) (omega arith)
 balanced (t ∷ ts) x s e =
     let h = led (λ y. steps y ts) (step x t) s e in
-    let here = move_balances (move x t h.0 h.1) in
+    let here = (move_keeps (move x t h.0 h.1)).1 in
     let others = balanced ts h.0 s h.2 in
     omega arith
 
