@@ -6,12 +6,12 @@ use Rattle.lq_predicate_formula.specs.Tokens.{HasTokens, Placed, bare}
 use Rattle.lq_predicate_formula.specs.Query.{Query}
 use Rattle.lq_predicate_formula.specs.Canonical.{canonical, comparisons, depth}
 use Rattle.lq_predicate_formula.specs.Grammar.{IsFormula, nesting}
-use Rattle.lq_predicate_formula.specs.Machine.{MachineState, start, run, finished_query}
+use Rattle.lq_predicate_formula.specs.Machine.{start, run, finished_query}
 use Rattle.lq_predicate_formula.specs.Faults.{AreFine, HasOneReading, IsFaultOf, too_long, at_token, ends_early, too_much, IsReading, Reads, most_bytes, most_comparisons, most_depth}
 use Rattle.lq_predicate_formula.specs.MachineReading.{finished, machine_reading, read_tokens}
 use Rattle.lq_predicate_formula.proofs.TokenLemmas.{one_token_list, tokens_same}
 use Rattle.lq_predicate_formula.proofs.CompleteLemmas.{formula_runs}
-use Rattle.lq_predicate_formula.proofs.StoppedLemmas.{fault_is, Seen, seen_fine, next, Stops, at_one, behind_all, stops}
+use Rattle.lq_predicate_formula.proofs.StoppedLemmas.{fault_is, Passes, seen_fine, next, Stops, at_one, behind_all, stops}
 use Rattle.lq_predicate_formula.proofs.MoveLemmas.{comes, steps_run}
 use Rattle.lq_predicate_formula.proofs.StopLemmas.{ends_none, reads_at_end}
 use Rattle.lq_predicate_formula.proofs.TakenLemmas.{fine as fine_of}
@@ -41,20 +41,11 @@ formula_fine end ts q h few =
     let counted = formula_words nesting (bare ts) q h in
     fine_of end ts s.0 s.1 (omega arith)
 
--- the state behind tokens none of which is at fault, from where the reading goes on
-record Passes (end : ℕ) (ts : List Placed) : Type 0 where
-  pub s : MachineState
-  pub count : ℕ
-  pub seen : Seen ts s count
-  pub goes : (rest : List Placed)
-      → read_tokens end (start nesting) 0 (ts ++ rest) ≡ read_tokens end s count rest
-
 -- where no token is at fault, all are passed over
 passes : (end : ℕ) (ts : List Placed) → AreFine end ts → Stops end ts → Passes end ts
 passes end ts fine (at_one before here after p split none fault reads) =
     absurd (fine before here after p split fault)
-passes end ts fine (behind_all s count seen goes) =
-    record { s = s; count = count; seen = seen; goes = goes }
+passes end ts fine (behind_all p) = p
 
 module _ (text : List ℕ) (ts : List Placed) (has : HasTokens 0 text ts) where
   -- the reading of a text that is too long
@@ -67,32 +58,30 @@ module _ (text : List ℕ) (ts : List Placed) (has : HasTokens 0 text ts) where
   short_reading h = rw (le-leb (length text) most_bytes h)
 
   -- the reading of a text whose tokens are passed over is what stands at the end
-  whole_reading : length text ≤ most_bytes → (s : MachineState) (count : ℕ) → ((rest : List Placed)
-      → read_tokens (length text) (start nesting) 0 (ts ++ rest)
-      ≡ read_tokens (length text) s count rest)
-      → machine_reading text ts ≡ finished (length text) (finished_query s)
+  whole_reading : length text ≤ most_bytes → (p : Passes (length text) ts)
+      → machine_reading text ts ≡ finished (length text) (finished_query p.s)
   unfolding read_tokens
-  whole_reading h s count goes =
+  whole_reading h p =
       short_reading h ∙ ap (read_tokens (length text) (start nesting) 0) (sym (append-nil ts))
-      ∙ goes []
+      ∙ p.goes []
 
   -- ---- what the machine finds is a reading
 
   -- behind all tokens: no whole query, one that is too big, or the query
-  end_reads : length text ≤ most_bytes → (s : MachineState) (count : ℕ) → Seen ts s count
-      → (o : Option Query) → finished_query s ≡ o → IsReading text (finished (length text) o)
-  end_reads short s count seen None e = ends_early short ts has
-      (seen_fine (length text) ts s count seen) (ends_none (bare ts) s seen.goes e) refl
-  end_reads short s count seen (Some q) e =
+  end_reads : length text ≤ most_bytes → (p : Passes (length text) ts) (o : Option Query)
+      → finished_query p.s ≡ o → IsReading text (finished (length text) o)
+  end_reads short p None e = ends_early short ts has
+      (seen_fine (length text) ts p.s p.count p.seen) (ends_none (bare ts) p.s p.seen.goes e) refl
+  end_reads short p (Some q) e =
       by (cases_lt most_depth (depth q)) (cases_lt most_bytes (length (canonical q)))
     where
       formula : IsFormula nesting (bare ts) q
-      formula = reads_at_end (bare ts) s q seen.goes e
+      formula = reads_at_end (bare ts) p.s q p.seen.goes e
 
       big : (most_depth < depth q) ⊎ (most_bytes < length (canonical q))
           → IsReading text (finished (length text) (Some q))
-      big h = subst (IsReading text) (sym (finished_big (length text) q h))
-          (too_much short ts has (seen_fine (length text) ts s count seen) q formula h refl)
+      big h = subst (IsReading text) (sym (finished_big (length text) q h)) (too_much short ts has
+          (seen_fine (length text) ts p.s p.count p.seen) q formula h refl)
 
       by : (most_depth < depth q) ⊎ (depth q ≤ most_depth)
           → (most_bytes < length (canonical q)) ⊎ (length (canonical q) ≤ most_bytes)
@@ -101,8 +90,8 @@ module _ (text : List ℕ) (ts : List Placed) (has : HasTokens 0 text ts) where
       by (inr h) (inl k) = big (inr k)
       by (inr h) (inr k) =
           let counted = formula_words nesting (bare ts) q formula in
-          let same = seen.counted in
-          let few = seen.few in
+          let same = p.seen.counted in
+          let few = p.seen.few in
           let reads : Reads text q = record {
             short = short;
             tokens = ts;
@@ -120,9 +109,8 @@ module _ (text : List ℕ) (ts : List Placed) (has : HasTokens 0 text ts) where
   stop_reads short (at_one before here after p split fine fault reads) =
       subst (IsReading text) (sym (short_reading short ∙ reads))
       (at_token short before here after (subst (HasTokens 0 text) split has) fine fault)
-  stop_reads short (behind_all s count seen goes) =
-      subst (IsReading text) (sym (whole_reading short s count goes))
-      (end_reads short s count seen (finished_query s) refl)
+  stop_reads short (behind_all p) = subst (IsReading text) (sym (whole_reading short p))
+      (end_reads short p (finished_query p.s) refl)
 
   -- the machine finds a reading of each text
   pub machine_reads : IsReading text (machine_reading text ts)
@@ -169,7 +157,7 @@ module _ (text : List ℕ) (ts : List Placed) (has : HasTokens 0 text ts) where
       let same = tokens_same h.tokens ts 0 text h.has has in
       let formula = subst (λ us. IsFormula nesting (bare us) q) same h.formula in
       let p = passed (formula_fine (length text) ts q formula h.few) in
-      whole_reading h.short p.s p.count p.goes
+      whole_reading h.short p
       ∙ ap (finished (length text)) (formula_whole p q formula)
       ∙ finished_small (length text) q h.shallow h.brief
   found (Err p) (too_long h is) = long_reading h ∙ ap Err (sym is)
@@ -180,13 +168,13 @@ module _ (text : List ℕ) (ts : List Placed) (has : HasTokens 0 text ts) where
   found (Err p) (ends_early short all is fine none at) =
       let same = tokens_same all ts 0 text is has in
       let t = passed (subst (AreFine (length text)) same fine) in
-      whole_reading short t.s t.count t.goes
+      whole_reading short t
       ∙ none_whole t (finished_query t.s) refl
       (subst (λ us. (q : Query) → IsFormula nesting (bare us) q → ⊥) same none) ∙ ap Err (sym at)
   found (Err p) (too_much short all is fine q formula over at) =
       let same = tokens_same all ts 0 text is has in
       let t = passed (subst (AreFine (length text)) same fine) in
-      whole_reading short t.s t.count t.goes
+      whole_reading short t
       ∙ ap (finished (length text))
       (formula_whole t q (subst (λ us. IsFormula nesting (bare us) q) same formula))
       ∙ finished_big (length text) q over ∙ ap Err (sym at)

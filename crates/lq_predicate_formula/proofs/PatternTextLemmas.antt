@@ -59,10 +59,6 @@ record IsText (cs : List ℕ) : Type 0 where
   pub scalar : scalars cs ≡ true
   pub ends : Ends (encode_utf8_all cs)
 
--- the empty text is one that ends at its mark
-none_text : IsText []
-none_text = record { scalar = refl; ends = ([], refl, tt) }
-
 -- a character that is no `\` and no `"` may stand before such a text
 text_clear : (c : ℕ) (cs : List ℕ) → IsScalar c → (c == 92) ≡ false → (c == 34) ≡ false → IsText cs
     → IsText (c ∷ cs)
@@ -246,24 +242,23 @@ element_signs (Set false items) cs h =
           text_clear 91 (items_then items cs) (low_scalar 91 (omega arith)) refl refl (more.text t);
     }
 
--- the text of a good pattern is of scalar values and ends at its mark
-pattern_is_text : (es : List Element) → IsGoodPattern es → IsText (pattern_text es)
-pattern_is_text [] h = none_text
-pattern_is_text (e ∷ es) h = (element_signs e (pattern_text es) h.0).text (pattern_is_text es h.1)
-
--- the signs of a good pattern's text write that pattern
-pattern_writes : (es : List Element) → IsGoodPattern es → Writes (signs false (pattern_text es)) es
-pattern_writes [] h = refl
-pattern_writes (e ∷ es) h =
-    let this = element_signs e (pattern_text es) h.0 in
-    (this.part, signs false (pattern_text es), this.is, this.writes, pattern_writes es h.1)
+-- the text of a good pattern is of scalar values and ends at its mark, and its signs write it
+pattern_signs : (es : List Element) → IsGoodPattern es
+    → IsText (pattern_text es) × Writes (signs false (pattern_text es)) es
+pattern_signs [] h = (record { scalar = refl; ends = ([], refl, tt) }, refl)
+pattern_signs (e ∷ es) h =
+    let cs = pattern_text es in
+    let this = element_signs e cs h.0 in
+    let more = pattern_signs es h.1 in
+    (this.text more.0, (this.part, signs false cs, this.is, this.writes, more.1))
 
 -- the text of a pattern ends at its mark
 pub pattern_ends : (es : List Element) → IsGoodPattern es → Ends (encode_utf8_all (pattern_text es))
-pattern_ends es h = (pattern_is_text es h).ends
+pattern_ends es h = (pattern_signs es h).0.ends
 
 -- the text of a pattern writes it
 pub pattern_written : (es : List Element) → IsGoodPattern es
     → Writes (signs_of (encode_utf8_all (pattern_text es))) es
-pattern_written es h = subst (λ cs. Writes (signs false cs) es)
-    (sym (chars-encodes (pattern_text es) (pattern_is_text es h).scalar)) (pattern_writes es h)
+pattern_written es h =
+    let k = pattern_signs es h in
+    subst (λ cs. Writes (signs false cs) es) (sym (chars-encodes (pattern_text es) k.0.scalar)) k.1

@@ -1,5 +1,5 @@
 -- The lengths of canonical texts, and the size of a pattern while its source is read.
-use Rattle.std.proofs.Common.{◌≡◌, ◌+◌, ◌≤◌, min, ℕ, List, [], ◌∷◌, ◌++◌, length, ap, ◌∙◌, arith, ◌<◌, ◌-◌, ◌^◌, refl, sym, Bool, true, false, Option, Some, None, Bor}
+use Rattle.std.proofs.Common.{◌≡◌, ◌+◌, ◌≤◌, ℕ, List, [], ◌∷◌, ◌++◌, length, ap, ◌∙◌, arith, ◌<◌, ◌-◌, ◌^◌, refl, sym, Bool, true, false, Option, Some, None, Bor}
 use Rattle.std.proofs.lemmas.List.{length-append}
 use Rattle.std.specs.Str.{encode_utf8_all, IsUtf8}
 use Rattle.std.specs.Prelude.{Result, Ok, Err, if◌then◌else◌, encode_utf8}
@@ -50,10 +50,6 @@ pub item_split : (i : Item) (is : List Item) → length (encode_utf8_all (items_
 item_split i is = ap length (items_step i is)
     ∙ length-append (encode_utf8_all (item_then i [])) (encode_utf8_all (items_then is []))
 
--- the smaller of two is no larger than the second
-pub capped_bound : (n n' m : ℕ) → n' ≡ min n m → n' ≤ m
-capped_bound n n' m e = omega (arith, e)
-
 -- the pieces, where it is known what is first
 step_by : {A : Type 0} {first : Signs → First A} (w : AreWalked first) (ss : Signs) (r : First A)
     → first ss ≡ r → pieces_of first ss ≡ after_first ss r (pieces_of first)
@@ -100,18 +96,12 @@ items_stuck law n ss all so_far is =
 
 -- ---- a set, which has an item at least
 
--- the items that were measured, where they are whole
-pub record Items (r : Pieces Item) (size : ℕ) (rest : Signs) : Type 0 where
-  pub items : List Item
-  pub are : r ≡ whole items rest
-  pub size_is : size ≡ capped (items_bytes items)
-
 -- a size that was counted over a set's items is that of whole items
 items_whole : (r : Pieces Item) (size : ℕ) (rest : Signs) → items_sized 0 r ≡ Some (size, rest)
-    → Items r size rest
+    → (is : List Item) × (r ≡ whole is rest) × (size ≡ capped (items_bytes is))
 items_whole (whole is behind) size rest e =
     let same = some_pair_parts (capped (0 + items_bytes is)) size behind rest e in
-    record { items = is; are = ap (whole is) same.1; size_is = omega (arith, same.0) }
+    (is, ap (whole is) same.1, omega (arith, same.0))
 items_whole (stuck behind) size rest e = absurd (none-some (size, rest) e)
 
 -- nothing stands between the `[` and its `]`
@@ -175,14 +165,12 @@ pub set_sized : SourcesAreWalked → (text rest : List ℕ) (negated : Bool) (n 
     → HasSize (set_with negated (pieces_of item_at (signs_of text))) m rest
 set_sized law text rest negated n m utf8 some e new =
     let w = items_whole (pieces_of item_at (signs_of text)) n (signs_of rest) e in
-    let has_some : w.items ≡ [] → ⊥ = λ none. some_items law (signs_of text) (signs_of rest)
-    (item_at (signs_of text)) refl some (w.are ∙ ap (λ is. whole is (signs_of rest)) none) in
-    let bytes = set_bytes negated w.items in
-    let size = w.size_is in
+    let has_some : w.0 ≡ [] → ⊥ = λ none. some_items law (signs_of text) (signs_of rest)
+    (item_at (signs_of text)) refl some (w.1 ∙ ap (λ is. whole is (signs_of rest)) none) in
     record {
-      element = Set negated w.items;
-      is = ap (set_with negated) w.are ∙ set_of negated w.items (signs_of rest) has_some;
-      size_is = omega (arith, new, bytes, size);
+      element = Set negated w.0;
+      is = ap (set_with negated) w.1 ∙ set_of negated w.0 (signs_of rest) has_some;
+      size_is = omega (arith, new, set_bytes negated w.0, w.2);
       text = utf8;
     }
 

@@ -81,37 +81,46 @@ pub next : (end : ℕ) (seen : List Placed) (t : Placed) (s : MachineState) (cou
 next end seen t s count h = next_by end seen t s count h (step s t.token) refl
     (cases_lt most_words (count + word_count t.token))
 
+-- the state behind tokens none of which is at fault, from where the reading goes on
+pub record Passes (end : ℕ) (ts : List Placed) : Type 0 where
+  pub s : MachineState
+  pub count : ℕ
+  pub seen : Seen ts s count
+  pub goes : (rest : List Placed)
+      → read_tokens end (start nesting) 0 (ts ++ rest) ≡ read_tokens end s count rest
+
 -- where the reading of all these tokens stops
 pub data Stops (end : ℕ) (all : List Placed) : Type 0 where
   at_one : (before : List Placed) (here : Placed) (after : List Placed) (place : ℕ)
       → all ≡ before ++ here ∷ after → AreFine end before → IsFaultOf end (bare before) here place
       → read_tokens end (start nesting) 0 all ≡ Err place → Stops end all
-  behind_all : (s : MachineState) (count : ℕ) → Seen all s count
-      → ((rest : List Placed)
-      → read_tokens end (start nesting) 0 (all ++ rest) ≡ read_tokens end s count rest)
-      → Stops end all
+  behind_all : Passes end all → Stops end all
 
--- the reading goes on from a state up to where it stops
-stops_from : (end : ℕ) (all ts seen : List Placed) (s : MachineState) (count : ℕ)
-    → all ≡ seen ++ ts → Seen seen s count
-    → ((rest : List Placed)
-    → read_tokens end (start nesting) 0 (seen ++ rest) ≡ read_tokens end s count rest)
+-- the reading goes on behind tokens that were passed over, up to where it stops
+stops_from : (end : ℕ) (all ts seen : List Placed) → all ≡ seen ++ ts → Passes end seen
     → Stops end all
-stops_from end all [] seen s count a h g =
-    subst (Stops end) (sym (a ∙ append-nil seen)) (behind_all s count h g)
-stops_from end all (t ∷ ts) seen s count a h g = elim (next end seen t s count h) [
-  | inl f ↦ at_one seen t ts f.0 a (seen_fine end seen s count h) f.1
-      (ap (read_tokens end (start nesting) 0) a ∙ g (t ∷ ts) ∙ f.2 ts)
-  | inr n ↦ stops_from end all ts (seen ++ t ∷ []) n.0 (count + word_count t.token)
-      (a ∙ sym (append_assoc seen (t ∷ []) ts)) n.1 (λ rest.
-      ap (read_tokens end (start nesting) 0) (append_assoc seen (t ∷ []) rest) ∙ g (t ∷ rest)
-      ∙ n.2 rest)
+stops_from end all [] seen a p = subst (Stops end) (sym (a ∙ append-nil seen)) (behind_all p)
+stops_from end all (t ∷ ts) seen a p = elim (next end seen t p.s p.count p.seen) [
+  | inl f ↦ at_one seen t ts f.0 a (seen_fine end seen p.s p.count p.seen) f.1
+      (ap (read_tokens end (start nesting) 0) a ∙ p.goes (t ∷ ts) ∙ f.2 ts)
+  | inr n ↦ stops_from end all ts (seen ++ t ∷ []) (a ∙ sym (append_assoc seen (t ∷ []) ts))
+      (record {
+        s = n.0;
+        count = p.count + word_count t.token;
+        seen = n.1;
+        goes = λ rest. ap (read_tokens end (start nesting) 0) (append_assoc seen (t ∷ []) rest)
+            ∙ p.goes (t ∷ rest) ∙ n.2 rest;
+      })
 ]
 
 -- the reading of some tokens stops at one of them, or behind them all
 pub stops : (end : ℕ) (all : List Placed) → Stops end all
-stops end all = stops_from end all all [] (start nesting) 0 refl
-    (record { goes = refl; counted = refl; few = omega arith }) (λ rest. refl)
+stops end all = stops_from end all all [] refl (record {
+  s = start nesting;
+  count = 0;
+  seen = record { goes = refl; counted = refl; few = omega arith };
+  goes = λ rest. refl;
+})
 
 -- the fault's place is the token's own, but for a cut text and for a bad literal
 plain_place : (end : ℕ) (q : Expected) (t : Token) (here : Placed)

@@ -52,12 +52,6 @@ quoted-append (x ∷ xs) ys =
 
 -- ---- patterns
 
--- what follows a plain character may be added after it
-pub plain_then-append : (c : ℕ) (xs rest : List ℕ)
-    → plain_then c (xs ++ rest) ≡ plain_then c xs ++ rest
-plain_then-append c xs rest =
-    if-append (c == 42 || c == 63 || c == 91 || c == 92 || c == 34) _ _ rest refl refl
-
 -- what follows a character of a set may be added after it
 pub in_set_then-append : (c : ℕ) (xs rest : List ℕ)
     → in_set_then c (xs ++ rest) ≡ in_set_then c xs ++ rest
@@ -84,7 +78,8 @@ pub element_then-append : (e : Element) (xs rest : List ℕ)
     → element_then e (xs ++ rest) ≡ element_then e xs ++ rest
 element_then-append Star xs rest = refl
 element_then-append Any xs rest = refl
-element_then-append (element.Plain c) xs rest = plain_then-append c xs rest
+element_then-append (element.Plain c) xs rest =
+    if-append (c == 42 || c == 63 || c == 91 || c == 92 || c == 34) _ _ rest refl refl
 element_then-append (Set true items) xs rest =
     ap (λ t. 91 ∷ 94 ∷ t) (items_then-append items xs rest)
 element_then-append (Set false items) xs rest = ap (λ t. 91 ∷ t) (items_then-append items xs rest)
