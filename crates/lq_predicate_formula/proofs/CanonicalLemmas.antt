@@ -117,27 +117,19 @@ attr_by name rest ts false named e h k = lex_quoted (quoted name) rest ts (quote
 
 -- ---- operators and literals
 
--- a word before an operator ends there
-op_stops : (o : Op) (rest : List ℕ) → EndsWord (op_text o ++ rest)
-op_stops Eq rest = inr (inr (61, 61 ∷ rest, refl, refl))
-op_stops Ne rest = inr (inr (33, 61 ∷ rest, refl, refl))
-op_stops Lt rest = inr (inr (60, rest, refl, refl))
-op_stops Le rest = inr (inr (60, 61 ∷ rest, refl, refl))
-op_stops Gt rest = inr (inr (62, rest, refl, refl))
-op_stops Ge rest = inr (inr (62, 61 ∷ rest, refl, refl))
-
 -- no `=` stands before a quotation mark
 no_equals : (rest : List ℕ) → IsNotNext 61 (34 ∷ rest)
 no_equals rest = is_not_next 61 (34 ∷ rest) refl
 
--- the text of an operator before a quotation mark is that operator
-is_op : (o : Op) (rest : List ℕ) → IsOp o (op_text o) (34 ∷ rest)
-is_op Eq rest = inl refl
-is_op Ne rest = refl
-is_op Lt rest = (refl, no_equals rest)
-is_op Le rest = refl
-is_op Gt rest = (refl, no_equals rest)
-is_op Ge rest = refl
+-- the text of an operator before a quotation mark is that operator, and a word before it ends there
+op_is : (o : Op) (rest : List ℕ)
+    → EndsWord (op_text o ++ 34 ∷ rest) × IsOp o (op_text o) (34 ∷ rest)
+op_is Eq rest = (inr (inr (61, 61 ∷ 34 ∷ rest, refl, refl)), inl refl)
+op_is Ne rest = (inr (inr (33, 61 ∷ 34 ∷ rest, refl, refl)), refl)
+op_is Lt rest = (inr (inr (60, 34 ∷ rest, refl, refl)), (refl, no_equals rest))
+op_is Le rest = (inr (inr (60, 61 ∷ 34 ∷ rest, refl, refl)), refl)
+op_is Gt rest = (inr (inr (62, 34 ∷ rest, refl, refl)), (refl, no_equals rest))
+op_is Ge rest = (inr (inr (62, 61 ∷ 34 ∷ rest, refl, refl)), refl)
 
 -- the text of a good literal ends at its closing mark and not before
 literal_ends : (literal : Literal) → IsGoodLiteral literal → Ends (literal_text literal)
@@ -173,9 +165,10 @@ mutual
       let marked = in_marks l (41 ∷ rest) in
       let us = word l ∷ closes ∷ ts in
       let behind = op_text o ++ marked in
+      let is = op_is o (l ++ 34 ∷ 41 ∷ rest) in
       plainly opens (40 ∷ []) (attr_then attr behind) (word (raw_attr attr) ∷ op o ∷ us) refl
-      (attr_by attr behind (op o ∷ us) (list_all is_bare_byte attr) h.0 refl (op_stops o marked)
-      (plainly (op o) (op_text o) marked us (is_op o (l ++ 34 ∷ 41 ∷ rest))
+      (attr_by attr behind (op o ∷ us) (list_all is_bare_byte attr) h.0 refl is.0
+      (plainly (op o) (op_text o) marked us is.1
       (lex_quoted l (41 ∷ rest) (closes ∷ ts) (literal_ends literal h.1.1) (closing rest ts k))))
   lexes_written (Not q) rest ts h k = plainly bang (33 ∷ []) (written q rest) (said q ++ ts)
       (refl, is_not_next 61 (written q rest) (begins_no q rest)) (lexes_written q rest ts h k)

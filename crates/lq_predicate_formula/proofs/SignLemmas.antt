@@ -141,10 +141,12 @@ signs_quoted m (escaped b ∷ ss) rest h =
     rw (signs_quoted m ss rest h.1) (added_more (suc (suc n)) n (λ k. suc (suc k)) (λ k. omega arith)
     (quoted_bytes m false rest))
 
--- the mark ends a quoted text
-mark_ends : (m : ℕ) (rest : List ℕ) → IsQuote m → quoted_bytes m false (m ∷ rest) ≡ Some 0
-mark_ends m rest (inl e) = rw e
-mark_ends m rest (inr e) = rw e
+-- a mark is no white space, begins a quoted text, and ends one
+marks : (m : ℕ) → IsQuote m → (is_space m ≡ false)
+    × ((bs : List ℕ) → front m bs ≡ quoted_front bs (quoted_bytes m false bs))
+    × ((rest : List ℕ) → quoted_bytes m false (m ∷ rest) ≡ Some 0)
+marks m (inl e) = rw e (refl, (λ bs. refl), λ rest. refl)
+marks m (inr e) = rw e (refl, (λ bs. refl), λ rest. refl)
 
 -- a quoted text ends at its mark
 quoted_is : (m : ℕ) (raw rest : List ℕ) → IsQuote m → AreWithout m raw
@@ -152,7 +154,7 @@ quoted_is : (m : ℕ) (raw rest : List ℕ) → IsQuote m → AreWithout m raw
 quoted_is m raw rest mark h =
     let e : length (sign_bytes h.0) + 0 ≡ length (sign_bytes h.0) = omega arith in
     rw h.1 (signs_quoted m h.0 (m ∷ rest) h.2
-    ∙ ap (added (length (sign_bytes h.0))) (mark_ends m rest mark) ∙ ap Some e)
+    ∙ ap (added (length (sign_bytes h.0))) ((marks m mark).2 rest) ∙ ap Some e)
 
 -- a text without the mark has no end, also where a `\` ends it
 no_end_none : (m : ℕ) (bs : List ℕ) → HasNoEnd m bs → quoted_bytes m false bs ≡ None
@@ -162,17 +164,6 @@ no_end_none m bs h = elim h.2 [
   | inr e ↦ ap (quoted_bytes m false) (e ∙ ap (λ l. l ++ 92 ∷ []) h.1.1)
       ∙ signs_quoted m h.1.0 (92 ∷ []) h.1.2
 ]
-
--- a mark begins a quoted text
-mark_front : (m : ℕ) (bs : List ℕ) → IsQuote m
-    → front m bs ≡ quoted_front bs (quoted_bytes m false bs)
-mark_front m bs (inl e) = rw e
-mark_front m bs (inr e) = rw e
-
--- a mark is no white space
-mark_no_space : (m : ℕ) → IsQuote m → is_space m ≡ false
-mark_no_space m (inl e) = ap is_space e
-mark_no_space m (inr e) = ap is_space e
 
 -- ---- a token by its signs is the one that the lexer finds
 
@@ -207,9 +198,9 @@ unquoted_starts cut part rest h = elim h.1 [
     u.0,
     u.1,
     u.4,
-    mark_no_space u.0 u.2,
+    (marks u.0 u.2).0,
     ap (λ r. front u.0 (u.1 ++ r)) h.0 ∙ ap (front u.0) (append-nil u.1)
-        ∙ mark_front u.0 u.1 u.2 ∙ ap (quoted_front u.1) (no_end_none u.0 u.1 u.3),
+        ∙ (marks u.0 u.2).1 u.1 ∙ ap (quoted_front u.1) (no_end_none u.0 u.1 u.3),
   )
 ]
 
@@ -223,8 +214,8 @@ quoted_starts raw part rest q =
       m,
       raw ++ m ∷ [],
       q.3,
-      mark_no_space m q.1,
-      ap (front m) (append_assoc raw (m ∷ []) rest) ∙ mark_front m bs q.1
+      (marks m q.1).0,
+      ap (front m) (append_assoc raw (m ∷ []) rest) ∙ (marks m q.1).1 bs
           ∙ ap (quoted_front bs) (quoted_is m raw rest q.1 q.2)
           ∙ ap (λ l. front_with (word l) (suc (suc (length raw))) 1)
           (take-append_seam raw (m ∷ rest)) ∙ ap (λ n. front_with (word raw) n 1) size,
