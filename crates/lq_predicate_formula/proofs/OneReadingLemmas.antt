@@ -42,10 +42,13 @@ formula_fine end ts q h few =
     fine_of end ts s.0 s.1 (omega arith)
 
 -- where no token is at fault, all are passed over
-passes : (end : ℕ) (ts : List Placed) → AreFine end ts → Stops end ts → Passes end ts
-passes end ts fine (at_one before here after p split none fault reads) =
-    absurd (fine before here after p split fault)
-passes end ts fine (behind_all p) = p
+passes : (end : ℕ) (ts : List Placed) → AreFine end ts → Passes end ts
+passes end ts fine = by (stops end ts)
+  where
+    by : Stops end ts → Passes end ts
+    by (at_one before here after p split none fault reads) =
+        absurd (fine before here after p split fault)
+    by (behind_all p) = p
 
 module _ (text : List ℕ) (ts : List Placed) (has : HasTokens 0 text ts) where
   -- the reading of a text that is too long
@@ -121,10 +124,6 @@ module _ (text : List ℕ) (ts : List Placed) (has : HasTokens 0 text ts) where
 
   -- ---- the machine finds each reading
 
-  -- the state behind all tokens, where none is at fault
-  passed : AreFine (length text) ts → Passes (length text) ts
-  passed fine = passes (length text) ts fine (stops (length text) ts)
-
   -- a formula with no token at fault is whole behind all tokens
   formula_whole : (p : Passes (length text) ts) (q : Query) → IsFormula nesting (bare ts) q
       → finished_query p.s ≡ Some q
@@ -144,7 +143,7 @@ module _ (text : List ℕ) (ts : List Placed) (has : HasTokens 0 text ts) where
       → read_tokens (length text) (start nesting) 0 (before ++ here ∷ after) ≡ Err p
   reading_at before here after p fine fault =
       let end = length text in
-      let t = passes end before fine (stops end before) in
+      let t = passes end before fine in
       let place = fault_is (bare before) t.s t.seen.goes end here in
       t.goes (here ∷ after) ∙ elim (next end before here t.s t.count t.seen) [
         | inl f ↦ f.2 after ∙ ap Err (sym (place f.0 f.1) ∙ place p fault)
@@ -156,7 +155,7 @@ module _ (text : List ℕ) (ts : List Placed) (has : HasTokens 0 text ts) where
   found (Ok q) h =
       let same = tokens_same h.tokens ts 0 text h.has has in
       let formula = subst (λ us. IsFormula nesting (bare us) q) same h.formula in
-      let p = passed (formula_fine (length text) ts q formula h.few) in
+      let p = passes (length text) ts (formula_fine (length text) ts q formula h.few) in
       whole_reading h.short p
       ∙ ap (finished (length text)) (formula_whole p q formula)
       ∙ finished_small (length text) q h.shallow h.brief
@@ -167,13 +166,13 @@ module _ (text : List ℕ) (ts : List Placed) (has : HasTokens 0 text ts) where
       ∙ reading_at before here after p fine fault
   found (Err p) (ends_early short all is fine none at) =
       let same = tokens_same all ts 0 text is has in
-      let t = passed (subst (AreFine (length text)) same fine) in
+      let t = passes (length text) ts (subst (AreFine (length text)) same fine) in
       whole_reading short t
       ∙ none_whole t (finished_query t.s) refl
       (subst (λ us. (q : Query) → IsFormula nesting (bare us) q → ⊥) same none) ∙ ap Err (sym at)
   found (Err p) (too_much short all is fine q formula over at) =
       let same = tokens_same all ts 0 text is has in
-      let t = passed (subst (AreFine (length text)) same fine) in
+      let t = passes (length text) ts (subst (AreFine (length text)) same fine) in
       whole_reading short t
       ∙ ap (finished (length text))
       (formula_whole t q (subst (λ us. IsFormula nesting (bare us) q) same formula))

@@ -2,9 +2,9 @@
 use Rattle.std.proofs.Common.{◌≡◌, ◌≤◌, ◌<◌, ◌⊎◌, ◌+◌, ◌/◌, ◌%◌, ℕ, Bool, true, false, cond, List, [], ◌∷◌, refl, inl, inr, ◌∙◌, sym, arith, ap, ◌++◌, subst}
 use Rattle.std.proofs.Math.Dec.{ltb, lit<}
 use Rattle.std.proofs.Math.Utf8.{encode}
-use Rattle.std.specs.Prelude.{◌==◌, ◌||◌, if◌then◌else◌}
+use Rattle.std.specs.Prelude.{◌==◌, ◌||◌}
 use Rattle.std.specs.Str.{encode_utf8_all}
-use Rattle.std.proofs.lemmas.Bool.{ne_eqb}
+use Rattle.std.proofs.lemmas.Bool.{cond_both, ne_eqb, or_parts}
 use Rattle.std.proofs.lemmas.Str.{encode_ascii}
 use Rattle.lq_predicate_formula.specs.Literals.{unescaped}
 use Rattle.lq_predicate_formula.specs.Canonical.{quoted}
@@ -56,17 +56,13 @@ pub first_not : (m c first : ℕ) → m < 128 → (first ≡ c) ⊎ (128 ≤ fir
 first_not m c first small (inl e) other is = other (sym e ∙ is)
 first_not m c first small (inr high) other is = omega (arith, small, high, is)
 
--- one byte more, escaped or not, reads back
-back_by : (b : ℕ) (bs : List ℕ) (x y : Bool) → (b == 92) ≡ x → unescaped false (quoted bs) ≡ bs
-    → unescaped false (if x || y then 92 ∷ b ∷ quoted bs else b ∷ quoted bs) ≡ b ∷ bs
-back_by b bs true y e ih = ap (λ l. b ∷ l) ih
-back_by b bs false true e ih = ap (λ l. b ∷ l) ih
-back_by b bs false false e ih = rw (e, ih)
-
 -- what was quoted reads back
 pub quoted_back : (s : List ℕ) → unescaped false (quoted s) ≡ s
 quoted_back [] = refl
-quoted_back (b ∷ bs) = back_by b bs (b == 92) (b == 34) refl (quoted_back bs)
+quoted_back (b ∷ bs) =
+    let more = quoted_back bs in
+    cond_both (b == 92 || b == 34) _ _ (λ l. unescaped false l ≡ b ∷ bs) (λ e. ap (λ l. b ∷ l) more)
+    (λ e. rw ((or_parts (b == 92) (b == 34) e).0, more))
 
 -- a raw text that may stand between two `"`: signs none of which is `"` by itself
 abbrev pub Ends : List ℕ → Type 0
@@ -81,17 +77,14 @@ pub ends_plain : (b : ℕ) (bs : List ℕ) → (b == 92) ≡ false → (b == 34)
     → Ends (b ∷ bs)
 ends_plain b bs e f h = (plain b ∷ h.0, ap (λ l. b ∷ l) h.1, ((e, f), h.2))
 
--- one byte more, escaped or not
-ends_by : (b : ℕ) (bs : List ℕ) (x y : Bool) → (b == 92) ≡ x → (b == 34) ≡ y → Ends bs
-    → Ends (if x || y then 92 ∷ b ∷ bs else b ∷ bs)
-ends_by b bs true y e f h = ends_escape b bs h
-ends_by b bs false true e f h = ends_escape b bs h
-ends_by b bs false false e f h = ends_plain b bs e f h
-
 -- a quoted text may stand between two `"`
 pub quoted_ends : (s : List ℕ) → Ends (quoted s)
 quoted_ends [] = ([], refl, tt)
-quoted_ends (b ∷ bs) = ends_by b (quoted bs) (b == 92) (b == 34) refl refl (quoted_ends bs)
+quoted_ends (b ∷ bs) =
+    let more = quoted_ends bs in
+    cond_both (b == 92 || b == 34) _ _ Ends (λ e. ends_escape b (quoted bs) more) (λ e.
+    let k = or_parts (b == 92) (b == 34) e in
+    ends_plain b (quoted bs) k.0 k.1 more)
 
 -- bytes of 128 or more
 high_bytes : (bs cs : List ℕ) → AreHigh bs → Ends cs → Ends (bs ++ cs)

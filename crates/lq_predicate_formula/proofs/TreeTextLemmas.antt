@@ -1,6 +1,5 @@
 -- Canonical texts, a piece at a time.
-use Rattle.std.proofs.Common.{◌≡◌, ℕ, List, [], ◌∷◌, ◌++◌, append_assoc, refl, sym, ap, ◌∙◌}
-use Rattle.std.proofs.Common.{◌+◌, ◌<◌, length, drop, get_or}
+use Rattle.std.proofs.Common.{◌≡◌, ℕ, List, [], ◌∷◌, ◌++◌, append_assoc, refl, sym, ap, ◌∙◌, ◌+◌, ◌<◌, length, drop, get_or}
 use Rattle.std.specs.Prelude.{codes}
 use Rattle.lq_predicate_formula.proofs.PartLemmas.{parts_here}
 use Rattle.lq_predicate_formula.proofs.WritingLemmas.{attr_then-append, in_marks-append, on}

@@ -1,14 +1,12 @@
 -- Canonical texts, a piece at a time.
-use Rattle.std.proofs.Common.{◌≡◌, ℕ, List, [], ◌∷◌, ◌++◌, append_assoc, refl, sym, ap, ◌∙◌, arith, Bool, true, false}
-use Rattle.std.proofs.Common.{◌+◌, ◌<◌, length, drop, get_or}
+use Rattle.std.proofs.Common.{◌≡◌, ℕ, List, [], ◌∷◌, ◌++◌, append_assoc, refl, sym, ap, ◌∙◌, arith, Bool, true, false, ◌+◌, ◌<◌, length, drop, get_or}
 use Rattle.std.proofs.lemmas.Bool.{ne_eqb}
 use Rattle.std.proofs.lemmas.List.{at_drop_more, append-nil}
-use Rattle.std.proofs.lemmas.Str.{encode_ascii}
+use Rattle.std.proofs.lemmas.Str.{encode_ascii, encodes-append}
 use Rattle.std.proofs.Math.Dec.{lit<}
 use Rattle.std.specs.Prelude.{if◌then◌else◌, ◌||◌, ◌==◌, encode_utf8}
 use Rattle.std.specs.List.{list_all}
 use Rattle.std.specs.Str.{encode_utf8_all}
-use Rattle.std.proofs.lemmas.Str.{encodes-append}
 use Rattle.lq_value.specs.Element.{Element}
 use Rattle.lq_value.specs.Element.TheVariants.{Star, Any, Set}
 use Rattle.lq_value.specs.Element.TheVariants as element
