@@ -36,8 +36,9 @@ finished_big end q (inr h) = ap (λ b. if b then Ok q else Err end)
 formula_fine : (end : ℕ) (ts : List Placed) (q : Query) → IsFormula nesting (bare ts) q
     → comparisons q ≤ most_comparisons → AreFine end ts
 formula_fine end ts q h few =
-    let goes = ap (run (start nesting)) (append-nil (bare ts)) ∙ formula_runs nesting (bare ts) q h in
-    let s = comes (bare ts) [] (start nesting) q goes in
+    let goes = formula_runs nesting (bare ts) q h in
+    let s = comes (bare ts) [] (start nesting) q
+    (ap (run (start nesting)) (append-nil (bare ts)) ∙ goes) in
     let counted = formula_words nesting (bare ts) q h in
     fine_of end ts s.0 s.1 (omega arith)
 

@@ -138,8 +138,9 @@ signs_quoted m (plain b ∷ ss) rest h =
     (added_more (suc n) n (λ k. suc k) (λ k. omega arith) (quoted_bytes m false rest))
 signs_quoted m (escaped b ∷ ss) rest h =
     let n = length (sign_bytes ss) in
-    rw (signs_quoted m ss rest h.1) (added_more (suc (suc n)) n (λ k. suc (suc k)) (λ k. omega arith)
-    (quoted_bytes m false rest))
+    let o = quoted_bytes m false rest in
+    rw (signs_quoted m ss rest h.1)
+    (added_more (suc (suc n)) n (λ k. suc (suc k)) (λ k. omega arith) o)
 
 -- a mark is no white space, begins a quoted text, and ends one
 marks : (m : ℕ) → IsQuote m → (is_space m ≡ false)
@@ -448,7 +449,8 @@ quoted_stands m bs None mark c =
 quoted_stands m bs (Some n) mark c =
     let raw = c.0 in
     let end = c.2 in
-    let is_raw : take n bs ≡ raw = ap₂ take (sym end.1) end.2 ∙ take-append_seam raw (m ∷ end.0) in (
+    let is_raw : take n bs ≡ raw =
+    ap₂ take (sym end.1) end.2 ∙ take-append_seam raw (m ∷ end.0) in (
       m ∷ (raw ++ m ∷ []),
       end.0,
       ap (λ l. m ∷ l) (end.2 ∙ sym (append_assoc raw (m ∷ []) end.0)),

@@ -176,9 +176,10 @@ ends_from q ts (one_or below f n) h =
     let os = f.or_parts in
     let xs = f.and_parts in
     let r = plain below (os ++ both_of xs ∷ []) (h.p ∷ []) n q h.b h.after in
+    let ys = both_of (h.p ∷ r.more) ∷ r.ys in
     record {
       more = [];
-      ys = both_of (h.p ∷ r.more) ∷ r.ys;
+      ys = ys;
       a = [];
       b = ors ∷ ((h.a ++ r.a) ++ r.b);
       c = r.c;
@@ -192,10 +193,9 @@ ends_from q ts (one_or below f n) h =
         (h.p, r.more, refl, (h.a, r.a, refl, h.reads, r.more_ands)),
         r.more_ors,
       );
-      then = subst
-          (λ l. Closing below n q (either_of (os ++ (both_of l ∷ both_of (h.p ∷ r.more) ∷ r.ys))) r.c)
+      then = subst (λ l. Closing below n q (either_of (os ++ (both_of l ∷ ys))) r.c)
           (sym (append-nil xs)) (subst (λ l. Closing below n q (either_of l) r.c)
-          (append_assoc os (both_of xs ∷ []) (both_of (h.p ∷ r.more) ∷ r.ys)) r.then);
+          (append_assoc os (both_of xs ∷ []) ys) r.then);
     }
 ends_from q ts (leave g below f n) h =
     rest_end n f.or_parts f.and_parts (λ r e. Closing (g ∷ below) n q r e) (closes ∷ ts)

@@ -45,8 +45,8 @@ plain_elements-push (d ∷ cs) c = ap (λ es. element.Plain d ∷ es) (plain_ele
 pub quoted-append : (xs ys : List ℕ) → quoted (xs ++ ys) ≡ quoted xs ++ quoted ys
 quoted-append [] ys = refl
 quoted-append (x ∷ xs) ys =
-    let more = quoted-append xs ys in
-    if-append (x == 92 || x == 34) _ _ (quoted ys) (ap (λ t. 92 ∷ x ∷ t) more) (ap (λ t. x ∷ t) more)
+    let h = quoted-append xs ys in
+    if-append (x == 92 || x == 34) _ _ (quoted ys) (ap (λ t. 92 ∷ x ∷ t) h) (ap (λ t. x ∷ t) h)
 
 -- ---- patterns
 
