@@ -1,7 +1,10 @@
--- One byte more of white space, of a word and of a quoted text.
-use Rattle.std.proofs.Common.{◌≡◌, ◌<◌, ◌≤◌, ◌+◌, ℕ, suc, true, false, cond, List, ◌∷◌, length, get_or, drop, Option, Some, None, refl, ap, ◌∙◌, arith, add-one, drop-cons}
+-- One byte more of white space, of a word and of a quoted text, and where a text may be cut.
+use Rattle.std.proofs.Common.{◌≡◌, ◌<◌, ◌≤◌, ◌+◌, ℕ, suc, true, false, List, ◌∷◌, length, get_or, drop, Option, Some, None, refl, ap, arith, add-one, drop-cons, zero, pred, IsUtf8, subst, length-drop, get_or-drop, ◌∙◌}
 use Rattle.std.specs.Prelude.{option_map, ◌==◌}
 use Rattle.std.proofs.lemmas.List.{drop_all}
+use Rattle.std.specs.Str.{IsCharBoundary}
+use Rattle.std.proofs.lemmas.Str.{IsCharBoundary-after_ascii}
+use Rattle.std.proofs.iter.FirstChar.{at_start}
 use Rattle.lq_predicate_formula.specs.Bytes.{is_space, ends_word}
 use Rattle.lq_predicate_formula.specs.Lexing.{spaces, word_bytes, quoted_bytes}
 
@@ -12,95 +15,42 @@ at_byte bs n h = rw (add-one, drop-cons bs n 0)
 -- white space counts one more than what follows it
 pub spaces_more : (bs : List ℕ) (n : ℕ) → n < length bs → is_space (get_or bs n 0) ≡ true
     → spaces (drop n bs) ≡ suc (spaces (drop (n + 1) bs))
-spaces_more bs n h e =
-    ap spaces (at_byte bs n h) ∙ ap (λ t. cond t (suc (spaces (drop (n + 1) bs))) 0) e
+spaces_more bs n h e = rw (at_byte bs n h, e)
 
 -- a byte that ends words ends the count of a word's bytes
 pub word_end : (bs : List ℕ) (n : ℕ) → n < length bs → (get_or bs n 0 == 92) ≡ false
     → ends_word (get_or bs n 0) ≡ true → word_bytes false (drop n bs) ≡ 0
-word_end bs n h e f = ap (word_bytes false) (at_byte bs n h)
-    ∙ ap (λ t. cond t (word_bytes true (drop (n + 1) bs))
-    (cond (ends_word (get_or bs n 0)) 0 (suc (word_bytes false (drop (n + 1) bs))))) e
-    ∙ ap (λ t. cond t 0 (suc (word_bytes false (drop (n + 1) bs)))) f
+word_end bs n h e f = rw (at_byte bs n h, e, f)
 
 -- a byte that is no `\` and ends no word counts one more than what follows it
 pub word_more : (bs : List ℕ) (n : ℕ)
     → n < length bs → (get_or bs n 0 == 92) ≡ false → ends_word (get_or bs n 0) ≡ false
     → word_bytes false (drop n bs) ≡ suc (word_bytes false (drop (n + 1) bs))
-word_more bs n h e f = ap (word_bytes false) (at_byte bs n h)
-    ∙ ap (λ t. cond t (word_bytes true (drop (n + 1) bs))
-    (cond (ends_word (get_or bs n 0)) 0 (suc (word_bytes false (drop (n + 1) bs))))) e
-    ∙ ap (λ t. cond t 0 (suc (word_bytes false (drop (n + 1) bs)))) f
-
--- `\` in a word escapes the next byte
-escaped_step : (bs : List ℕ) (n : ℕ) → n < length bs → (get_or bs n 0 == 92) ≡ true
-    → word_bytes false (drop n bs) ≡ word_bytes true (drop (n + 1) bs)
-escaped_step bs n h e = ap (word_bytes false) (at_byte bs n h)
-    ∙ ap (λ t. cond t (word_bytes true (drop (n + 1) bs))
-    (cond (ends_word (get_or bs n 0)) 0 (suc (word_bytes false (drop (n + 1) bs))))) e
+word_more bs n h e f = rw (at_byte bs n h, e, f)
 
 -- a `\` at the end of the text is no part of a word
 pub word_cut : (bs : List ℕ) (n : ℕ) → n < length bs → length bs ≤ n + 1
     → (get_or bs n 0 == 92) ≡ true → word_bytes false (drop n bs) ≡ 0
-word_cut bs n h k e = escaped_step bs n h e ∙ ap (word_bytes true) (drop_all (n + 1) bs k)
+word_cut bs n h k e = rw (at_byte bs n h, e, drop_all (n + 1) bs k)
 
 -- `\` and the byte after it count two more than what follows them
 pub word_escaped : (bs : List ℕ) (n : ℕ) → n + 1 < length bs → (get_or bs n 0 == 92) ≡ true
     → word_bytes false (drop n bs) ≡ suc (suc (word_bytes false (drop (n + 2) bs)))
 word_escaped bs n k e =
     let two : n + 1 + 1 ≡ n + 2 = omega arith in
-    escaped_step bs n (omega arith) e ∙ ap (word_bytes true) (at_byte bs (n + 1) k)
-    ∙ ap (λ i. suc (suc (word_bytes false (drop i bs)))) two
-
--- `\` in a quoted text escapes the next byte
-quoted_step : (m : ℕ) (bs : List ℕ) (n : ℕ) → n < length bs → (get_or bs n 0 == 92) ≡ true
-    → quoted_bytes m false (drop n bs) ≡ quoted_bytes m true (drop (n + 1) bs)
-quoted_step m bs n h e = ap (quoted_bytes m false) (at_byte bs n h)
-    ∙ ap (λ t. cond t (quoted_bytes m true (drop (n + 1) bs)) (cond (get_or bs n 0 == m) (Some 0)
-    (option_map (λ k. suc k) (quoted_bytes m false (drop (n + 1) bs))))) e
-
--- a quoted text that ends with `\` is not closed
-pub quoted_cut : (m : ℕ) (bs : List ℕ) (n : ℕ) → n < length bs → length bs ≤ n + 1
-    → (get_or bs n 0 == 92) ≡ true → quoted_bytes m false (drop n bs) ≡ None
-quoted_cut m bs n h k e = quoted_step m bs n h e ∙ ap (quoted_bytes m true) (drop_all (n + 1) bs k)
-
--- `\` and the byte after it count two more than the quoted text that follows them
-pub quoted_escaped : (m : ℕ) (bs : List ℕ) (n : ℕ)
-    → n + 1 < length bs → (get_or bs n 0 == 92) ≡ true → quoted_bytes m false (drop n bs)
-    ≡ option_map (λ k. suc (suc k)) (quoted_bytes m false (drop (n + 2) bs))
-quoted_escaped m bs n k e =
-    let two : n + 1 + 1 ≡ n + 2 = omega arith in
-    quoted_step m bs n (omega arith) e ∙ ap (quoted_bytes m true) (at_byte bs (n + 1) k)
-    ∙ ap (λ i. option_map (λ j. suc (suc j)) (quoted_bytes m false (drop i bs))) two
-
--- the mark itself ends a quoted text
-pub quoted_end : (m : ℕ) (bs : List ℕ) (n : ℕ) → n < length bs → (get_or bs n 0 == 92) ≡ false
-    → (get_or bs n 0 == m) ≡ true → quoted_bytes m false (drop n bs) ≡ Some 0
-quoted_end m bs n h e f = ap (quoted_bytes m false) (at_byte bs n h)
-    ∙ ap (λ t. cond t (quoted_bytes m true (drop (n + 1) bs)) (cond (get_or bs n 0 == m) (Some 0)
-    (option_map (λ k. suc k) (quoted_bytes m false (drop (n + 1) bs))))) e
-    ∙ ap (λ t. cond t (Some 0) (option_map (λ k. suc k) (quoted_bytes m false (drop (n + 1) bs)))) f
-
--- a byte that is no `\` and no mark counts one more than the quoted text that follows it
-pub quoted_more : (m : ℕ) (bs : List ℕ) (n : ℕ) → n < length bs → (get_or bs n 0 == 92) ≡ false
-    → (get_or bs n 0 == m) ≡ false → quoted_bytes m false (drop n bs)
-    ≡ option_map (λ k. suc k) (quoted_bytes m false (drop (n + 1) bs))
-quoted_more m bs n h e f = ap (quoted_bytes m false) (at_byte bs n h)
-    ∙ ap (λ t. cond t (quoted_bytes m true (drop (n + 1) bs)) (cond (get_or bs n 0 == m) (Some 0)
-    (option_map (λ k. suc k) (quoted_bytes m false (drop (n + 1) bs))))) e
-    ∙ ap (λ t. cond t (Some 0) (option_map (λ k. suc k) (quoted_bytes m false (drop (n + 1) bs)))) f
+    rw (at_byte bs n (omega arith), e, at_byte bs (n + 1) k, two)
 
 -- n more bytes on the way
 abbrev pub added : ℕ → Option ℕ → Option ℕ
 added n o = option_map (λ k. n + k) o
 
 -- one more in the count is one more in what was counted before it
-pub added_suc : (n : ℕ) (o : Option ℕ) → added n (option_map (λ k. suc k) o) ≡ added (n + 1) o
+added_suc : (n : ℕ) (o : Option ℕ) → added n (option_map (λ k. suc k) o) ≡ added (n + 1) o
 added_suc n None = refl
 added_suc n (Some k) = let e : n + suc k ≡ n + 1 + k = omega arith in ap Some e
 
 -- two more in the count are two more in what was counted before it
-pub added_two : (n : ℕ) (o : Option ℕ) → added n (option_map (λ k. suc (suc k)) o) ≡ added (n + 2) o
+added_two : (n : ℕ) (o : Option ℕ) → added n (option_map (λ k. suc (suc k)) o) ≡ added (n + 2) o
 added_two n None = refl
 added_two n (Some k) = let e : n + suc (suc k) ≡ n + 2 + k = omega arith in ap Some e
 
@@ -109,6 +59,47 @@ pub added_none : (o : Option ℕ) → added 0 o ≡ o
 added_none None = refl
 added_none (Some k) = let e : 0 + k ≡ k = omega arith in ap Some e
 
--- and none in the count is what was counted before it
-pub added_zero : (n : ℕ) → Some n ≡ added n (Some 0)
-added_zero n = let e : n ≡ n + 0 = omega arith in ap Some e
+-- a quoted text that ends with `\` is not closed
+pub quoted_cut : (m : ℕ) (bs : List ℕ) (n : ℕ) → n < length bs → length bs ≤ n + 1
+    → (get_or bs n 0 == 92) ≡ true → added n (quoted_bytes m false (drop n bs)) ≡ None
+quoted_cut m bs n h k e = rw (at_byte bs n h, e, drop_all (n + 1) bs k)
+
+-- `\` and the byte after it count two more than the quoted text that follows them
+pub quoted_escaped : (m : ℕ) (bs : List ℕ) (n : ℕ)
+    → n + 1 < length bs → (get_or bs n 0 == 92) ≡ true → added n (quoted_bytes m false (drop n bs))
+    ≡ added (n + 2) (quoted_bytes m false (drop (n + 2) bs))
+quoted_escaped m bs n k e =
+    let two : n + 1 + 1 ≡ n + 2 = omega arith in
+    rw (at_byte bs n (omega arith), e, at_byte bs (n + 1) k, two) (added_two n _)
+
+-- the mark itself ends a quoted text
+pub quoted_end : (m : ℕ) (bs : List ℕ) (n : ℕ) → n < length bs → (get_or bs n 0 == 92) ≡ false
+    → (get_or bs n 0 == m) ≡ true → added n (quoted_bytes m false (drop n bs)) ≡ Some n
+quoted_end m bs n h e f =
+    let same : n + 0 ≡ n = omega arith in
+    rw (at_byte bs n h, e, f) (ap Some same)
+
+-- a byte that is no `\` and no mark counts one more than the quoted text that follows it
+pub quoted_more : (m : ℕ) (bs : List ℕ) (n : ℕ) → n < length bs → (get_or bs n 0 == 92) ≡ false
+    → (get_or bs n 0 == m) ≡ false → added n (quoted_bytes m false (drop n bs))
+    ≡ added (n + 1) (quoted_bytes m false (drop (n + 1) bs))
+quoted_more m bs n h e f = rw (at_byte bs n h, e, f) (added_suc n _)
+
+-- a text of UTF-8 may be cut at its start and after each ASCII byte
+pub boundary_behind : (bs : List ℕ) (n : ℕ)
+    → IsUtf8 bs → n ≤ length bs → (0 < n → get_or bs (pred n) 0 < 128) → IsCharBoundary bs n
+boundary_behind bs zero u h a = (h, (at_start bs u).1)
+boundary_behind bs (suc n) u h a =
+    let e : n + 1 ≡ suc n = omega arith in
+    subst (IsCharBoundary bs) e (IsCharBoundary-after_ascii bs n u (omega arith) (a (omega arith)))
+
+-- behind the first byte and n more, and a mark
+pub boundary_quoted : (bs : List ℕ) (n : ℕ)
+    → IsUtf8 bs → n < length (drop 1 bs) → get_or (drop 1 bs) n 0 < 128 → IsCharBoundary bs (n + 2)
+boundary_quoted bs n u h a =
+    let l : suc n < length bs = omega (arith, length-drop 1 bs) in
+    let e : suc (suc n) ≡ n + 2 = omega arith in
+    let at : get_or (drop 1 bs) n 0 ≡ get_or bs (suc n) 0 = get_or-drop 1 bs n 0
+    ∙ ap (λ i. get_or bs i 0) (let k : 1 + n ≡ suc n = omega arith in k) in
+    subst (IsCharBoundary bs) e
+    (boundary_behind bs (suc (suc n)) u (omega arith) (λ _. subst (λ x. x < 128) at a))

@@ -1,11 +1,13 @@
 -- A pattern that is read from a text has a source: it is of
 -- characters, its sets have items, no range falls.
-use Rattle.std.proofs.Common.{◌≡◌, ℕ, Bool, true, false, cond, List, [], ◌∷◌, ◌++◌, subst, refl, Some}
+use Rattle.std.proofs.Common.{◌≡◌, ℕ, Bool, true, false, List, [], ◌∷◌, subst, refl, Some}
 use Rattle.std.specs.Prelude.{◌==◌, Result, Ok, Err}
 use Rattle.std.specs.Char.{IsScalar}
+use Rattle.std.specs.List.{AllByRecursion}
 use Rattle.std.specs.Str.{IsUtf8, chars}
 use Rattle.std.proofs.Math.Utf8.{scalar, scalars}
-use Rattle.std.proofs.lemmas.Bool.{and_parts}
+use Rattle.std.proofs.lemmas.Bool.{and_parts, cond_both}
+use Rattle.std.proofs.lemmas.Option.{none-some, same_Some}
 use Rattle.std.proofs.lemmas.Str.{scalars-chars}
 use Rattle.lq_value.specs.Item.{Item}
 use Rattle.lq_value.specs.Item.TheVariants.{One, Range}
@@ -19,7 +21,7 @@ use Rattle.lq_value.specs.declared.literal.Literal.{Literal}
 use Rattle.lq_value.specs.declared.literal.Literal.TheVariants.{Pattern}
 use Rattle.lq_value.specs.declared.literal.Literal.TheVariants as literals
 use Rattle.lq_value.specs.declared.op.Op.{Op}
-use Rattle.lq_value.specs.declared.op.Op.TheVariants.{Eq, Ne, Lt, Le, Gt, Ge}
+use Rattle.lq_value.specs.declared.op.Op.TheVariants.{Eq, Ne}
 use Rattle.lq_predicate_formula.specs.Grammar.{IsFormula}
 use Rattle.lq_predicate_formula.specs.Literals.{literal_of, pattern_literal, unescaped}
 use Rattle.lq_predicate_formula.specs.Query.{Query}
@@ -27,6 +29,7 @@ use Rattle.lq_predicate_formula.specs.Tokens.{Token}
 use Rattle.lq_predicate_formula.specs.Limits.{AreGoodItems, IsGoodBehind, IsGoodElement, IsGoodItem, IsGoodLiteral, IsGoodPattern, IsProper}
 use Rattle.lq_predicate_formula.specs.Words.{WordsAre}
 use Rattle.lq_predicate_formula.proofs.ProperLemmas.{formula_proper_by, read_suits}
+use Rattle.lq_predicate_formula.proofs.PartLemmas.{all_parts}
 use Rattle.lq_predicate_formula.proofs.PatternTextLemmas.{Sign, bare, escaped}
 
 -- what a sign stands for is a character
@@ -36,28 +39,17 @@ record StandsForScalar (s : Sign) : Type 0 where
 
 -- all signs stand for scalar values
 abbrev AllScalar : List Sign → Type 0
-AllScalar [] = Unit {0}
-AllScalar (s ∷ ss) = StandsForScalar s × AllScalar ss
-
--- a number that equals a Unicode scalar value is one
-same_scalar : (d c : ℕ) → d ≡ c → IsScalar d → IsScalar c
-same_scalar d c e h = subst IsScalar e h
+AllScalar ss = AllByRecursion StandsForScalar ss
 
 -- a bare sign of a scalar value stands for that value alone
 bare_scalar : (d : ℕ) → IsScalar d → StandsForScalar (bare d)
 bare_scalar d h =
-    record { outside = λ c k. same_scalar d c k.0 h; inside = λ c k. same_scalar d c k.0 h }
+    record { outside = λ c k. subst IsScalar k.0 h; inside = λ c k. subst IsScalar k.0 h }
 
 -- an escaped sign of a scalar value stands for that value alone
 escaped_scalar : (d : ℕ) → IsScalar d → StandsForScalar (escaped d)
 escaped_scalar d h =
-    record { outside = λ c k. same_scalar d c k h; inside = λ c k. same_scalar d c k h }
-
--- one character more: either it escapes the next, or it is a sign
-signs_by : (b : Bool) (c : ℕ) (cs : List ℕ) → IsScalar c → AllScalar (signs true cs)
-    → AllScalar (signs false cs) → AllScalar (cond b (signs true cs) (bare c ∷ signs false cs))
-signs_by true c cs h k l = k
-signs_by false c cs h k l = (bare_scalar c h, l)
+    record { outside = λ c k. subst IsScalar k h; inside = λ c k. subst IsScalar k h }
 
 -- the signs of a text of scalar values stand for scalar values
 signs_scalar : (b : Bool) (cs : List ℕ) → scalars cs ≡ true → AllScalar (signs b cs)
@@ -65,20 +57,11 @@ signs_scalar false [] e = tt
 signs_scalar true [] e = (record { outside = λ c k. absurd k; inside = λ c k. absurd k }, tt)
 signs_scalar false (c ∷ cs) e =
     let h = and_parts (scalar c) (scalars cs) e in
-    signs_by (c == 92) c cs h.0 (signs_scalar true cs h.1) (signs_scalar false cs h.1)
+    cond_both (c == 92) (signs true cs) (bare c ∷ signs false cs) AllScalar
+    (λ yes. signs_scalar true cs h.1) (λ no. (bare_scalar c h.0, signs_scalar false cs h.1))
 signs_scalar true (c ∷ cs) e =
     let h = and_parts (scalar c) (scalars cs) e in
     (escaped_scalar c h.0, signs_scalar false cs h.1)
-
--- if all of two lists stand for scalar values, those of the first do
-front_scalar : (a b : List Sign) → AllScalar (a ++ b) → AllScalar a
-front_scalar [] b h = tt
-front_scalar (s ∷ a) b h = (h.0, front_scalar a b h.1)
-
--- if all of two lists stand for scalar values, those of the second do
-back_scalar : (a b : List Sign) → AllScalar (a ++ b) → AllScalar b
-back_scalar [] b h = h
-back_scalar (s ∷ a) b h = back_scalar a b h.1
 
 -- an item that is written by signs of scalar values is of scalar values
 item_good : (i : Item) (part rest : List Sign) → IsItem i part rest → AllScalar part → IsGoodItem i
@@ -92,10 +75,8 @@ items_good : (items : List Item) (text : List Sign) → AreItems items text → 
     → AreGoodItems items
 items_good [] text h k = tt
 items_good (i ∷ is) text h k =
-    let l = subst AllScalar h.2 k in (
-      item_good i h.0 h.1 h.3 (front_scalar h.0 h.1 l),
-      items_good is h.1 h.4 (back_scalar h.0 h.1 l),
-    )
+    let l = all_parts StandsForScalar h.0 h.1 (subst AllScalar h.2 k) in
+    (item_good i h.0 h.1 h.3 l.0, items_good is h.1 h.4 l.1)
 
 -- an element that is written by signs of scalar values is of scalar values
 element_good : (e : Element) (part : List Sign) → IsElement e part → AllScalar part
@@ -115,10 +96,8 @@ pattern_good : (es : List Element) (text : List Sign) → Writes text es → All
     → IsGoodPattern es
 pattern_good [] text h k = tt
 pattern_good (e ∷ es) text h k =
-    let l = subst AllScalar h.2 k in (
-      element_good e h.0 h.3 (front_scalar h.0 h.1 l),
-      pattern_good es h.1 h.4 (back_scalar h.0 h.1 l),
-    )
+    let l = all_parts StandsForScalar h.0 h.1 (subst AllScalar h.2 k) in
+    (element_good e h.0 h.3 l.0, pattern_good es h.1 h.4 l.1)
 
 -- a pattern that is read has a source
 pub read_good : SourcesAreRead
@@ -133,24 +112,16 @@ good_pattern : SourcesAreRead
     → (raw : List ℕ) → IsUtf8 raw → (r : Result (List Element) ℕ) (literal : Literal)
     → pattern_of raw ≡ r → pattern_literal r ≡ Some literal → IsGoodLiteral literal
 good_pattern law raw u (Ok es) literal is e =
-    subst IsGoodLiteral (let same : Pattern es ≡ literal = cc in same) (read_good law raw es u is)
-good_pattern law raw u (Err k) literal is e = absurd (let no : ⊥ = cc in no)
-
--- a literal that is a plain text is good
-good_plain : (text : List ℕ) (literal : Literal) → Some (literals.Plain text) ≡ Some literal
-    → IsGoodLiteral literal
-good_plain text literal e =
-    subst IsGoodLiteral (let same : literals.Plain text ≡ literal = cc in same) tt
+    subst IsGoodLiteral (same_Some (Pattern es) literal e) (read_good law raw es u is)
+good_pattern law raw u (Err k) literal is e = absurd (none-some literal e)
 
 -- a literal that is read from a text of UTF-8 is good
 literal_good : SourcesAreRead → (o : Op) (raw : List ℕ) (literal : Literal) → IsUtf8 raw
     → literal_of o raw ≡ Some literal → IsGoodLiteral literal
 literal_good law Eq raw literal u e = good_pattern law raw u (pattern_of raw) literal refl e
 literal_good law Ne raw literal u e = good_pattern law raw u (pattern_of raw) literal refl e
-literal_good law Lt raw literal u e = good_plain (unescaped false raw) literal e
-literal_good law Le raw literal u e = good_plain (unescaped false raw) literal e
-literal_good law Gt raw literal u e = good_plain (unescaped false raw) literal e
-literal_good law Ge raw literal u e = good_plain (unescaped false raw) literal e
+literal_good law o raw literal u e =
+    subst IsGoodLiteral (same_Some (literals.Plain (unescaped false raw)) literal e) tt
 
 -- what a formula of texts is read as has a canonical text that is read
 pub formula_good : SourcesAreRead

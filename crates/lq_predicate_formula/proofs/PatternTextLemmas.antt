@@ -1,10 +1,10 @@
 -- The canonical text of a pattern writes the pattern, and ends at its mark.
-use Rattle.std.proofs.Common.{eq-eqb, ◌≡◌, ℕ, Bool, true, false, cond, List, [], ◌∷◌, ◌++◌, refl, sym, ap, ◌∙◌, subst, arith}
-use Rattle.std.specs.Prelude.{◌==◌, ◌||◌, ◌&&◌, if◌then◌else◌}
+use Rattle.std.proofs.Common.{◌≡◌, ℕ, Bool, true, false, cond, List, [], ◌∷◌, ◌++◌, refl, sym, ap, ◌∙◌, subst, arith}
+use Rattle.std.specs.Prelude.{◌==◌, ◌||◌, if◌then◌else◌}
 use Rattle.std.specs.Char.{IsScalar}
 use Rattle.std.specs.Str.{encode_utf8_all}
 use Rattle.std.proofs.Math.Utf8.{scalar, scalars, low_scalar}
-use Rattle.std.proofs.lemmas.Bool.{or_parts}
+use Rattle.std.proofs.lemmas.Bool.{and_from, eqb-false, or_parts}
 use Rattle.std.proofs.lemmas.Str.{chars-encodes}
 use Rattle.lq_value.specs.Item.{Item}
 use Rattle.lq_value.specs.Item.TheVariants.{One, Range}
@@ -14,8 +14,7 @@ use Rattle.lq_value.specs.Sign.{signs, signs_of}
 use Rattle.lq_value.specs.Written.{AreItems, BeginsNoRange, IsElement, StandsFor, StandsInSet, Writes}
 use Rattle.lq_predicate_formula.specs.Canonical.{element_then, in_set_then, items_then, pattern_text, plain_then}
 use Rattle.lq_predicate_formula.specs.Limits.{AreGoodItems, IsGoodElement, IsGoodPattern}
-use Rattle.lq_predicate_formula.proofs.EncodedLemmas.{ends_clear, ends_escaped}
-use Rattle.lq_predicate_formula.proofs.QuotingLemmas.{Ends}
+use Rattle.lq_predicate_formula.proofs.QuotingLemmas.{Ends, ends_clear, ends_escaped}
 
 -- ---- signs, which are known by the texts that they are read from
 
@@ -60,150 +59,85 @@ record IsText (cs : List ℕ) : Type 0 where
   pub scalar : scalars cs ≡ true
   pub ends : Ends (encode_utf8_all cs)
 
--- the empty text is one that ends at its mark
-none_text : IsText []
-none_text = record { scalar = refl; ends = λ rest. refl }
-
--- if both tests are true, so is their 'and'
-both : (x y : Bool) → x ≡ true → y ≡ true → (x && y) ≡ true
-both x y e f = ap (λ t. t && y) e ∙ f
-
--- a scalar value before scalar values makes scalar values
-scalar_more : (c : ℕ) (cs : List ℕ) → IsScalar c → scalars cs ≡ true → scalars (c ∷ cs) ≡ true
-scalar_more c cs h k = both (scalar c) (scalars cs) h k
-
--- numbers that the test tells apart are not equal
-apart : (a b : ℕ) → (a == b) ≡ false → a ≡ b → ⊥
-apart a b e same = true_false (eq-eqb a b same) e
-  where
-    true_false : (a == b) ≡ true → (a == b) ≡ false → ⊥
-    true_false e f = cc
-
 -- a character that is no `\` and no `"` may stand before such a text
 text_clear : (c : ℕ) (cs : List ℕ) → IsScalar c → (c == 92) ≡ false → (c == 34) ≡ false → IsText cs
     → IsText (c ∷ cs)
 text_clear c cs h e f t = record {
-  scalar = scalar_more c cs h t.scalar;
-  ends = ends_clear c cs (apart c 92 e) (apart c 34 f) t.ends;
+  scalar = and_from (scalar c) (scalars cs) h t.scalar;
+  ends = ends_clear c cs (eqb-false c 92 e) (eqb-false c 34 f) t.ends;
 }
 
 -- `\` and any character may stand before such a text
 text_escaped : (c : ℕ) (cs : List ℕ) → IsScalar c → IsText cs → IsText (92 ∷ c ∷ cs)
 text_escaped c cs h t = record {
-  scalar = scalar_more 92 (c ∷ cs) (low_scalar 92 (omega arith)) (scalar_more c cs h t.scalar);
+  scalar = and_from (scalar 92) (scalars (c ∷ cs)) (low_scalar 92 (omega arith))
+      (and_from (scalar c) (scalars cs) h t.scalar);
   ends = ends_escaped c cs t.ends;
 }
 
--- a character that is no `\` is a bare sign
-bare_sign : (c : ℕ) (cs : List ℕ) → (c == 92) ≡ false
-    → signs false (c ∷ cs) ≡ bare c ∷ signs false cs
-bare_sign c cs e = ap (λ t. cond t (signs true cs) (bare c ∷ signs false cs)) e
+-- equal bare signs are of equal characters
+bare_not : (c d : ℕ) → (c == d) ≡ false → bare c ≡ bare d → ⊥
+bare_not c d e same = eqb-false c d e (cc)
 
--- ---- outside of sets
-
--- a text that is one sign, which stands for this character, and then others
-record PlainSign (c : ℕ) (all cs : List ℕ) : Type 0 where
+-- a text that is one sign, of which Q holds, and then others
+record OneSign (Q : Sign → Type 0) (all cs : List ℕ) : Type 0 where
   pub s : Sign
   pub is : signs false all ≡ s ∷ signs false cs
-  pub stands : StandsFor s c
+  pub holds : Q s
   pub text : IsText cs → IsText all
 
--- a plain character, escaped or not as the test says, is one sign that stands for it
-plain_by : (c : ℕ) (cs : List ℕ)
-    → IsScalar c → (t : Bool) → (c == 42 || c == 63 || c == 91 || c == 92 || c == 34) ≡ t
-    → PlainSign c (if t then 92 ∷ c ∷ cs else c ∷ cs) cs
-plain_by c cs h true e =
-    record { s = escaped c; is = refl; stands = refl; text = text_escaped c cs h }
-plain_by c cs h false e =
-    let a = or_parts (c == 42 || c == 63 || c == 91 || c == 92) (c == 34) e in
-    let b = or_parts (c == 42 || c == 63 || c == 91) (c == 92) a.0 in
-    record {
-      s = bare c;
-      is = bare_sign c cs b.1;
-      stands = (refl, b.0);
-      text = text_clear c cs h b.1 a.1;
-    }
+-- a character, escaped or not as a test says, is one sign
+one_by : (Q : Sign → Type 0) (c : ℕ) (cs : List ℕ) → IsScalar c → (t : Bool) → Q (escaped c)
+    → (t ≡ false → ((c == 92) ≡ false) × ((c == 34) ≡ false) × Q (bare c))
+    → OneSign Q (if t then 92 ∷ c ∷ cs else c ∷ cs) cs
+one_by Q c cs h true e f =
+    record { s = escaped c; is = refl; holds = e; text = text_escaped c cs h }
+one_by Q c cs h false e f =
+    let k = f refl in
+    record { s = bare c; is = rw k.0; holds = k.2; text = text_clear c cs h k.0 k.1 }
 
 -- the text of a plain character is one sign that stands for it
-plain_sign : (c : ℕ) (cs : List ℕ) → IsScalar c → PlainSign c (plain_then c cs) cs
-plain_sign c cs h = plain_by c cs h (c == 42 || c == 63 || c == 91 || c == 92 || c == 34) refl
+plain_sign : (c : ℕ) (cs : List ℕ) → IsScalar c → OneSign (λ s. StandsFor s c) (plain_then c cs) cs
+plain_sign c cs h = one_by (λ s. StandsFor s c) c cs h
+    (c == 42 || c == 63 || c == 91 || c == 92 || c == 34) refl (λ e.
+    let a = or_parts (c == 42 || c == 63 || c == 91 || c == 92) (c == 34) e in
+    let b = or_parts (c == 42 || c == 63 || c == 91) (c == 92) a.0 in
+    (b.1, a.1, (refl, b.0)))
 
 -- ---- in sets
 
--- a text that is one sign, which stands for this character in a set, and then others
-record SetSign (c : ℕ) (all cs : List ℕ) : Type 0 where
-  pub s : Sign
-  pub is : signs false all ≡ s ∷ signs false cs
-  pub stands : StandsInSet s c
-  pub no_dash : s ≡ bare 45 → ⊥
-  pub no_caret : s ≡ bare 94 → ⊥
-  pub text : IsText cs → IsText all
+-- the sign stands for this character in a set, and is neither `-` nor `^` alone
+abbrev InSet : ℕ → Sign → Type 0
+InSet c s = StandsInSet s c × (s ≡ bare 45 → ⊥) × (s ≡ bare 94 → ⊥)
 
--- equal bare signs are of equal characters
-bare_same : (c d : ℕ) → bare c ≡ bare d → c ≡ d
-bare_same c d e = cc
-
--- a character of a set, escaped or not as the test says, is one sign that stands for it
-in_set_by : (c : ℕ) (cs : List ℕ)
-    → IsScalar c → (t : Bool) → (c == 93 || c == 91 || c == 92 || c == 94 || c == 45 || c == 34) ≡ t
-    → SetSign c (if t then 92 ∷ c ∷ cs else c ∷ cs) cs
-in_set_by c cs h true e = record {
-  s = escaped c;
-  is = refl;
-  stands = refl;
-  no_dash = λ x. cc;
-  no_caret = λ x. cc;
-  text = text_escaped c cs h;
-}
-in_set_by c cs h false e =
+-- the text of a character of a set is one sign that stands for it
+set_sign : (c : ℕ) (cs : List ℕ) → IsScalar c → OneSign (InSet c) (in_set_then c cs) cs
+set_sign c cs h = one_by (InSet c) c cs h
+    (c == 93 || c == 91 || c == 92 || c == 94 || c == 45 || c == 34)
+    (refl, (λ x. cc), λ x. cc) (λ e.
     let a = or_parts (c == 93 || c == 91 || c == 92 || c == 94 || c == 45) (c == 34) e in
     let b = or_parts (c == 93 || c == 91 || c == 92 || c == 94) (c == 45) a.0 in
     let d = or_parts (c == 93 || c == 91 || c == 92) (c == 94) b.0 in
     let f = or_parts (c == 93 || c == 91) (c == 92) d.0 in
     let g = or_parts (c == 93) (c == 91) f.0 in
-    record {
-      s = bare c;
-      is = bare_sign c cs f.1;
-      stands = (refl, g.0);
-      no_dash = λ x. apart c 45 b.1 (bare_same c 45 x);
-      no_caret = λ x. apart c 94 d.1 (bare_same c 94 x);
-      text = text_clear c cs h f.1 a.1;
-    }
+    (f.1, a.1, ((refl, g.0), bare_not c 45 b.1, bare_not c 94 d.1)))
 
--- the text of a character of a set is one sign that stands for it
-set_sign : (c : ℕ) (cs : List ℕ) → IsScalar c → SetSign c (in_set_then c cs) cs
-set_sign c cs h =
-    in_set_by c cs h (c == 93 || c == 91 || c == 92 || c == 94 || c == 45 || c == 34) refl
+-- signs that don't begin with this bare character
+abbrev NotFirst : ℕ → List Sign → Type 0
+NotFirst d all = (behind : List Sign) → all ≡ bare d ∷ behind → ⊥
 
--- signs that begin with neither a `-` nor a `^` alone
-record Begins (all : List Sign) : Type 0 where
-  pub first : Sign
-  pub others : List Sign
-  pub split : all ≡ first ∷ others
-  pub no_dash : first ≡ bare 45 → ⊥
-  pub no_caret : first ≡ bare 94 → ⊥
+-- signs that begin with another
+not_first : (d : ℕ) (s : Sign) (ss : List Sign) → (s ≡ bare d → ⊥) → NotFirst d (s ∷ ss)
+not_first d s ss h behind e = h (cc)
 
 -- the items up to their `]`
 record ItemSigns (items : List Item) (all cs : List ℕ) : Type 0 where
   pub inside : List Sign
   pub is : signs false all ≡ inside ++ signs false cs
   pub are : AreItems items inside
-  pub begins : Begins inside
+  pub no_dash : NotFirst 45 inside
+  pub no_caret : NotFirst 94 inside
   pub text : IsText cs → IsText all
-
--- signs that don't begin with a bare character have no such character in front
-not_first : (d : ℕ) (all : List Sign) (b : Begins all)
-    → (b.first ≡ bare d → ⊥) → (behind : List Sign) → all ≡ bare d ∷ behind → ⊥
-not_first d all b h behind e =
-    let same : b.first ∷ b.others ≡ bare d ∷ behind = sym b.split ∙ e in
-    h (head_same b.first (bare d) b.others behind same)
-  where
-    head_same : (s t : Sign) (ss ts : List Sign) → s ∷ ss ≡ t ∷ ts → s ≡ t
-    head_same s t ss ts e = cc
-
--- a text of items that begins with no `-` begins no range
-no_range : (all : List Sign) → Begins all → BeginsNoRange all
-no_range all b s behind e = absurd (not_first 45 all b b.no_dash (s ∷ behind) e)
 
 -- the text of a set's items is signs that write those items
 items_signs : (items : List Item) (cs : List ℕ) → AreGoodItems items
@@ -212,18 +146,15 @@ items_signs [] cs h = record {
   inside = bare 93 ∷ [];
   is = refl;
   are = refl;
-  begins = record {
-    first = bare 93;
-    others = [];
-    split = refl;
-    no_dash = λ e. apart 93 45 refl (bare_same 93 45 e);
-    no_caret = λ e. apart 93 94 refl (bare_same 93 94 e);
-  };
+  no_dash = not_first 45 (bare 93) [] (bare_not 93 45 refl);
+  no_caret = not_first 94 (bare 93) [] (bare_not 93 94 refl);
   text = text_clear 93 cs (low_scalar 93 (omega arith)) refl refl;
 }
 items_signs (One c ∷ is) cs h =
     let more = items_signs is cs h.1 in
     let this = set_sign c (items_then is cs) h.0 in
+    let alone : BeginsNoRange more.inside =
+    λ s behind e. absurd (more.no_dash (s ∷ behind) e) in
     record {
       inside = this.s ∷ more.inside;
       is = this.is ∙ ap (λ l. this.s ∷ l) more.is;
@@ -231,39 +162,30 @@ items_signs (One c ∷ is) cs h =
         this.s ∷ [],
         more.inside,
         refl,
-        (this.s, refl, this.stands, no_range more.inside more.begins),
+        (this.s, refl, this.holds.0, alone),
         more.are,
       );
-      begins = record {
-        first = this.s;
-        others = more.inside;
-        split = refl;
-        no_dash = this.no_dash;
-        no_caret = this.no_caret;
-      };
+      no_dash = not_first 45 this.s more.inside this.holds.1;
+      no_caret = not_first 94 this.s more.inside this.holds.2;
       text = λ t. this.text (more.text t);
     }
 items_signs (Range c d ∷ is) cs h =
     let more = items_signs is cs h.1 in
     let last = set_sign d (items_then is cs) h.0.1 in
     let this = set_sign c (45 ∷ in_set_then d (items_then is cs)) h.0.0 in
+    let others = bare 45 ∷ last.s ∷ more.inside in
     record {
-      inside = this.s ∷ bare 45 ∷ last.s ∷ more.inside;
+      inside = this.s ∷ others;
       is = this.is ∙ ap (λ l. this.s ∷ bare 45 ∷ l) (last.is ∙ ap (λ l. last.s ∷ l) more.is);
       are = (
         this.s ∷ bare 45 ∷ last.s ∷ [],
         more.inside,
         refl,
-        (this.s, last.s, refl, this.stands, last.stands, h.0.2),
+        (this.s, last.s, refl, this.holds.0, last.holds.0, h.0.2),
         more.are,
       );
-      begins = record {
-        first = this.s;
-        others = bare 45 ∷ last.s ∷ more.inside;
-        split = refl;
-        no_dash = this.no_dash;
-        no_caret = this.no_caret;
-      };
+      no_dash = not_first 45 this.s others this.holds.1;
+      no_caret = not_first 94 this.s others this.holds.2;
       text = λ t. this.text (text_clear 45 (in_set_then d (items_then is cs))
           (low_scalar 45 (omega arith)) refl refl (last.text (more.text t)));
     }
@@ -297,7 +219,7 @@ element_signs (Plain c) cs h =
     record {
       part = this.s ∷ [];
       is = this.is;
-      writes = (this.s, refl, this.stands);
+      writes = (this.s, refl, this.holds);
       text = this.text;
     }
 element_signs (Set true items) cs h =
@@ -315,34 +237,28 @@ element_signs (Set false items) cs h =
     record {
       part = bare 91 ∷ more.inside;
       is = ap (λ l. bare 91 ∷ l) more.is;
-      writes = (
-        more.inside,
-        refl,
-        (more.are, h.0),
-        λ behind e. not_first 94 more.inside more.begins more.begins.no_caret behind e,
-      );
+      writes = (more.inside, refl, (more.are, h.0), more.no_caret);
       text = λ t.
           text_clear 91 (items_then items cs) (low_scalar 91 (omega arith)) refl refl (more.text t);
     }
 
--- the text of a good pattern is of scalar values and ends at its mark
-pattern_is_text : (es : List Element) → IsGoodPattern es → IsText (pattern_text es)
-pattern_is_text [] h = none_text
-pattern_is_text (e ∷ es) h = (element_signs e (pattern_text es) h.0).text (pattern_is_text es h.1)
-
--- the signs of a good pattern's text write that pattern
-pattern_writes : (es : List Element) → IsGoodPattern es → Writes (signs false (pattern_text es)) es
-pattern_writes [] h = refl
-pattern_writes (e ∷ es) h =
-    let this = element_signs e (pattern_text es) h.0 in
-    (this.part, signs false (pattern_text es), this.is, this.writes, pattern_writes es h.1)
+-- the text of a good pattern is of scalar values and ends at its mark, and its signs write it
+pattern_signs : (es : List Element) → IsGoodPattern es
+    → IsText (pattern_text es) × Writes (signs false (pattern_text es)) es
+pattern_signs [] h = (record { scalar = refl; ends = ([], refl, tt) }, refl)
+pattern_signs (e ∷ es) h =
+    let cs = pattern_text es in
+    let this = element_signs e cs h.0 in
+    let more = pattern_signs es h.1 in
+    (this.text more.0, (this.part, signs false cs, this.is, this.writes, more.1))
 
 -- the text of a pattern ends at its mark
 pub pattern_ends : (es : List Element) → IsGoodPattern es → Ends (encode_utf8_all (pattern_text es))
-pattern_ends es h = (pattern_is_text es h).ends
+pattern_ends es h = (pattern_signs es h).0.ends
 
 -- the text of a pattern writes it
 pub pattern_written : (es : List Element) → IsGoodPattern es
     → Writes (signs_of (encode_utf8_all (pattern_text es))) es
-pattern_written es h = subst (λ cs. Writes (signs false cs) es)
-    (sym (chars-encodes (pattern_text es) (pattern_is_text es h).scalar)) (pattern_writes es h)
+pattern_written es h =
+    let k = pattern_signs es h in
+    subst (λ cs. Writes (signs false cs) es) (sym (chars-encodes (pattern_text es) k.0.scalar)) k.1

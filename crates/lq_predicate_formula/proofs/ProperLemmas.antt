@@ -1,31 +1,27 @@
 -- What a formula is read as is proper.
-use Rattle.std.proofs.Common.{◌≡◌, ℕ, zero, suc, Bool, true, false, List, [], ◌∷◌, ◌++◌, Some, None, refl, sym, ap, ◌∙◌, subst, inl, inr}
-use Rattle.std.specs.Prelude.{if◌then◌else◌, Result, Ok, Err}
-use Rattle.std.proofs.lemmas.Option.{none-some, same_Some}
+use Rattle.std.proofs.Common.{◌≡◌, ℕ, zero, suc, true, false, List, [], ◌∷◌, ◌++◌, Some, refl, sym, ap, ◌∙◌, subst, inl, inr}
+use Rattle.std.specs.Prelude.{Result, Ok, Err}
+use Rattle.std.proofs.lemmas.Option.{cond_some, none-some, same_Some}
 use Rattle.lq_value.specs.Element.{Element}
 use Rattle.lq_value.specs.declared.literal.Literal.{Literal}
 use Rattle.lq_value.specs.declared.literal.Literal.TheVariants.{Pattern, Plain}
 use Rattle.lq_value.specs.declared.op.Op.{Op}
-use Rattle.lq_value.specs.declared.op.Op.TheVariants.{Eq, Ne, Lt, Le, Gt, Ge}
+use Rattle.lq_value.specs.declared.op.Op.TheVariants.{Eq, Ne}
 use Rattle.lq_value.specs.Compare.{suits}
 use Rattle.lq_value.specs.Name.{is_attr_name}
 use Rattle.lq_value.specs.Source.{pattern_of}
 use Rattle.lq_predicate_formula.specs.Tokens.{Token, closes, ands, ors}
 use Rattle.lq_predicate_formula.specs.Query.{Query, queries, both_of, either_of}
 use Rattle.lq_predicate_formula.specs.Literals.{literal_of, name_of, pattern_literal, unescaped}
-use Rattle.lq_predicate_formula.specs.Grammar.{Reading, Follows, IsAnd, IsOr, IsComparison, IsNot, IsFormula}
+use Rattle.lq_predicate_formula.specs.Grammar.{Reading, Follows, Parts, IsAnd, IsOr, IsComparison, IsNot, IsFormula}
 use Rattle.lq_predicate_formula.specs.Limits.{AreProperBy, IsProperBy}
 use Rattle.lq_predicate_formula.specs.Words.{WordsAre}
 
--- a word that is read as a name is one
-name_by : (u name : List ℕ) (t : Bool)
-    → is_attr_name u ≡ t → (if t then Some u else None) ≡ Some name → is_attr_name name ≡ true
-name_by u name true e f = ap is_attr_name (sym (same_Some u name f)) ∙ e
-name_by u name false e f = absurd (none-some name f)
-
 -- a name that is read is one
 named : (raw name : List ℕ) → name_of raw ≡ Some name → is_attr_name name ≡ true
-named raw name e = name_by (unescaped false raw) name (is_attr_name (unescaped false raw)) refl e
+named raw name e =
+    let h = cond_some (is_attr_name (unescaped false raw)) (unescaped false raw) name e in
+    ap is_attr_name (sym h.1) ∙ h.0
 
 -- an operator that takes patterns suits the pattern that is read
 pattern_suits : (o : Op) → ((es : List Element) → suits (Pattern es) o ≡ true)
@@ -35,20 +31,13 @@ pattern_suits o h (Ok es) literal e =
     ap (λ l. suits l o) (sym (same_Some (Pattern es) literal e)) ∙ h es
 pattern_suits o h (Err k) literal e = absurd (none-some literal e)
 
--- an operator that takes plain texts suits the text that is read
-plain_suits : (o : Op) (text : List ℕ) (literal : Literal)
-    → suits (Plain text) o ≡ true → Some (Plain text) ≡ Some literal → suits literal o ≡ true
-plain_suits o text literal h e = ap (λ l. suits l o) (sym (same_Some (Plain text) literal e)) ∙ h
-
 -- a literal that is read suits its operator
 pub read_suits : (o : Op) (raw : List ℕ) (literal : Literal) → literal_of o raw ≡ Some literal
     → suits literal o ≡ true
 read_suits Eq raw literal e = pattern_suits Eq (λ es. refl) (pattern_of raw) literal e
 read_suits Ne raw literal e = pattern_suits Ne (λ es. refl) (pattern_of raw) literal e
-read_suits Lt raw literal e = plain_suits Lt (unescaped false raw) literal refl e
-read_suits Le raw literal e = plain_suits Le (unescaped false raw) literal refl e
-read_suits Gt raw literal e = plain_suits Gt (unescaped false raw) literal refl e
-read_suits Ge raw literal e = plain_suits Ge (unescaped false raw) literal refl e
+read_suits o raw literal e =
+    ap (λ l. suits l o) (sym (same_Some (Plain (unescaped false raw)) literal e))
 
 -- ---- where each literal that is read from a word of the tokens is one of W
 
@@ -61,79 +50,71 @@ Readers T W = (o : Op) (raw : List ℕ) (literal : Literal) → T raw
 abbrev Proper : (List ℕ → Type 0) → (Op → Literal → Type 0) → Reading → Type 0
 Proper T W P = (a : List Token) (q : Query) → WordsAre T a → P a q → IsProperBy W q
 
--- what all words of two lists are, those of the first are
-front_words : (T : List ℕ → Type 0) (a b : List Token) → WordsAre T (a ++ b) → WordsAre T a
-front_words T [] b w = tt
-front_words T (t ∷ a) b w = (w.0, front_words T a b w.1)
+module _ (T : List ℕ → Type 0) (W : Op → Literal → Type 0) where
+  -- what all words of two lists are, those of each are
+  words_parts : (a b : List Token) → WordsAre T (a ++ b) → WordsAre T a × WordsAre T b
+  words_parts [] b w = (tt, w)
+  words_parts (t ∷ a) b w =
+      let k = words_parts a b w.1 in
+      ((w.0, k.0), k.1)
 
--- what all words of two lists are, those of the second are
-back_words : (T : List ℕ → Type 0) (a b : List Token) → WordsAre T (a ++ b) → WordsAre T b
-back_words T [] b w = w
-back_words T (t ∷ a) b w = back_words T a b w.1
+  -- parts that are read one by one as proper queries are proper
+  follows_proper : (P : Reading) → Proper T W P → (sep : Token) (ts : List Token) (qs : List Query)
+      → WordsAre T ts → Follows P sep ts qs → AreProperBy W (queries qs)
+  follows_proper P good sep ts [] w h = tt
+  follows_proper P good sep ts (q ∷ qs) w h =
+      let k = subst (WordsAre T) h.2 w in
+      let l = words_parts h.0 h.1 k.1 in
+      (good h.0 q l.0 h.3, follows_proper P good sep h.1 qs l.1 h.4)
 
--- parts that are read one by one as proper queries are proper
-follows_proper : (T : List ℕ → Type 0) (W : Op → Literal → Type 0) (P : Reading) → Proper T W P
-    → (sep : Token) (ts : List Token) (qs : List Query) → WordsAre T ts → Follows P sep ts qs
-    → AreProperBy W (queries qs)
-follows_proper T W P good sep ts [] w h = tt
-follows_proper T W P good sep ts (q ∷ qs) w h =
-    let k = subst (WordsAre T) h.2 w in (
-      good h.0 q (front_words T h.0 h.1 k.1) h.3,
-      follows_proper T W P good sep h.1 qs (back_words T h.0 h.1 k.1) h.4,
-    )
+  -- proper parts make a proper and, and one part alone is itself
+  both_good : (q : Query) (qs : List Query) → IsProperBy W q → AreProperBy W (queries qs)
+      → IsProperBy W (both_of (q ∷ qs))
+  both_good q [] h k = h
+  both_good q (r ∷ qs) h k = (tt, (h, k))
 
--- proper parts make a proper and, and one part alone is itself
-both_good : (W : Op → Literal → Type 0) (q : Query) (qs : List Query)
-    → IsProperBy W q → AreProperBy W (queries qs) → IsProperBy W (both_of (q ∷ qs))
-both_good W q [] h k = h
-both_good W q (r ∷ qs) h k = (tt, (h, k))
+  -- proper parts make a proper or, and one part alone is itself
+  either_good : (q : Query) (qs : List Query) → IsProperBy W q → AreProperBy W (queries qs)
+      → IsProperBy W (either_of (q ∷ qs))
+  either_good q [] h k = h
+  either_good q (r ∷ qs) h k = (tt, (h, k))
 
--- proper parts make a proper or, and one part alone is itself
-either_good : (W : Op → Literal → Type 0) (q : Query) (qs : List Query)
-    → IsProperBy W q → AreProperBy W (queries qs) → IsProperBy W (either_of (q ∷ qs))
-either_good W q [] h k = h
-either_good W q (r ∷ qs) h k = (tt, (h, k))
+  -- an and or an or of parts that are read as proper is proper
+  joined_proper : (join : List Query → Query)
+      → ((q : Query) (qs : List Query) → IsProperBy W q → AreProperBy W (queries qs)
+      → IsProperBy W (join (q ∷ qs)))
+      → (P : Reading) → Proper T W P → (sep : Token) → Proper T W
+      (λ a r. (q : Query) × (qs : List Query) × (r ≡ join (q ∷ qs)) × Parts P sep a q qs)
+  joined_proper join both P good sep a r w h =
+      let l = words_parts h.3.0 h.3.1 (subst (WordsAre T) h.3.2 w) in
+      subst (IsProperBy W) (sym h.2) (both h.0 h.1 (good h.3.0 h.0 l.0 h.3.3)
+      (follows_proper P good sep h.3.1 h.1 l.1 h.3.4))
 
--- an and of parts that are read as proper is proper
-and_proper : (T : List ℕ → Type 0) (W : Op → Literal → Type 0) (P : Reading) → Proper T W P
-    → Proper T W (IsAnd P)
-and_proper T W P good a r w h =
-    let k = subst (WordsAre T) h.3.2 w in
-    subst (IsProperBy W) (sym h.2)
-    (both_good W h.0 h.1 (good h.3.0 h.0 (front_words T h.3.0 h.3.1 k) h.3.3)
-    (follows_proper T W P good ands h.3.1 h.1 (back_words T h.3.0 h.3.1 k) h.3.4))
+  -- an or of parts that are read as proper is proper
+  or_proper : (P : Reading) → Proper T W P → Proper T W (IsOr P)
+  or_proper P good = joined_proper either_of either_good (IsAnd P)
+      (joined_proper both_of both_good P good ands) ors
 
--- an or of parts that are read as proper is proper
-or_proper : (T : List ℕ → Type 0) (W : Op → Literal → Type 0) (P : Reading) → Proper T W P
-    → Proper T W (IsOr P)
-or_proper T W P good a r w h =
-    let k = subst (WordsAre T) h.3.2 w in
-    subst (IsProperBy W) (sym h.2) (either_good W h.0 h.1
-    (and_proper T W P good h.3.0 h.0 (front_words T h.3.0 h.3.1 k) h.3.3) (follows_proper T W
-    (IsAnd P) (and_proper T W P good) ors h.3.1 h.1 (back_words T h.3.0 h.3.1 k) h.3.4))
+  -- a comparison is proper: its name is one, and its literal suits
+  comparison_proper : Readers T W → Proper T W IsComparison
+  comparison_proper f a q w h =
+      let k = subst (WordsAre T) h.5 w in
+      subst (IsProperBy W) (sym h.8) (named h.0 h.3 h.6, f h.1 h.2 h.4 k.1.1.0 h.7)
 
--- a comparison is proper: its name is one, and its literal suits
-comparison_proper : (T : List ℕ → Type 0) (W : Op → Literal → Type 0) → Readers T W
-    → Proper T W IsComparison
-comparison_proper T W f a q w h =
-    let k = subst (WordsAre T) h.5 w in
-    subst (IsProperBy W) (sym h.8) (named h.0 h.3 h.6, f h.1 h.2 h.4 k.1.1.0 h.7)
-
--- an operand is proper: a comparison, one after `!`, or one between parentheses
-not_proper : (T : List ℕ → Type 0) (W : Op → Literal → Type 0) → Readers T W → (n : ℕ)
-    → Proper T W (IsNot n)
-not_proper T W f zero a q w h = comparison_proper T W f a q w h
-not_proper T W f (suc n) a q w h = elim h [
-  | inl c ↦ comparison_proper T W f a q w c
-  | inr g ↦ elim g [
-    | inl p ↦ or_proper T W (IsNot n) (not_proper T W f n) p.0 q
-        (front_words T p.0 (closes ∷ []) (subst (WordsAre T) p.1 w).1) p.2
-    | inr b ↦
-        subst (IsProperBy W) (sym b.3) (not_proper T W f n b.0 b.1 (subst (WordsAre T) b.2 w).1 b.4)
+  -- an operand is proper: a comparison, one after `!`, or one between parentheses
+  not_proper : Readers T W → (n : ℕ) → Proper T W (IsNot n)
+  not_proper f zero a q w h = comparison_proper f a q w h
+  not_proper f (suc n) a q w h = elim h [
+    | inl c ↦ comparison_proper f a q w c
+    | inr g ↦ elim g [
+      | inl p ↦ or_proper (IsNot n) (not_proper f n) p.0 q
+          (words_parts p.0 (closes ∷ []) (subst (WordsAre T) p.1 w).1).0 p.2
+      | inr b ↦ subst (IsProperBy W) (sym b.3)
+          (not_proper f n b.0 b.1 (subst (WordsAre T) b.2 w).1 b.4)
+    ]
   ]
-]
 
--- what a formula is read as is proper
-pub formula_proper_by : (T : List ℕ → Type 0) (W : Op → Literal → Type 0) → Readers T W
-    → (n : ℕ) (ts : List Token) (q : Query) → WordsAre T ts → IsFormula n ts q → IsProperBy W q
-formula_proper_by T W f n ts q w h = or_proper T W (IsNot n) (not_proper T W f n) ts q w h
+  -- what a formula is read as is proper
+  pub formula_proper_by : Readers T W → (n : ℕ) (ts : List Token) (q : Query) → WordsAre T ts
+      → IsFormula n ts q → IsProperBy W q
+  formula_proper_by f n ts q w h = or_proper (IsNot n) (not_proper f n) ts q w h

@@ -1,22 +1,59 @@
--- A token that the machine refuses is at fault.
-use Rattle.std.proofs.Common.{◌≡◌, ◌+◌, ◌⊎◌, ℕ, zero, suc, List, [], ◌∷◌, ◌++◌, Option, Some, None, refl, sym, ap, ◌∙◌, inl, inr}
+-- A token that the machine refuses is at fault; more room changes no step that less room takes.
+use Rattle.std.proofs.Common.{◌≡◌, ℕ, suc, ◌+◌, List, [], ◌∷◌, ◌++◌, Some, refl, ap, ◌∙◌, arith, option_and_then, ◌⊎◌, zero, Option, None, sym, inl, inr}
 use Rattle.std.specs.Prelude.{option_map, Result, Ok, Err}
+use Rattle.std.proofs.lemmas.Option.{same_Some, none-some}
 use Rattle.std.proofs.lemmas.List.{map-append}
 use Rattle.lq_value.specs.Element.{Element}
 use Rattle.lq_value.specs.declared.op.Op.{Op}
-use Rattle.lq_value.specs.declared.op.Op.TheVariants.{Eq, Ne, Lt, Le, Gt, Ge}
+use Rattle.lq_value.specs.declared.op.Op.TheVariants.{Eq, Ne}
 use Rattle.lq_value.specs.Source.{pattern_of}
 use Rattle.lq_predicate_formula.specs.Tokens.{Token, opens, closes, bang, ands, ors, op, word, lone, cut, Placed}
-use Rattle.lq_predicate_formula.specs.Literals.{bad_place, literal_fault, literal_of, name_of, pattern_literal}
 use Rattle.lq_predicate_formula.specs.Query.{Compare}
+use Rattle.lq_predicate_formula.specs.Machine.{operand, after_attr, after_operand, MachineState, deeper, empty_frame, frame_with, said_by, completed, step, steps, Frame, Expected, after_op, start}
+use Rattle.lq_predicate_formula.specs.Literals.{bad_place, literal_fault, literal_of, name_of, pattern_literal}
 use Rattle.lq_predicate_formula.specs.Grammar.{nesting}
-use Rattle.lq_predicate_formula.specs.Machine.{Frame, Expected, operand, after_attr, after_op, after_operand, MachineState, completed, start, step, steps}
 use Rattle.lq_predicate_formula.specs.Faults.{AwaitsAttr, IsFaultOf, stray, cut_off, alone, too_deep, bad_name, bad_pattern, kind_of}
 use Rattle.lq_predicate_formula.specs.MachineReading.{fault_place, fault_place_of, place_with}
-use Rattle.lq_predicate_formula.proofs.StopLemmas.{not_begun, steps_push}
-use Rattle.lq_predicate_formula.proofs.DepthLemmas.{at, steps_wider, wider}
+use Rattle.lq_predicate_formula.proofs.MoveLemmas.{at, led, move, negated, Move, enter, deny, attribute, operator, complete, one_and, one_or, leave, front_by, steps_on, steps_push}
+use Rattle.lq_predicate_formula.proofs.StopLemmas.{begun_at, can_stand, not_begun}
 use Rattle.lq_predicate_formula.proofs.OutlineLemmas.{cannot, outline_of, outline_step}
-use Rattle.lq_predicate_formula.proofs.StepsLemmas.{begun_at, ends_with, front_by, some_none, steps_on}
+
+-- the same state with more room
+abbrev pub wider : ℕ → MachineState → MachineState
+wider k s = at s.expected s.below s.top (s.room + k)
+
+-- room that one token takes may be taken before or after
+suc_over : (n k : ℕ) → suc n + k ≡ suc (n + k)
+suc_over n k = omega arith
+
+-- a move is one with more room too, and that much is left over
+move_wider : (k : ℕ) {x s : MachineState} {t : Token} → Move x t s
+    → step (wider k x) t ≡ Some (wider k s)
+move_wider k (enter below f n) =
+    ap (λ m. deeper m (λ j. at operand (f ∷ below) empty_frame j)) (suc_over n k)
+move_wider k (deny below f n) =
+    ap (λ m. deeper m (λ j. at operand below (negated f) j)) (suc_over n k)
+move_wider k (attribute below f n raw attr e) =
+    ap (option_map (λ a. at (after_attr a) below f (n + k))) e
+move_wider k (operator below f n a o) = refl
+move_wider k (complete below f n a o raw literal e) =
+    let room : n + k + f.bangs ≡ n + f.bangs + k = omega arith in
+    ap (option_map (λ l. completed (Compare a o l) below f (n + k))) e
+    ∙ ap (λ m. Some (at after_operand below (frame_with (Compare a o literal) f) m)) room
+move_wider k (one_and below f n) = refl
+move_wider k (one_or below f n) = refl
+move_wider k (leave g below f n) =
+    let room : suc (n + k) + g.bangs ≡ suc n + g.bangs + k = omega arith in
+    ap (λ m. Some (at after_operand below (frame_with (said_by f) g) m)) room
+
+-- tokens that are taken are taken with more room, and that much is left over
+pub steps_wider : (k : ℕ) (ts : List Token) (x s : MachineState) → steps x ts ≡ Some s
+    → steps (wider k x) ts ≡ Some (wider k s)
+steps_wider k [] x s e = ap (λ y. Some (wider k y)) (same_Some x s e)
+steps_wider k (t ∷ ts) x s e =
+    let h = led (λ y. steps y ts) (step x t) s e in
+    ap (option_and_then (λ y. steps y ts)) (move_wider k (move x t h.0 h.1))
+    ∙ steps_wider k ts h.0 s h.2
 
 -- ---- what is refused
 
@@ -44,16 +81,13 @@ pub awaits_attr : (ts : List Token) (below : List Frame) (f : Frame) (n : ℕ)
     → steps (start nesting) ts ≡ Some (at operand below f n) → AwaitsAttr ts
 awaits_attr ts below f n e =
     let us = word (97 ∷ []) ∷ op Eq ∷ [] in
-    let b = begun_at nesting (ts ++ us) (at (after_op (97 ∷ []) Eq) below f n)
-    (steps_on ts us (start nesting) (at operand below f n) e) in
-    record {
-      words = ts ++ us;
-      alike = map-append kind_of ts us ∙ sym (map-append kind_of ts (word [] ∷ op Eq ∷ []));
-      deep = nesting;
-      rest = b.0;
-      q = b.1;
-      formula = b.2;
-    }
+    can_stand (ts ++ word [] ∷ op Eq ∷ []) (ts ++ us) (at (after_op (97 ∷ []) Eq) below f n)
+    (steps_on ts us (start nesting) (at operand below f n) e)
+    (map-append kind_of ts us ∙ sym (map-append kind_of ts (word [] ∷ op Eq ∷ [])))
+
+-- nothing is both Some and None
+some_none : {A : Type 0} {X : Type 0} (x : A) → Some x ≡ None → X
+some_none x e = absurd (none-some x (sym e))
 
 -- where a map of an option is None, the option is
 none_of : {A : Type 0} (r : Option A) (f : A → MachineState) → option_map f r ≡ None → r ≡ None
@@ -69,10 +103,7 @@ bad_by (Err k) e = (k, refl)
 bad_literal : (o : Op) (w : List ℕ) → literal_of o w ≡ None → (k : ℕ) × (literal_fault o w ≡ Some k)
 bad_literal Eq w e = bad_by (pattern_of w) e
 bad_literal Ne w e = bad_by (pattern_of w) e
-bad_literal Lt w e = some_none _ e
-bad_literal Le w e = some_none _ e
-bad_literal Gt w e = some_none _ e
-bad_literal Ge w e = some_none _ e
+bad_literal o w e = some_none _ e
 
 -- a word that is no literal of the operator is at fault, where its pattern is bad
 pattern_at : (end : ℕ) (ts : List Token) (a : List ℕ) (o : Op) (below : List Frame) (f : Frame)
@@ -81,8 +112,7 @@ pattern_at : (end : ℕ) (ts : List Token) (a : List ℕ) (o : Op) (below : List
     (place_with (literal_fault o w) (here_of place raw (word w)))
 pattern_at end ts a o below f n place raw w e h =
     let k = bad_literal o w h in
-    let front =
-    front_by ts o nesting (ends_with ts (start nesting) (at (after_op a o) below f n) o refl e) in
+    let front = front_by ts (at (after_op a o) below f n) o refl e in
     bad_pattern front.0 o w k.0 front.1 refl k.1
     (ap (λ r. place_with r (here_of place raw (word w))) k.1)
 
@@ -91,72 +121,26 @@ refused_at : (p : Expected) (below : List Frame) (f : Frame) (n : ℕ) (t : Toke
     (ts : List Token) (place raw : ℕ)
     → steps (start nesting) ts ≡ Some (at p below f n) → step (at p below f n) t ≡ None
     → IsFaultOf end ts (here_of place raw t) (fault_place_of end p t (here_of place raw t))
+refused_at p below f n lone end ts place raw e h = alone refl refl
+refused_at p below f n cut end ts place raw e h = cut_off refl refl
 refused_at operand below f zero opens end ts place raw e h =
     deep_at end ts (at operand below f zero) _ place raw opens e h (inl refl) refl
 refused_at operand below f (suc n) opens end ts place raw e h = some_none _ h
-refused_at operand below f n closes end ts place raw e h =
-    stray_at end ts (at operand below f n) place raw closes e refl (λ c. cc)
 refused_at operand below f zero bang end ts place raw e h =
     deep_at end ts (at operand below f zero) _ place raw bang e h (inr refl) refl
 refused_at operand below f (suc n) bang end ts place raw e h = some_none _ h
-refused_at operand below f n ands end ts place raw e h =
-    stray_at end ts (at operand below f n) place raw ands e refl (λ c. cc)
-refused_at operand below f n ors end ts place raw e h =
-    stray_at end ts (at operand below f n) place raw ors e refl (λ c. cc)
-refused_at operand below f n (op u) end ts place raw e h =
-    stray_at end ts (at operand below f n) place raw (op u) e refl (λ c. cc)
 refused_at operand below f n (word w) end ts place raw e h =
     bad_name w refl (awaits_attr ts below f n e)
     (none_of (name_of w) (λ name. at (after_attr name) below f n) h) refl
-refused_at operand below f n lone end ts place raw e h = alone refl refl
-refused_at operand below f n cut end ts place raw e h = cut_off refl refl
-refused_at (after_attr a) below f n opens end ts place raw e h =
-    stray_at end ts (at (after_attr a) below f n) place raw opens e refl (λ c. cc)
-refused_at (after_attr a) below f n closes end ts place raw e h =
-    stray_at end ts (at (after_attr a) below f n) place raw closes e refl (λ c. cc)
-refused_at (after_attr a) below f n bang end ts place raw e h =
-    stray_at end ts (at (after_attr a) below f n) place raw bang e refl (λ c. cc)
-refused_at (after_attr a) below f n ands end ts place raw e h =
-    stray_at end ts (at (after_attr a) below f n) place raw ands e refl (λ c. cc)
-refused_at (after_attr a) below f n ors end ts place raw e h =
-    stray_at end ts (at (after_attr a) below f n) place raw ors e refl (λ c. cc)
 refused_at (after_attr a) below f n (op u) end ts place raw e h = some_none _ h
-refused_at (after_attr a) below f n (word w) end ts place raw e h =
-    stray_at end ts (at (after_attr a) below f n) place raw (word w) e refl (λ c. cc)
-refused_at (after_attr a) below f n lone end ts place raw e h = alone refl refl
-refused_at (after_attr a) below f n cut end ts place raw e h = cut_off refl refl
-refused_at (after_op a o) below f n opens end ts place raw e h =
-    stray_at end ts (at (after_op a o) below f n) place raw opens e refl (λ c. cc)
-refused_at (after_op a o) below f n closes end ts place raw e h =
-    stray_at end ts (at (after_op a o) below f n) place raw closes e refl (λ c. cc)
-refused_at (after_op a o) below f n bang end ts place raw e h =
-    stray_at end ts (at (after_op a o) below f n) place raw bang e refl (λ c. cc)
-refused_at (after_op a o) below f n ands end ts place raw e h =
-    stray_at end ts (at (after_op a o) below f n) place raw ands e refl (λ c. cc)
-refused_at (after_op a o) below f n ors end ts place raw e h =
-    stray_at end ts (at (after_op a o) below f n) place raw ors e refl (λ c. cc)
-refused_at (after_op a o) below f n (op u) end ts place raw e h =
-    stray_at end ts (at (after_op a o) below f n) place raw (op u) e refl (λ c. cc)
 refused_at (after_op a o) below f n (word w) end ts place raw e h =
     pattern_at end ts a o below f n place raw w e
     (none_of (literal_of o w) (λ literal. completed (Compare a o literal) below f n) h)
-refused_at (after_op a o) below f n lone end ts place raw e h = alone refl refl
-refused_at (after_op a o) below f n cut end ts place raw e h = cut_off refl refl
-refused_at after_operand below f n opens end ts place raw e h =
-    stray_at end ts (at after_operand below f n) place raw opens e refl (λ c. cc)
-refused_at after_operand [] f n closes end ts place raw e h =
-    stray_at end ts (at after_operand [] f n) place raw closes e refl (λ c. cc)
 refused_at after_operand (g ∷ gs) f n closes end ts place raw e h = some_none _ h
-refused_at after_operand below f n bang end ts place raw e h =
-    stray_at end ts (at after_operand below f n) place raw bang e refl (λ c. cc)
 refused_at after_operand below f n ands end ts place raw e h = some_none _ h
 refused_at after_operand below f n ors end ts place raw e h = some_none _ h
-refused_at after_operand below f n (op u) end ts place raw e h =
-    stray_at end ts (at after_operand below f n) place raw (op u) e refl (λ c. cc)
-refused_at after_operand below f n (word w) end ts place raw e h =
-    stray_at end ts (at after_operand below f n) place raw (word w) e refl (λ c. cc)
-refused_at after_operand below f n lone end ts place raw e h = alone refl refl
-refused_at after_operand below f n cut end ts place raw e h = cut_off refl refl
+refused_at p below f n t end ts place raw e h =
+    stray_at end ts (at p below f n) place raw t e refl (λ c. cc)
 
 -- a token that the machine refuses is at fault, at the place that the reading says
 pub refused_fault : (end : ℕ) (ts : List Token) (s : MachineState) (here : Placed)

@@ -1,27 +1,26 @@
 -- The canonical text of a query within the limits reads as that query.
-use Rattle.std.proofs.Common.{◌≡◌, ◌≤◌, ℕ, zero, suc, max, Bool, true, false, cond, List, [], ◌∷◌, Some, None, refl, sym, ap, ◌∙◌, subst, arith, inl, inr, append-nil}
+use Rattle.std.proofs.Common.{◌≡◌, ◌≤◌, ℕ, zero, suc, Bool, true, false, List, [], ◌∷◌, Some, None, refl, sym, ap, ◌∙◌, subst, arith, inl, inr, append-nil}
 use Rattle.std.specs.Prelude.{if◌then◌else◌}
 use Rattle.std.specs.List.{list_all}
-use Rattle.std.proofs.Math.Nat.{le-max_left, le-max_right}
 use Rattle.lq_value.specs.declared.literal.Literal.{Literal}
 use Rattle.lq_value.specs.declared.literal.Literal.TheVariants.{Pattern, Plain}
 use Rattle.lq_value.specs.declared.op.Op.{Op}
-use Rattle.lq_value.specs.declared.op.Op.TheVariants.{Eq, Ne, Lt, Le, Gt, Ge}
+use Rattle.lq_value.specs.declared.op.Op.TheVariants.{Eq, Ne}
 use Rattle.lq_value.specs.Compare.{suits}
 use Rattle.lq_value.specs.Laws.{SourcesAreRead}
 use Rattle.lq_value.specs.Name.{is_attr_name}
-use Rattle.std.proofs.lemmas.Bool.{and_parts}
+use Rattle.std.proofs.lemmas.Bool.{and_parts, false≢true, le-leb}
 use Rattle.lq_predicate_formula.specs.Tokens.{Token, ands, ors, op, word}
 use Rattle.lq_predicate_formula.specs.Query.{Query, Compare, Not, And, Or, Queries, no_more, and_then, queries, list_of}
 use Rattle.lq_predicate_formula.specs.Literals.{literal_of, name_of, pattern_literal, unescaped}
 use Rattle.lq_predicate_formula.specs.Grammar.{Reading, Follows, IsAnd, IsOr, IsNot, IsFormula, nesting}
 use Rattle.lq_predicate_formula.specs.Canonical.{canonical, deepest, depth, is_bare_byte, literal_text, quoted}
-use Rattle.lq_predicate_formula.specs.Limits.{AreProper, IsGoodLiteral, IsProper, IsWithinLimits}
+use Rattle.lq_predicate_formula.specs.Limits.{AreProper, HasTwo, IsGoodLiteral, IsProper, IsWithinLimits}
 use Rattle.lq_predicate_formula.specs.Faults.{Reads}
-use Rattle.lq_predicate_formula.proofs.SignLemmas.{tokens_of_fronts}
 use Rattle.lq_predicate_formula.proofs.SoundLemmas.{comparison_reads}
 use Rattle.lq_predicate_formula.proofs.QuotingLemmas.{quoted_back}
 use Rattle.lq_predicate_formula.proofs.PatternTextLemmas.{pattern_written}
+use Rattle.lq_predicate_formula.proofs.PartLemmas.{over_zero}
 use Rattle.lq_predicate_formula.proofs.CanonicalLemmas.{lexes_end, lexes_written, no_backslash, others_said, parts_said, raw_attr, said}
 
 -- ---- names and literals
@@ -31,8 +30,7 @@ bare_back : (name : List ℕ) → list_all is_bare_byte name ≡ true → unesca
 bare_back [] e = refl
 bare_back (b ∷ bs) e =
     let all = and_parts (is_bare_byte b) (list_all is_bare_byte bs) e in
-    ap (λ t. cond t (unescaped true bs) (b ∷ unescaped false bs)) (no_backslash b all.0)
-    ∙ ap (λ l. b ∷ l) (bare_back bs all.1)
+    rw (no_backslash b all.0, bare_back bs all.1)
 
 -- a name, written bare or between marks, reads back
 raw_back : (name : List ℕ) (t : Bool) → list_all is_bare_byte name ≡ t
@@ -46,10 +44,6 @@ attr_back name e =
     ap (λ n. if is_attr_name n then Some n else None)
     (raw_back name (list_all is_bare_byte name) refl) ∙ ap (λ t. if t then Some name else None) e
 
--- false is not true, so anything follows
-unsuited : {X : Type 0} → false ≡ true → X
-unsuited e = cc
-
 -- the text of a good literal is read as that literal, by an operator that it suits
 literal_back : SourcesAreRead → (literal : Literal) (o : Op) → suits literal o ≡ true
     → IsGoodLiteral literal → literal_of o (literal_text literal) ≡ Some literal
@@ -57,16 +51,10 @@ literal_back law (Pattern es) Eq e h =
     ap pattern_literal ((law (literal_text (Pattern es)) es).1 (pattern_written es h))
 literal_back law (Pattern es) Ne e h =
     ap pattern_literal ((law (literal_text (Pattern es)) es).1 (pattern_written es h))
-literal_back law (Pattern es) Lt e h = unsuited e
-literal_back law (Pattern es) Le e h = unsuited e
-literal_back law (Pattern es) Gt e h = unsuited e
-literal_back law (Pattern es) Ge e h = unsuited e
-literal_back law (Plain text) Eq e h = unsuited e
-literal_back law (Plain text) Ne e h = unsuited e
-literal_back law (Plain text) Lt e h = ap (λ l. Some (Plain l)) (quoted_back text)
-literal_back law (Plain text) Le e h = ap (λ l. Some (Plain l)) (quoted_back text)
-literal_back law (Plain text) Gt e h = ap (λ l. Some (Plain l)) (quoted_back text)
-literal_back law (Plain text) Ge e h = ap (λ l. Some (Plain l)) (quoted_back text)
+literal_back law (Pattern es) o e h = absurd (false≢true e)
+literal_back law (Plain text) Eq e h = absurd (false≢true e)
+literal_back law (Plain text) Ne e h = absurd (false≢true e)
+literal_back law (Plain text) o e h = ap (λ l. Some (Plain l)) (quoted_back text)
 
 -- ---- parts
 
@@ -78,123 +66,82 @@ single_and P a q h = (q, [], refl, (a, [], sym (append-nil a), h, refl))
 single_or : (P : Reading) (a : List Token) (q : Query) → IsAnd P a q → IsOr P a q
 single_or P a q h = (q, [], refl, (a, [], sym (append-nil a), h, refl))
 
+-- one part alone is an or
+alone : (P : Reading) (a : List Token) (q : Query) → P a q → IsOr P a q
+alone P a q h = single_or P a q (single_and P a q h)
+
 -- a list of queries made of some queries gives them back
 same_queries : (qs : Queries) → queries (list_of qs) ≡ qs
 same_queries no_more = refl
 same_queries (and_then q qs) = ap (and_then q) (same_queries qs)
 
--- a bound on the larger of two bounds the first
-fits_left : (a b n : ℕ) → max a b ≤ n → a ≤ n
-fits_left a b n h = omega (arith, le-max_left a b)
-
--- a bound on the larger of two bounds the second
-fits_right : (a b n : ℕ) → max a b ≤ n → b ≤ n
-fits_right a b n h = omega (arith, le-max_right a b)
-
--- a comparison alone is an or of one part
-comparison_or : (n : ℕ) (a : List ℕ) (o : Op) (l name : List ℕ) (literal : Literal)
-    → name_of a ≡ Some name → literal_of o l ≡ Some literal
-    → IsOr (IsNot n) (word a ∷ op o ∷ word l ∷ []) (Compare name o literal)
-comparison_or n a o l name literal h k =
-    let q = Compare name o literal in
-    let ts = word a ∷ op o ∷ word l ∷ [] in
-    single_or (IsNot n) ts q (single_and (IsNot n) ts q (comparison_reads n a o l name literal h k))
-
--- an And of two parts or more, in its parts
-and_of_parts : (n : ℕ) (q r : Query) (qs : Queries) → IsNot n (said q) q
-    → Follows (IsNot n) ands (others_said ands (and_then r qs)) (list_of (and_then r qs)) → IsOr
-    (IsNot n) (parts_said ands (and_then q (and_then r qs))) (And (and_then q (and_then r qs)))
-and_of_parts n q r qs h k =
-    single_or (IsNot n) (parts_said ands (and_then q (and_then r qs)))
-    (And (and_then q (and_then r qs))) (
-      q,
-      list_of (and_then r qs),
-      ap (λ l. And (and_then q (and_then r l))) (sym (same_queries qs)),
-      (said q, others_said ands (and_then r qs), refl, h, k),
-    )
-
--- the parts of an Or, read one by one, are read as that Or
-or_of_parts : (n : ℕ) (q r : Query) (qs : Queries) → IsNot n (said q) q
-    → Follows (IsAnd (IsNot n)) ors (others_said ors (and_then r qs)) (list_of (and_then r qs))
-    → IsOr (IsNot n) (parts_said ors (and_then q (and_then r qs))) (Or (and_then q (and_then r qs)))
-or_of_parts n q r qs h k = (
-  q,
-  list_of (and_then r qs),
-  ap (λ l. Or (and_then q (and_then r l))) (sym (same_queries qs)),
-  (said q, others_said ors (and_then r qs), refl, single_and (IsNot n) (said q) q h, k),
-)
-
 mutual
   -- the tokens of a proper query that is not too deep are read as that query
   said_reads : SourcesAreRead → (q : Query) (n : ℕ) → IsProper q → depth q ≤ n → IsNot n (said q) q
-  said_reads law (Compare attr o literal) zero h d = absurd (omega arith)
   said_reads law (Compare attr o literal) (suc n) h d =
+      let l = literal_text literal in
+      let a = word (raw_attr attr) ∷ op o ∷ word l ∷ [] in
       inr (inl (
-        word (raw_attr attr) ∷ op o ∷ word (literal_text literal) ∷ [],
+        a,
         refl,
-        comparison_or n (raw_attr attr) o (literal_text literal) attr literal (attr_back attr h.0)
-            (literal_back law literal o h.1.0 h.1.1),
+        alone (IsNot n) a (Compare attr o literal)
+            (comparison_reads n (raw_attr attr) o l attr literal (attr_back attr h.0)
+            (literal_back law literal o h.1.0 h.1.1)),
       ))
-  said_reads law (Not q) zero h d = absurd (omega arith)
   said_reads law (Not q) (suc n) h d =
       inr (inr (said q, q, refl, refl, said_reads law q n h (omega arith)))
-  said_reads law (And qs) zero h d = absurd (omega arith)
-  said_reads law (And no_more) (suc n) h d = absurd h.0
-  said_reads law (And (and_then q no_more)) (suc n) h d = absurd h.0
-  said_reads law (And (and_then q (and_then r qs))) (suc n) h d =
-      let k : deepest (and_then q (and_then r qs)) ≤ n = omega arith in
-      inr (inl (
-        parts_said ands (and_then q (and_then r qs)),
-        refl,
-        and_of_parts n q r qs (said_reads law q n h.1.0 (fits_left _ _ n k))
-            (follow_ands law (and_then r qs) n h.1.1 (fits_right (depth q) _ n k)),
-      ))
-  said_reads law (Or qs) zero h d = absurd (omega arith)
-  said_reads law (Or no_more) (suc n) h d = absurd h.0
-  said_reads law (Or (and_then q no_more)) (suc n) h d = absurd h.0
-  said_reads law (Or (and_then q (and_then r qs))) (suc n) h d =
-      let k : deepest (and_then q (and_then r qs)) ≤ n = omega arith in
-      inr (inl (
-        parts_said ors (and_then q (and_then r qs)),
-        refl,
-        or_of_parts n q r qs (said_reads law q n h.1.0 (fits_left _ _ n k))
-            (follow_ors law (and_then r qs) n h.1.1 (fits_right (depth q) _ n k)),
-      ))
+  said_reads law (And qs) (suc n) h d =
+      inr (inl (parts_said ands qs, refl, (parts_read law qs n h.0 h.1 (omega arith)).0))
+  said_reads law (Or qs) (suc n) h d =
+      inr (inl (parts_said ors qs, refl, (parts_read law qs n h.0 h.1 (omega arith)).1))
+  said_reads law q zero h d = absurd (false≢true (over_zero q ∙ le-leb _ _ d))
 
-  -- the tokens of an And's parts after the first are read as those parts
-  follow_ands : SourcesAreRead → (qs : Queries) (n : ℕ) → AreProper qs → deepest qs ≤ n
+  -- the tokens of the parts of an And or an Or are read as it
+  parts_read : SourcesAreRead → (qs : Queries) (n : ℕ) → HasTwo qs → AreProper qs → deepest qs ≤ n
+      → IsOr (IsNot n) (parts_said ands qs) (And qs) × IsOr (IsNot n) (parts_said ors qs) (Or qs)
+  parts_read law no_more n two h d = absurd two
+  parts_read law (and_then q no_more) n two h d = absurd two
+  parts_read law (and_then q (and_then r qs)) n two h d =
+      let ps = and_then r qs in
+      let one = said_reads law q n h.0 (omega arith) in
+      let others = others_read law (and_then r qs) n h.1 (omega arith) in
+      let back = sym (same_queries ps) in (
+        single_or (IsNot n) (parts_said ands (and_then q ps)) (And (and_then q ps)) (
+          q,
+          list_of ps,
+          ap (λ l. And (and_then q l)) back,
+          (said q, others_said ands ps, refl, one, others.0),
+        ),
+        (
+          q,
+          list_of ps,
+          ap (λ l. Or (and_then q l)) back,
+          (said q, others_said ors ps, refl, single_and (IsNot n) (said q) q one, others.1),
+        ),
+      )
+
+  -- the tokens of the parts after the first are read as those parts
+  others_read : SourcesAreRead → (qs : Queries) (n : ℕ) → AreProper qs → deepest qs ≤ n
       → Follows (IsNot n) ands (others_said ands qs) (list_of qs)
-  follow_ands law no_more n h d = refl
-  follow_ands law (and_then q qs) n h d = (
-    said q,
-    others_said ands qs,
-    refl,
-    said_reads law q n h.0 (fits_left _ _ n d),
-    follow_ands law qs n h.1 (fits_right (depth q) _ n d),
-  )
-
-  -- the tokens of an Or's parts after the first are read as those parts
-  follow_ors : SourcesAreRead → (qs : Queries) (n : ℕ) → AreProper qs → deepest qs ≤ n
-      → Follows (IsAnd (IsNot n)) ors (others_said ors qs) (list_of qs)
-  follow_ors law no_more n h d = refl
-  follow_ors law (and_then q qs) n h d = (
-    said q,
-    others_said ors qs,
-    refl,
-    single_and (IsNot n) (said q) q (said_reads law q n h.0 (fits_left _ _ n d)),
-    follow_ors law qs n h.1 (fits_right (depth q) _ n d),
-  )
+      × Follows (IsAnd (IsNot n)) ors (others_said ors qs) (list_of qs)
+  others_read law no_more n h d = (refl, refl)
+  others_read law (and_then q qs) n h d =
+      let one = said_reads law q n h.0 (omega arith) in
+      let others = others_read law qs n h.1 (omega arith) in (
+        (said q, others_said ands qs, refl, one, others.0),
+        (said q, others_said ors qs, refl, single_and (IsNot n) (said q) q one, others.1),
+      )
 
 -- the canonical text of a query within the limits reads as that query
 pub canonical_reads : SourcesAreRead → (q : Query) → IsWithinLimits q → Reads (canonical q) q
 canonical_reads law q h =
     let lexed = lexes_written q [] [] h.proper lexes_end 0 in
-    let reads : IsFormula nesting (said q) q = single_or (IsNot nesting) (said q) q
-    (single_and (IsNot nesting) (said q) q (said_reads law q nesting h.proper h.shallow)) in
+    let reads : IsFormula nesting (said q) q =
+    alone (IsNot nesting) (said q) q (said_reads law q nesting h.proper h.shallow) in
     record {
       short = h.brief;
       tokens = lexed.0;
-      has = tokens_of_fronts lexed.0 0 (canonical q) lexed.1;
+      has = lexed.1;
       formula = subst (λ ts. IsFormula nesting ts q) (sym (lexed.2 ∙ append-nil (said q))) reads;
       few = h.few;
       shallow = h.shallow;

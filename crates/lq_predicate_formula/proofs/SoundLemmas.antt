@@ -1,18 +1,18 @@
 -- What the machine reads, the grammar reads, as the same query.
-use Rattle.std.proofs.Common.{◌≡◌, ℕ, zero, suc, ◌+◌, List, [], ◌∷◌, ◌++◌, Option, Some, None, refl, sym, ap, ◌∙◌, subst, arith, append_assoc, append-nil, add-zero, inl, inr, option_and_then}
-use Rattle.std.specs.Prelude.{option_map}
-use Rattle.std.proofs.lemmas.Option.{same_Some}
+use Rattle.std.proofs.Common.{◌≡◌, ℕ, zero, suc, ◌+◌, List, [], ◌∷◌, ◌++◌, Some, refl, sym, ap, ◌∙◌, subst, arith, append_assoc, append-nil, add-zero, inl, inr}
+use Rattle.std.proofs.lemmas.Option.{none-some, same_Some}
 use Rattle.lq_value.specs.declared.op.Op.{Op}
-use Rattle.lq_predicate_formula.specs.Tokens.{Token, opens, closes, bang, ands, ors, op, word, lone, cut}
+use Rattle.lq_predicate_formula.specs.Tokens.{Token, opens, closes, bang, ands, ors, op, word}
 use Rattle.lq_value.specs.declared.literal.Literal.{Literal}
 use Rattle.lq_predicate_formula.specs.Literals.{name_of, literal_of}
 use Rattle.lq_predicate_formula.specs.Query.{Query, Compare, Not, both_of, either_of}
-use Rattle.lq_predicate_formula.specs.Grammar.{Follows, IsAnd, IsOr, IsNot, IsFormula}
-use Rattle.lq_predicate_formula.specs.Machine.{Frame, Expected, operand, after_attr, after_op, after_operand, MachineState, empty_frame, start, negate, frame_with, completed, said_by, run}
+use Rattle.lq_predicate_formula.specs.Grammar.{Follows, IsAnd, IsNot, IsFormula}
+use Rattle.lq_predicate_formula.specs.Machine.{Frame, Expected, operand, after_attr, after_op, after_operand, MachineState, empty_frame, start, negate, said_by, step, run, whole_at}
+use Rattle.lq_predicate_formula.proofs.MoveLemmas.{led, move, Move, enter, deny, attribute, operator, complete, one_and, one_or, leave}
 
 -- The tokens end a frame behind an operand: more parts of its
 -- and, more parts of its or, and then what K takes.
-pub record Rest (n : ℕ) (os xs : List Query) (K : Query → List Token → Type 0)
+record Rest (n : ℕ) (os xs : List Query) (K : Query → List Token → Type 0)
     (ts : List Token) : Type 0 where
   pub more : List Query
   pub ys : List Query
@@ -24,15 +24,19 @@ pub record Rest (n : ℕ) (os xs : List Query) (K : Query → List Token → Typ
   pub more_ors : Follows (IsAnd (IsNot n)) ors b ys
   pub then : K (either_of (os ++ (both_of (xs ++ more) ∷ ys))) c
 
--- The tokens end a formula behind an operand.
-abbrev pub After : List Frame → List Query → List Query → ℕ → Query → List Token → Type 0
-After [] os xs n q ts = Rest n os xs (λ p c. (c ≡ []) × (p ≡ q)) ts
-After (g ∷ gs) os xs n q ts = Rest n os xs (λ p c. (d : List Token) × (c ≡ closes ∷ d)
-    × After gs g.or_parts (g.and_parts ++ negate g.bangs p ∷ []) (suc n + g.bangs) q d) ts
+-- after a frame's query the text ends, or a `)` ends the frame and becomes a part of the one below
+abbrev Closing : List Frame → ℕ → Query → Query → List Token → Type 0
+Closing [] n q p c = (c ≡ []) × (p ≡ q)
+Closing (g ∷ gs) n q p c = (d : List Token) × (c ≡ closes ∷ d)
+    × Rest (suc n + g.bangs) g.or_parts (g.and_parts ++ negate g.bangs p ∷ [])
+    (λ r e. Closing gs (suc n + g.bangs) q r e) d
 
--- The tokens end a formula from an operand on.
-pub record Awaits (below : List Frame) (f : Frame) (n : ℕ) (q : Query)
-    (ts : List Token) : Type 0 where
+-- the tokens end a formula behind an operand
+abbrev After : List Frame → List Query → List Query → ℕ → Query → List Token → Type 0
+After below os xs n q ts = Rest n os xs (λ r e. Closing below n q r e) ts
+
+-- the tokens end a formula from an operand on
+record Awaits (below : List Frame) (f : Frame) (n : ℕ) (q : Query) (ts : List Token) : Type 0 where
   pub a : List Token
   pub b : List Token
   pub p : Query
@@ -40,20 +44,8 @@ pub record Awaits (below : List Frame) (f : Frame) (n : ℕ) (q : Query)
   pub reads : IsNot n a p
   pub after : After below f.or_parts (f.and_parts ++ negate f.bangs p ∷ []) (n + f.bangs) q b
 
--- the tokens end a formula from an operator on
-pub record AwaitsOp (below : List Frame) (f : Frame) (n : ℕ) (attr : List ℕ) (q : Query)
-    (ts : List Token) : Type 0 where
-  pub o : Op
-  pub l : List ℕ
-  pub literal : Literal
-  pub b : List Token
-  pub split : ts ≡ op o ∷ word l ∷ b
-  pub is : literal_of o l ≡ Some literal
-  pub after : After below f.or_parts (f.and_parts ++ negate f.bangs (Compare attr o literal) ∷ [])
-      (n + f.bangs) q b
-
 -- the tokens end a formula from a literal on
-pub record AwaitsLiteral (below : List Frame) (f : Frame) (n : ℕ) (attr : List ℕ) (o : Op)
+record AwaitsLiteral (below : List Frame) (f : Frame) (n : ℕ) (attr : List ℕ) (o : Op)
     (q : Query) (ts : List Token) : Type 0 where
   pub l : List ℕ
   pub literal : Literal
@@ -64,53 +56,21 @@ pub record AwaitsLiteral (below : List Frame) (f : Frame) (n : ℕ) (attr : List
       (n + f.bangs) q b
 
 -- the tokens end a formula from a place on
-abbrev pub EndsAt : Expected → List Frame → Frame → ℕ → Query → List Token → Type 0
+abbrev EndsAt : Expected → List Frame → Frame → ℕ → Query → List Token → Type 0
 EndsAt operand below f n q ts = Awaits below f n q ts
-EndsAt (after_attr a) below f n q ts = AwaitsOp below f n a q ts
+EndsAt (after_attr a) below f n q ts =
+    (o : Op) × (us : List Token) × (ts ≡ op o ∷ us) × AwaitsLiteral below f n a o q us
 EndsAt (after_op a o) below f n q ts = AwaitsLiteral below f n a o q ts
 EndsAt after_operand below f n q ts = After below f.or_parts f.and_parts n q ts
 
--- a state by its parts
-abbrev at : Expected → List Frame → Frame → ℕ → MachineState
-at p below f n = record { below = below; top = f; expected = p; room = n }
+-- the tokens end a formula from a state on
+abbrev Ends : MachineState → Query → List Token → Type 0
+Ends x q ts = EndsAt x.expected x.below x.top x.room q ts
 
--- ---- one token more, at the front
-
--- `&&` and an operand before the rest of a frame add a part to its last and
-rest_and : (n : ℕ) (os xs : List Query) (K : Query → List Token → Type 0) (a b : List Token)
-    (p : Query) → IsNot n a p → Rest n os (xs ++ p ∷ []) K b → Rest n os xs K (ands ∷ (a ++ b))
-rest_and n os xs K a b p h r = record {
-  more = p ∷ r.more;
-  ys = r.ys;
-  a = ands ∷ (a ++ r.a);
-  b = r.b;
-  c = r.c;
-  split = ap (λ l. ands ∷ (a ++ l)) r.split
-      ∙ ap (λ l. ands ∷ l) (sym (append_assoc a r.a (r.b ++ r.c)));
-  more_ands = (a, r.a, refl, h, r.more_ands);
-  more_ors = r.more_ors;
-  then = subst (λ l. K (either_of (os ++ (both_of l ∷ r.ys))) r.c)
-      (append_assoc xs (p ∷ []) r.more) r.then;
-}
-
--- `||` and an operand before the rest of a frame begin an and of its own
-rest_or : (n : ℕ) (os xs : List Query) (K : Query → List Token → Type 0) (a b : List Token)
-    (p : Query) → IsNot n a p → Rest n (os ++ both_of xs ∷ []) (p ∷ []) K b
-    → Rest n os xs K (ors ∷ (a ++ b))
-rest_or n os xs K a b p h r = record {
-  more = [];
-  ys = both_of (p ∷ r.more) ∷ r.ys;
-  a = [];
-  b = ors ∷ ((a ++ r.a) ++ r.b);
-  c = r.c;
-  split = ap (λ l. ors ∷ l) (ap (λ l. a ++ l) r.split ∙ sym (append_assoc a r.a (r.b ++ r.c))
-      ∙ sym (append_assoc (a ++ r.a) r.b r.c));
-  more_ands = refl;
-  more_ors = (a ++ r.a, r.b, refl, (p, r.more, refl, (a, r.a, refl, h, r.more_ands)), r.more_ors);
-  then = subst (λ l. K (either_of (os ++ (both_of l ∷ both_of (p ∷ r.more) ∷ r.ys))) r.c)
-      (sym (append-nil xs)) (subst (λ l. K (either_of l) r.c)
-      (append_assoc os (both_of xs ∷ []) (both_of (p ∷ r.more) ∷ r.ys)) r.then);
-}
+-- where no `!` waits, no room is given back
+plain : (below : List Frame) (os xs : List Query) (n : ℕ) (q : Query) (ts : List Token)
+    → After below os xs (n + 0) q ts → After below os xs n q ts
+plain below os xs n q ts h = subst (λ m. After below os xs m q ts) (add-zero n) h
 
 -- a frame ends where what follows takes its or as a query
 rest_end : (n : ℕ) (os xs : List Query) (K : Query → List Token → Type 0) (c : List Token)
@@ -127,36 +87,31 @@ rest_end n os xs K c k = record {
   then = subst (λ l. K (either_of (os ++ (both_of l ∷ []))) c) (sym (append-nil xs)) k;
 }
 
--- `&&` and an operand before the end of a formula add a part to its last and
-after_and : (below : List Frame) (os xs : List Query) (n : ℕ) (q : Query) (a b : List Token)
-    (p : Query) → IsNot n a p → After below os (xs ++ p ∷ []) n q b
-    → After below os xs n q (ands ∷ (a ++ b))
-after_and [] os xs n q a b p h r = rest_and n os xs _ a b p h r
-after_and (g ∷ gs) os xs n q a b p h r = rest_and n os xs _ a b p h r
-
--- `||` and an operand before the end of a formula begin an and of its own
-after_or : (below : List Frame) (os xs : List Query) (n : ℕ) (q : Query) (a b : List Token)
-    (p : Query) → IsNot n a p → After below (os ++ both_of xs ∷ []) (p ∷ []) n q b
-    → After below os xs n q (ors ∷ (a ++ b))
-after_or [] os xs n q a b p h r = rest_or n os xs _ a b p h r
-after_or (g ∷ gs) os xs n q a b p h r = rest_or n os xs _ a b p h r
-
--- the formula that a frame is, from its first operand on
-whole_of : (n : ℕ) (K : Query → List Token → Type 0) (a b : List Token) (p : Query)
-    → IsNot n a p → (r : Rest n [] (p ∷ []) K b)
-    → IsOr (IsNot n) ((a ++ r.a) ++ r.b) (either_of (both_of (p ∷ r.more) ∷ r.ys))
-whole_of n K a b p h r = (
-  both_of (p ∷ r.more),
-  r.ys,
-  refl,
-  (a ++ r.a, r.b, refl, (p, r.more, refl, (a, r.a, refl, h, r.more_ands)), r.more_ors),
-)
-
--- an operand and the rest of its frame are the tokens that were split
-joined : (n : ℕ) (K : Query → List Token → Type 0) (a b : List Token) (p : Query)
-    (r : Rest n [] (p ∷ []) K b) → a ++ b ≡ ((a ++ r.a) ++ r.b) ++ r.c
-joined n K a b p r = ap (λ l. a ++ l) r.split ∙ sym (append_assoc a r.a (r.b ++ r.c))
-    ∙ sym (append_assoc (a ++ r.a) r.b r.c)
+-- from the first operand of a frame on: the formula that the frame is, and what follows it
+whole : (below : List Frame) (n : ℕ) (q : Query) (ts : List Token) → Awaits below empty_frame n q ts
+    → (a : List Token) × (p : Query) × (c : List Token) × (ts ≡ a ++ c) × IsFormula n a p
+    × Closing below n q p c
+whole below n q ts h =
+    let r = plain below [] (h.p ∷ []) n q h.b h.after in (
+      (h.a ++ r.a) ++ r.b,
+      either_of (both_of (h.p ∷ r.more) ∷ r.ys),
+      r.c,
+      h.split ∙ ap (λ l. h.a ++ l) r.split ∙ sym (append_assoc h.a r.a (r.b ++ r.c))
+          ∙ sym (append_assoc (h.a ++ r.a) r.b r.c),
+      (
+        both_of (h.p ∷ r.more),
+        r.ys,
+        refl,
+        (
+          h.a ++ r.a,
+          r.b,
+          refl,
+          (h.p, r.more, refl, (h.a, r.a, refl, h.reads, r.more_ands)),
+          r.more_ors,
+        ),
+      ),
+      r.then,
+    )
 
 -- a name, an operator and a literal are read as a comparison
 pub comparison_reads : (n : ℕ) (a : List ℕ) (o : Op) (l name : List ℕ) (literal : Literal)
@@ -165,29 +120,21 @@ pub comparison_reads : (n : ℕ) (a : List ℕ) (o : Op) (l name : List ℕ) (li
 comparison_reads zero a o l name literal h k = (a, o, l, name, literal, refl, h, k, refl)
 comparison_reads (suc n) a o l name literal h k = inl (a, o, l, name, literal, refl, h, k, refl)
 
--- where no `!` waits, no room is given back
-plain : (below : List Frame) (os xs : List Query) (n : ℕ) (q : Query) (ts : List Token)
-    → After below os xs (n + 0) q ts → After below os xs n q ts
-plain below os xs n q ts h = subst (λ m. After below os xs m q ts) (add-zero n) h
-
--- a name before an operator and a literal begins an operand
-awaits_comparison : (below : List Frame) (f : Frame) (n : ℕ) (q : Query) (raw attr : List ℕ)
-    (ts : List Token) → name_of raw ≡ Some attr → AwaitsOp below f n attr q ts
-    → Awaits below f n q (word raw ∷ ts)
-awaits_comparison below f n q raw attr ts named h = record {
-  a = word raw ∷ op h.o ∷ word h.l ∷ [];
-  b = h.b;
-  p = Compare attr h.o h.literal;
-  split = ap (λ l. word raw ∷ l) h.split;
-  reads = comparison_reads n raw h.o h.l attr h.literal named h.is;
-  after = h.after;
-}
-
--- `!` before an operand is read as that operand negated
-awaits_bang : (below : List Frame) (f : Frame) (n : ℕ) (q : Query) (ts : List Token) → Awaits below
-    (record { or_parts = f.or_parts; and_parts = f.and_parts; bangs = suc f.bangs }) n q ts
-    → Awaits below f (suc n) q (bang ∷ ts)
-awaits_bang below f n q ts h =
+-- tokens that end a formula from where a move leads end it from before the move, with its token
+ends_from : (q : Query) (ts : List Token) {x s : MachineState} {t : Token} → Move x t s
+    → Ends s q ts → Ends x q (t ∷ ts)
+ends_from q ts (enter below f n) h =
+    let w = whole (f ∷ below) n q ts h in
+    record {
+      a = opens ∷ (w.0 ++ closes ∷ []);
+      b = w.5.0;
+      p = w.1;
+      split = ap (λ l. opens ∷ l) (w.3 ∙ ap (λ l. w.0 ++ l) w.5.1
+          ∙ sym (append_assoc w.0 (closes ∷ []) w.5.0));
+      reads = inr (inl (w.0, refl, w.4));
+      after = w.5.2;
+    }
+ends_from q ts (deny below f n) h =
     let same : n + suc f.bangs ≡ suc n + f.bangs = omega arith in
     record {
       a = bang ∷ h.a;
@@ -199,136 +146,78 @@ awaits_bang below f n q ts h =
           subst (λ m. After below f.or_parts (f.and_parts ++ negate f.bangs (Not h.p) ∷ []) m q h.b)
           same h.after;
     }
-
--- `(` before an operand opens a frame, which its `)` ends
-awaits_paren : (below : List Frame) (f : Frame) (n : ℕ) (q : Query) (ts : List Token)
-    → Awaits (f ∷ below) empty_frame n q ts → Awaits below f (suc n) q (opens ∷ ts)
-awaits_paren below f n q ts h =
-    let r = plain (f ∷ below) [] (h.p ∷ []) n q h.b h.after in
-    let inner = (h.a ++ r.a) ++ r.b in
+ends_from q ts (attribute below f n raw attr e) h = record {
+  a = word raw ∷ op h.0 ∷ word h.3.l ∷ [];
+  b = h.3.b;
+  p = Compare attr h.0 h.3.literal;
+  split = ap (λ l. word raw ∷ l) (h.2 ∙ ap (λ l. op h.0 ∷ l) h.3.split);
+  reads = comparison_reads n raw h.0 h.3.l attr h.3.literal e h.3.is;
+  after = h.3.after;
+}
+ends_from q ts (operator below f n a o) h = (o, ts, refl, h)
+ends_from q ts (complete below f n a o raw literal e) h =
+    record { l = raw; literal = literal; b = ts; split = refl; is = e; after = h }
+ends_from q ts (one_and below f n) h =
+    let r = plain below f.or_parts (f.and_parts ++ h.p ∷ []) n q h.b h.after in
     record {
-      a = opens ∷ (inner ++ closes ∷ []);
-      b = r.then.0;
-      p = either_of (both_of (h.p ∷ r.more) ∷ r.ys);
-      split = ap (λ l. opens ∷ l) (h.split ∙ joined n _ h.a h.b h.p r
-          ∙ ap (λ l. inner ++ l) r.then.1 ∙ sym (append_assoc inner (closes ∷ []) r.then.0));
-      reads = inr (inl (inner, refl, whole_of n _ h.a h.b h.p h.reads r));
-      after = r.then.2;
+      more = h.p ∷ r.more;
+      ys = r.ys;
+      a = ands ∷ (h.a ++ r.a);
+      b = r.b;
+      c = r.c;
+      split = ap (λ l. ands ∷ l) (h.split ∙ ap (λ l. h.a ++ l) r.split
+          ∙ sym (append_assoc h.a r.a (r.b ++ r.c)));
+      more_ands = (h.a, r.a, refl, h.reads, r.more_ands);
+      more_ors = r.more_ors;
+      then = subst (λ l. Closing below n q (either_of (f.or_parts ++ (both_of l ∷ r.ys))) r.c)
+          (append_assoc f.and_parts (h.p ∷ []) r.more) r.then;
     }
+ends_from q ts (one_or below f n) h =
+    let os = f.or_parts in
+    let xs = f.and_parts in
+    let r = plain below (os ++ both_of xs ∷ []) (h.p ∷ []) n q h.b h.after in
+    let ys = both_of (h.p ∷ r.more) ∷ r.ys in
+    record {
+      more = [];
+      ys = ys;
+      a = [];
+      b = ors ∷ ((h.a ++ r.a) ++ r.b);
+      c = r.c;
+      split = ap (λ l. ors ∷ l) (h.split ∙ ap (λ l. h.a ++ l) r.split
+          ∙ sym (append_assoc h.a r.a (r.b ++ r.c)) ∙ sym (append_assoc (h.a ++ r.a) r.b r.c));
+      more_ands = refl;
+      more_ors = (
+        h.a ++ r.a,
+        r.b,
+        refl,
+        (h.p, r.more, refl, (h.a, r.a, refl, h.reads, r.more_ands)),
+        r.more_ors,
+      );
+      then = subst (λ l. Closing below n q (either_of (os ++ (both_of l ∷ ys))) r.c)
+          (sym (append-nil xs)) (subst (λ l. Closing below n q (either_of l) r.c)
+          (append_assoc os (both_of xs ∷ []) ys) r.then);
+    }
+ends_from q ts (leave g below f n) h =
+    rest_end n f.or_parts f.and_parts (λ r e. Closing (g ∷ below) n q r e) (closes ∷ ts)
+    (ts, refl, h)
 
--- ---- every token
-
--- nothing is both None and Some
-fails : {A : Type 0} {X : Type 0} (x : A) → None ≡ Some x → X
-fails x e = cc
-
--- the two values of a step that was taken
-pub record Taken (A : Type 0) (o : Option A) (f : A → MachineState) (ts : List Token)
-    (q : Query) : Type 0 where
-  pub value : A
-  pub is : o ≡ Some value
-  pub goes : run (f value) ts ≡ Some q
-
--- where a word and the rest run to a query, the word is a name or a literal
-taken : {A : Type 0} (o : Option A) (f : A → MachineState) (ts : List Token) (q : Query)
-    → option_and_then (λ s. run s ts) (option_map f o) ≡ Some q → Taken A o f ts q
-taken None f ts q e = fails q e
-taken (Some x) f ts q e = record { value = x; is = refl; goes = e }
+-- no tokens end a formula where it is whole
+ended : (p : Expected) (below : List Frame) (f : Frame) (n : ℕ) (q : Query)
+    → whole_at p below f ≡ Some q → EndsAt p below f n q []
+ended after_operand [] f n q e = rest_end n f.or_parts f.and_parts (λ r c. Closing [] n q r c) []
+    (refl, same_Some (said_by f) q e)
+ended p below f n q e = absurd (none-some q e)
 
 -- the tokens that the machine runs over to a query end a formula, as the grammar reads it
-pub sound : (ts : List Token) (p : Expected) (below : List Frame) (f : Frame) (n : ℕ) (q : Query)
-    → run (at p below f n) ts ≡ Some q → EndsAt p below f n q ts
-sound [] operand below f n q e = fails q e
-sound [] (after_attr a) below f n q e = fails q e
-sound [] (after_op a o) below f n q e = fails q e
-sound [] after_operand [] f n q e = rest_end n f.or_parts f.and_parts _ [] (refl, same_Some _ q e)
-sound [] after_operand (g ∷ gs) f n q e = fails q e
-sound (word w ∷ ts) operand below f n q e =
-    let t = taken (name_of w) (λ name. at (after_attr name) below f n) ts q e in
-    awaits_comparison below f n q w t.value ts t.is
-    (sound ts (after_attr t.value) below f n q t.goes)
-sound (lone ∷ ts) operand below f n q e = fails q e
-sound (cut ∷ ts) operand below f n q e = fails q e
-sound (bang ∷ ts) operand below f zero q e = fails q e
-sound (bang ∷ ts) operand below f (suc n) q e = awaits_bang below f n q ts (sound ts operand below
-    (record { or_parts = f.or_parts; and_parts = f.and_parts; bangs = suc f.bangs }) n q e)
-sound (opens ∷ ts) operand below f zero q e = fails q e
-sound (opens ∷ ts) operand below f (suc n) q e =
-    awaits_paren below f n q ts (sound ts operand (f ∷ below) empty_frame n q e)
-sound (closes ∷ ts) operand below f n q e = fails q e
-sound (ands ∷ ts) operand below f n q e = fails q e
-sound (ors ∷ ts) operand below f n q e = fails q e
-sound (op o ∷ ts) operand below f n q e = fails q e
-sound (op o ∷ ts) (after_attr a) below f n q e =
-    let h = sound ts (after_op a o) below f n q e in
-    record {
-      o = o;
-      l = h.l;
-      literal = h.literal;
-      b = h.b;
-      split = ap (λ l. op o ∷ l) h.split;
-      is = h.is;
-      after = h.after;
-    }
-sound (word w ∷ ts) (after_attr a) below f n q e = fails q e
-sound (lone ∷ ts) (after_attr a) below f n q e = fails q e
-sound (cut ∷ ts) (after_attr a) below f n q e = fails q e
-sound (bang ∷ ts) (after_attr a) below f n q e = fails q e
-sound (opens ∷ ts) (after_attr a) below f n q e = fails q e
-sound (closes ∷ ts) (after_attr a) below f n q e = fails q e
-sound (ands ∷ ts) (after_attr a) below f n q e = fails q e
-sound (ors ∷ ts) (after_attr a) below f n q e = fails q e
-sound (word w ∷ ts) (after_op a o) below f n q e =
-    let t = taken (literal_of o w) (λ literal. completed (Compare a o literal) below f n) ts q e in
-    record {
-      l = w;
-      literal = t.value;
-      b = ts;
-      split = refl;
-      is = t.is;
-      after =
-          sound ts after_operand below (frame_with (Compare a o t.value) f) (n + f.bangs) q t.goes;
-    }
-sound (lone ∷ ts) (after_op a o) below f n q e = fails q e
-sound (cut ∷ ts) (after_op a o) below f n q e = fails q e
-sound (op p ∷ ts) (after_op a o) below f n q e = fails q e
-sound (bang ∷ ts) (after_op a o) below f n q e = fails q e
-sound (opens ∷ ts) (after_op a o) below f n q e = fails q e
-sound (closes ∷ ts) (after_op a o) below f n q e = fails q e
-sound (ands ∷ ts) (after_op a o) below f n q e = fails q e
-sound (ors ∷ ts) (after_op a o) below f n q e = fails q e
-sound (ands ∷ ts) after_operand below f n q e =
-    let h = sound ts operand below
-    (record { or_parts = f.or_parts; and_parts = f.and_parts; bangs = 0 }) n q e in
-    subst (After below f.or_parts f.and_parts n q) (ap (λ l. ands ∷ l) (sym h.split))
-    (after_and below f.or_parts f.and_parts n q h.a h.b h.p h.reads
-    (plain below f.or_parts (f.and_parts ++ h.p ∷ []) n q h.b h.after))
-sound (ors ∷ ts) after_operand below f n q e =
-    let h = sound ts operand below (record {
-      or_parts = f.or_parts ++ both_of f.and_parts ∷ [];
-      and_parts = [];
-      bangs = 0;
-    }) n q e in
-    subst (After below f.or_parts f.and_parts n q) (ap (λ l. ors ∷ l) (sym h.split))
-    (after_or below f.or_parts f.and_parts n q h.a h.b h.p h.reads
-    (plain below (f.or_parts ++ both_of f.and_parts ∷ []) (h.p ∷ []) n q h.b h.after))
-sound (closes ∷ ts) after_operand [] f n q e = fails q e
-sound (closes ∷ ts) after_operand (g ∷ gs) f n q e =
-    rest_end n f.or_parts f.and_parts _ (closes ∷ ts)
-    (ts, refl, sound ts after_operand gs (frame_with (said_by f) g) (suc n + g.bangs) q e)
-sound (word w ∷ ts) after_operand below f n q e = fails q e
-sound (lone ∷ ts) after_operand below f n q e = fails q e
-sound (cut ∷ ts) after_operand below f n q e = fails q e
-sound (op o ∷ ts) after_operand below f n q e = fails q e
-sound (bang ∷ ts) after_operand below f n q e = fails q e
-sound (opens ∷ ts) after_operand below f n q e = fails q e
+sound : (ts : List Token) (x : MachineState) (q : Query) → run x ts ≡ Some q → Ends x q ts
+sound [] x q e = ended x.expected x.below x.top x.room q e
+sound (t ∷ ts) x q e =
+    let h = led (λ y. run y ts) (step x t) q e in
+    ends_from q ts (move x t h.0 h.1) (sound ts h.0 q h.2)
 
 -- what the machine reads is a formula
 pub run_reads : (n : ℕ) (ts : List Token) (q : Query) → run (start n) ts ≡ Some q → IsFormula n ts q
 run_reads n ts q e =
-    let h = sound ts operand [] empty_frame n q e in
-    let r = plain [] [] (h.p ∷ []) n q h.b h.after in
-    let all : ts ≡ (h.a ++ r.a) ++ r.b = h.split ∙ joined n _ h.a h.b h.p r
-    ∙ ap (λ l. ((h.a ++ r.a) ++ r.b) ++ l) r.then.0 ∙ append-nil _ in
-    subst (λ l. IsFormula n l q) (sym all)
-    (subst (IsOr (IsNot n) ((h.a ++ r.a) ++ r.b)) r.then.1 (whole_of n _ h.a h.b h.p h.reads r))
+    let w = whole [] n q ts (sound ts (start n) q e) in
+    let all : ts ≡ w.0 = w.3 ∙ ap (λ c. w.0 ++ c) w.5.0 ∙ append-nil w.0 in
+    subst (λ l. IsFormula n l q) (sym all) (subst (IsFormula n w.0) w.5.1 w.4)

@@ -1,22 +1,54 @@
--- The size of a pattern while its source is read, a piece at a time.
-use Rattle.std.proofs.Common.{◌≡◌, ◌≤◌, ◌+◌, ◌-◌, ◌^◌, ℕ, List, [], ◌∷◌, ◌++◌, length, refl, sym, ap, ◌∙◌, arith, Bool, true, false, Option, Some, None, Bor}
+-- The lengths of canonical texts, and the size of a pattern while its source is read.
+use Rattle.std.proofs.Common.{◌≡◌, ◌+◌, ◌≤◌, ℕ, List, [], ◌∷◌, ◌++◌, length, ap, ◌∙◌, arith, ◌<◌, ◌-◌, ◌^◌, refl, sym, Bool, true, false, Option, Some, None, Bor}
+use Rattle.std.proofs.lemmas.List.{length-append}
+use Rattle.std.specs.Str.{encode_utf8_all, IsUtf8}
 use Rattle.std.specs.Prelude.{Result, Ok, Err, if◌then◌else◌, encode_utf8}
+use Rattle.std.proofs.lemmas.Option.{none-some, some_pair_parts}
 use Rattle.std.proofs.lemmas.Str.{encode_ascii}
 use Rattle.std.proofs.Math.Dec.{lit<}
-use Rattle.std.specs.Str.{encode_utf8_all, IsUtf8}
 use Rattle.lq_value.specs.Element.{Element}
-use Rattle.lq_value.specs.Element.TheVariants.{Any, Set, Star}
 use Rattle.lq_value.specs.Item.{Item}
+use Rattle.lq_value.specs.declared.literal.Literal.{Literal}
+use Rattle.lq_value.specs.declared.op.Op.{Op}
+use Rattle.lq_value.specs.Element.TheVariants.{Set}
 use Rattle.lq_value.specs.FirstItem.{FirstItem}
 use Rattle.lq_value.specs.FirstItem.TheVariants as items
 use Rattle.lq_value.specs.Reading.{first_item_of}
 use Rattle.lq_value.specs.Laws.{AreWalked, SourcesAreWalked}
 use Rattle.lq_value.specs.Sign.{Signs, signs_of, signs_len}
 use Rattle.lq_value.specs.Source.{First, ends, has, faulty, Pieces, whole, stuck, begin, after_first, elements_or_place, element_at, item_at, pattern_of, pieces_of, set_with}
-use Rattle.lq_predicate_formula.specs.Canonical.{element_then, item_then, items_then}
+use Rattle.lq_predicate_formula.specs.Query.{Compare}
+use Rattle.lq_predicate_formula.specs.Canonical.{in_marks, attr_then, op_text, literal_text, pattern_text, element_then, item_then, items_then, canonical}
 use Rattle.lq_predicate_formula.specs.Capped.{capped}
 use Rattle.lq_predicate_formula.specs.Sizes.{HasSize, pattern_bytes, items_bytes, pattern_sized, items_sized}
-use Rattle.lq_predicate_formula.proofs.SizeLemmas.{element_split, item_split}
+use Rattle.lq_predicate_formula.proofs.WritingLemmas.{attr_then-append, items_step, list_step}
+
+-- a comparison's text has four bytes beside those of its three parts
+pub length-comparison : (attr : List ℕ) (op : Op) (literal : Literal)
+    → length (canonical (Compare attr op literal))
+    ≡ ((length (attr_then attr []) + length (op_text op)) + length (literal_text literal)) + 4
+length-comparison attr op literal =
+    let behind = op_text op ++ in_marks (literal_text literal) (41 ∷ []) in
+    let a =
+    ap length (attr_then-append attr [] behind) ∙ length-append (attr_then attr []) behind in
+    let b = length-append (op_text op) (in_marks (literal_text literal) (41 ∷ [])) in
+    let d = length-append (literal_text literal) (34 ∷ 41 ∷ []) in
+    omega (arith, a, b, d)
+
+-- ---- patterns
+
+-- a pattern's text is as long as that of its first element and that of the others
+pub element_split : (e : Element) (es : List Element)
+    → length (encode_utf8_all (pattern_text (e ∷ es)))
+    ≡ length (encode_utf8_all (element_then e [])) + length (encode_utf8_all (pattern_text es))
+element_split e es = ap length (list_step e es)
+    ∙ length-append (encode_utf8_all (element_then e [])) (encode_utf8_all (pattern_text es))
+
+-- a set's text is as long as that of its first item and that of the others
+pub item_split : (i : Item) (is : List Item) → length (encode_utf8_all (items_then (i ∷ is) []))
+    ≡ length (encode_utf8_all (item_then i [])) + length (encode_utf8_all (items_then is []))
+item_split i is = ap length (items_step i is)
+    ∙ length-append (encode_utf8_all (item_then i [])) (encode_utf8_all (items_then is []))
 
 -- the pieces, where it is known what is first
 step_by : {A : Type 0} {first : Signs → First A} (w : AreWalked first) (ss : Signs) (r : First A)
@@ -31,8 +63,7 @@ item_more : (n n' p : ℕ) (i : Item) (r : Pieces Item)
     → items_sized n' r ≡ items_sized n (begin i r)
 item_more n n' p i (whole is rest) e new =
     let split = item_split i is in
-    ap (λ k. Some (k, rest)) (let same : capped (n' + items_bytes is)
-    ≡ capped (n + items_bytes (i ∷ is)) = omega (arith, e, new, split) in same)
+    ap (λ k. Some (k, rest)) (omega (arith, e, new, split))
 item_more n n' p i (stuck rest) e new = refl
 
 -- while a set's source is read: one item more keeps what the whole will be
@@ -44,25 +75,18 @@ items_on law n n' p ss rest i all so_far is e new =
     item_more n n' p i (pieces_of item_at rest) e new
     ∙ sym (ap (items_sized n) (step_by law.items ss (has i rest) is)) ∙ so_far
 
--- a set with no more items has one byte, its `]`
-end_bytes : items_bytes [] ≡ 1
-end_bytes = ap (λ t. length (t ++ [])) (encode_ascii 93 (lit< tt))
-
--- `*` has one byte
-pub star_bytes : length (encode_utf8_all (element_then Star [])) ≡ 1
-star_bytes = ap (λ t. length (t ++ [])) (encode_ascii 42 (lit< tt))
-
--- and so has `?`
-pub any_bytes : length (encode_utf8_all (element_then Any [])) ≡ 1
-any_bytes = ap (λ t. length (t ++ [])) (encode_ascii 63 (lit< tt))
+-- an ASCII character has one byte
+pub one_byte : (c : ℕ) → c < 128 → length (encode_utf8_all (c ∷ [])) ≡ 1
+one_byte c small = ap (λ t. length (t ++ [])) (encode_ascii c small)
 
 -- a set's source that ends here is as large as was counted, and its `]`
 pub items_end : SourcesAreWalked → (n n' : ℕ) (ss rest : Signs) (all : Option (ℕ × Signs))
     → items_sized n (pieces_of item_at ss) ≡ all → item_at ss ≡ ends rest → n' ≡ capped (n + 1)
     → all ≡ Some (n', rest)
 items_end law n n' ss rest all so_far is new =
-    sym so_far ∙ ap (items_sized n) (step_by law.items ss (ends rest) is) ∙ ap (λ k. Some (k, rest))
-    (let same : capped (n + items_bytes []) ≡ n' = omega (arith, new, end_bytes) in same)
+    let size : capped (n + items_bytes []) ≡ n' = omega (arith, new, one_byte 93 (lit< tt)) in
+    sym so_far ∙ ap (items_sized n) (step_by law.items ss (ends rest) is)
+    ∙ ap (λ k. Some (k, rest)) size
 
 -- a set's source that is bad here is bad
 pub items_stuck : SourcesAreWalked → (n : ℕ) (ss : Signs) (all : Option (ℕ × Signs))
@@ -72,37 +96,13 @@ items_stuck law n ss all so_far is =
 
 -- ---- a set, which has an item at least
 
--- the items that were measured, where they are whole
-pub record Items (r : Pieces Item) (size : ℕ) (rest : Signs) : Type 0 where
-  pub items : List Item
-  pub are : r ≡ whole items rest
-  pub size_is : size ≡ capped (items_bytes items)
-
--- the size that was counted, or this one
-abbrev first_or : ℕ → Option (ℕ × Signs) → ℕ
-first_or n None = n
-first_or n (Some p) = p.0
-
--- the signs that are left, or these
-abbrev second_or : Signs → Option (ℕ × Signs) → Signs
-second_or ss None = ss
-second_or ss (Some p) = p.1
-
 -- a size that was counted over a set's items is that of whole items
 items_whole : (r : Pieces Item) (size : ℕ) (rest : Signs) → items_sized 0 r ≡ Some (size, rest)
-    → Items r size rest
-items_whole (whole is behind) size rest e = record {
-  items = is;
-  are = ap (λ o. whole is (second_or rest o)) e;
-  size_is = let same = ap (first_or 0) e in omega (arith, same);
-}
-items_whole (stuck behind) size rest e = absurd (let no : ⊥ = cc in no)
-
--- items that are not whole make no set
-items_none : (r : Pieces Item) (negated : Bool) → items_sized 0 r ≡ None
-    → set_with negated r ≡ faulty
-items_none (whole is rest) negated e = absurd (let no : ⊥ = cc in no)
-items_none (stuck rest) negated e = refl
+    → (is : List Item) × (r ≡ whole is rest) × (size ≡ capped (items_bytes is))
+items_whole (whole is behind) size rest e =
+    let same = some_pair_parts (capped (0 + items_bytes is)) size behind rest e in
+    (is, ap (whole is) same.1, omega (arith, same.0))
+items_whole (stuck behind) size rest e = absurd (none-some (size, rest) e)
 
 -- nothing stands between the `[` and its `]`
 pub set_empty : SourcesAreWalked → (ss rest : Signs) (negated : Bool) → item_at ss ≡ ends rest
@@ -110,9 +110,10 @@ pub set_empty : SourcesAreWalked → (ss rest : Signs) (negated : Bool) → item
 set_empty law ss rest negated e = ap (set_with negated) (step_by law.items ss (ends rest) e)
 
 -- a set whose items are not whole is bad
-pub set_stuck : (ss : Signs) (negated : Bool) → items_sized 0 (pieces_of item_at ss) ≡ None
-    → set_with negated (pieces_of item_at ss) ≡ faulty
-set_stuck ss negated e = items_none (pieces_of item_at ss) negated e
+pub set_stuck : (r : Pieces Item) (negated : Bool) → items_sized 0 r ≡ None
+    → set_with negated r ≡ faulty
+set_stuck (whole is rest) negated e = absurd (none-some _ (sym e))
+set_stuck (stuck rest) negated e = refl
 
 -- a set that has begun with an item is not empty
 begun_some : (i : Item) (r : Pieces Item) (rest : Signs) → begin i r ≡ whole [] rest → ⊥
@@ -141,14 +142,13 @@ set_bytes : (negated : Bool) (is : List Item)
     → length (encode_utf8_all (element_then (Set negated is) []))
     ≡ (if negated then 2 else 1) + items_bytes is
 set_bytes true is =
-    let one = ap (λ t. length (t ++ (encode_utf8 94 ++ encode_utf8_all (items_then is []))))
-    (encode_ascii 91 (lit< tt)) in
-    let two =
-    ap (λ t. length (t ++ encode_utf8_all (items_then is []))) (encode_ascii 94 (lit< tt)) in
+    let text = encode_utf8_all (items_then is []) in
+    let one = ap (λ t. length (t ++ (encode_utf8 94 ++ text))) (encode_ascii 91 (lit< tt)) in
+    let two = ap (λ t. length (t ++ text)) (encode_ascii 94 (lit< tt)) in
     omega (arith, one, two)
 set_bytes false is =
-    let one =
-    ap (λ t. length (t ++ encode_utf8_all (items_then is []))) (encode_ascii 91 (lit< tt)) in
+    let text = encode_utf8_all (items_then is []) in
+    let one = ap (λ t. length (t ++ text)) (encode_ascii 91 (lit< tt)) in
     omega (arith, one)
 
 -- a set with an item is an element
@@ -165,14 +165,12 @@ pub set_sized : SourcesAreWalked → (text rest : List ℕ) (negated : Bool) (n 
     → HasSize (set_with negated (pieces_of item_at (signs_of text))) m rest
 set_sized law text rest negated n m utf8 some e new =
     let w = items_whole (pieces_of item_at (signs_of text)) n (signs_of rest) e in
-    let has_some : w.items ≡ [] → ⊥ = λ none. some_items law (signs_of text) (signs_of rest)
-    (item_at (signs_of text)) refl some (w.are ∙ ap (λ is. whole is (signs_of rest)) none) in
-    let bytes = set_bytes negated w.items in
-    let size = w.size_is in
+    let has_some : w.0 ≡ [] → ⊥ = λ none. some_items law (signs_of text) (signs_of rest)
+    (item_at (signs_of text)) refl some (w.1 ∙ ap (λ is. whole is (signs_of rest)) none) in
     record {
-      element = Set negated w.items;
-      is = ap (set_with negated) w.are ∙ set_of negated w.items (signs_of rest) has_some;
-      size_is = omega (arith, new, bytes, size);
+      element = Set negated w.0;
+      is = ap (set_with negated) w.1 ∙ set_of negated w.0 (signs_of rest) has_some;
+      size_is = omega (arith, new, set_bytes negated w.0, w.2);
       text = utf8;
     }
 
@@ -186,8 +184,7 @@ measured text n (stuck rest) = Err (length text - signs_len rest)
 -- nothing counted before leaves a pattern's size as it is
 measured_by : (text : List ℕ) (r : Pieces Element)
     → measured text 0 r ≡ pattern_sized (elements_or_place text r)
-measured_by text (whole es rest) = ap Ok
-    (let same : capped (0 + pattern_bytes es) ≡ capped (pattern_bytes es) = omega arith in same)
+measured_by text (whole es rest) = ap Ok (omega arith)
 measured_by text (stuck rest) = refl
 
 -- before the first element, what is to be counted is the size of the whole pattern
@@ -201,8 +198,7 @@ element_more : (text : List ℕ) (n n' p : ℕ) (e : Element) (r : Pieces Elemen
     → measured text n' r ≡ measured text n (begin e r)
 element_more text n n' p e (whole es rest) is new =
     let split = element_split e es in
-    ap Ok (let same : capped (n' + pattern_bytes es)
-    ≡ capped (n + pattern_bytes (e ∷ es)) = omega (arith, is, new, split) in same)
+    ap Ok (omega (arith, is, new, split))
 element_more text n n' p e (stuck rest) is new = refl
 
 -- while a pattern's source is read: one element more keeps what the whole will be

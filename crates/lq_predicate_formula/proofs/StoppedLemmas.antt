@@ -1,182 +1,176 @@
--- Where the reading of a text is a place, the text's leftmost fault is there.
-use Rattle.std.proofs.Common.{◌≡◌, ◌≤◌, ◌<◌, ◌+◌, ◌⊎◌, ℕ, Bool, true, false, List, [], ◌∷◌, ◌++◌, length, Option, Some, None, refl, sym, ap, ◌∙◌, subst, arith, inl, inr, append_assoc, append-nil}
-use Rattle.std.specs.Prelude.{◌&&◌, nat_le, if◌then◌else◌, Result, Ok, Err}
-use Rattle.std.proofs.lemmas.Bool.{leb-true, leb-false}
+-- Where the reading of some tokens stops: behind them all, or at a fault, which has one place.
+use Rattle.std.proofs.Common.{◌≡◌, ◌≤◌, ◌<◌, ◌+◌, ◌⊎◌, ℕ, List, [], ◌∷◌, ◌++◌, Option, Some, None, refl, sym, ap, ◌∙◌, subst, arith, inl, inr, append_assoc, append-nil}
+use Rattle.std.specs.Prelude.{Err, option_map}
+use Rattle.std.proofs.lemmas.Bool.{cases_lt, le-leb, lt-leb}
 use Rattle.std.proofs.lemmas.List.{map-append}
-use Rattle.lq_predicate_formula.specs.Tokens.{Token, opens, closes, bang, ands, ors, op, word, lone, cut, Placed, HasTokens, bare}
-use Rattle.lq_predicate_formula.specs.Query.{Query}
-use Rattle.lq_predicate_formula.specs.Grammar.{IsFormula, nesting}
-use Rattle.lq_predicate_formula.specs.Machine.{MachineState, start, step, steps, finished_query}
-use Rattle.lq_predicate_formula.specs.Canonical.{canonical, depth}
-use Rattle.lq_predicate_formula.specs.Faults.{AreFine, IsFaultOf, IsFaulty, too_long, at_token, ends_early, too_much, most_bytes, most_comparisons, most_depth}
-use Rattle.lq_predicate_formula.specs.MachineReading.{after_token, fault_place, finished, machine_reading, read_tokens, word_count}
-use Rattle.lq_predicate_formula.proofs.StopLemmas.{ends_none, reads_at_end, steps_push}
+use Rattle.std.proofs.lemmas.Option.{none-some}
+use Rattle.lq_value.specs.declared.op.Op.{Op}
+use Rattle.lq_value.specs.declared.op.Op.TheVariants.{Eq}
+use Rattle.lq_predicate_formula.specs.Tokens.{Token, word, Placed, bare, op, cut}
+use Rattle.lq_predicate_formula.specs.Grammar.{nesting}
+use Rattle.lq_predicate_formula.specs.Machine.{MachineState, start, step, steps, Expected, after_op, completed}
+use Rattle.lq_predicate_formula.specs.Faults.{AreFine, IsFaultOf, most_comparisons, AwaitsAttr, CanStand, stray, cut_off, alone, too_deep, bad_name, one_more, bad_pattern, kind_of}
+use Rattle.lq_predicate_formula.specs.MachineReading.{fault_place, read_tokens, word_count, fault_place_of, place_with}
+use Rattle.lq_predicate_formula.specs.Query.{Compare}
+use Rattle.lq_predicate_formula.proofs.MoveLemmas.{steps_push, at, last_move, op_place}
 use Rattle.lq_predicate_formula.proofs.RefusedLemmas.{refused_fault}
-use Rattle.lq_predicate_formula.proofs.BalanceLemmas.{full}
-use Rattle.lq_predicate_formula.proofs.TakenLemmas.{fine}
+use Rattle.lq_predicate_formula.proofs.TakenLemmas.{full, fine}
 use Rattle.lq_predicate_formula.proofs.WordLemmas.{words_append, words}
+use Rattle.lq_predicate_formula.proofs.StopLemmas.{can_stand, empty_literal}
+use Rattle.lq_predicate_formula.proofs.OutlineLemmas.{outline_of, outline_steps, stands_outline}
 
--- where the reading of these tokens stops
-data Stops (end : ℕ) (all : List Placed) (place : ℕ) : Type 0 where
-  at_one : (before : List Placed) (here : Placed) (after : List Placed)
-      → all ≡ before ++ here ∷ after → AreFine end before → IsFaultOf end (bare before) here place
-      → Stops end all place
-  too_soon : AreFine end all → ((q : Query) → IsFormula nesting (bare all) q → ⊥) → place ≡ end
-      → Stops end all place
-  too_big : AreFine end all → (q : Query) → IsFormula nesting (bare all) q
-      → (most_depth < depth q) ⊎ (most_bytes < length (canonical q)) → place ≡ end
-      → Stops end all place
+-- the most words that are read
+abbrev pub most_words : ℕ
+most_words = most_comparisons + most_comparisons
 
 -- what was read up to a state
 pub record Seen (seen : List Placed) (s : MachineState) (count : ℕ) : Type 0 where
   pub goes : steps (start nesting) (bare seen) ≡ Some s
   pub counted : words (bare seen) ≡ count
-  pub few : count ≤ most_comparisons + most_comparisons
-
--- nothing is both Ok and Err
-ok_err : {X : Type 0} (q : Query) (p : ℕ) (r : Result Query ℕ) → r ≡ Ok q → r ≡ Err p → X
-ok_err q p r f e = cc
-
--- a reading has one place
-same_place : (a b : ℕ) (r : Result Query ℕ) → r ≡ Err a → r ≡ Err b → b ≡ a
-same_place a b r e f = cc
-
--- a bound that fails its test is exceeded
-pub not_le : (a b : ℕ) → nat_le a b ≡ false → b < a
-not_le a b e = leb-false a b e
-
--- a whole query that is refused is too deep or too long, and the place is the end
-over_by : (a b : Bool) (end : ℕ) (q : Query) (p : ℕ) → nat_le (depth q) most_depth ≡ a
-    → nat_le (length (canonical q)) most_bytes ≡ b → (if a && b then Ok q else Err end) ≡ Err p
-    → ((most_depth < depth q) ⊎ (most_bytes < length (canonical q))) × (p ≡ end)
-over_by true true end q p e f g = ok_err q p (Ok q) refl g
-over_by true false end q p e f g = (inr (not_le _ _ f), same_place end p (Err end) refl g)
-over_by false b end q p e f g = (inl (not_le _ _ e), same_place end p (Err end) refl g)
+  pub few : count ≤ most_words
 
 -- no token that was passed over is at fault
-seen_fine : (end : ℕ) (seen : List Placed) (s : MachineState) (count : ℕ) → Seen seen s count
+pub seen_fine : (end : ℕ) (seen : List Placed) (s : MachineState) (count : ℕ) → Seen seen s count
     → AreFine end seen
 seen_fine end seen s count h =
     let k = h.counted in
     let l = h.few in
     fine end seen s h.goes (omega arith)
 
--- a reading that stops at the end has its fault there
-stops_whole : (end : ℕ) (all : List Placed) (s : MachineState) (count : ℕ)
-    (o : Option Query) (p : ℕ)
-    → Seen all s count → finished_query s ≡ o → finished end o ≡ Err p → Stops end all p
-stops_whole end all s count None p h w e = too_soon (seen_fine end all s count h)
-    (ends_none (bare all) s h.goes w) (same_place end p (Err end) refl e)
-stops_whole end all s count (Some q) p h w e =
-    let o = over_by (nat_le (depth q) most_depth)
-    (nat_le (length (canonical q)) most_bytes) end q p refl refl e in
-    too_big (seen_fine end all s count h) q (reads_at_end (bare all) s q h.goes w) o.0 o.1
+-- a token that is one too many is a word, and the most words stand before it
+is_word : (t : Token) (n : ℕ) → n ≤ most_words → most_words < n + word_count t
+    → (raw : List ℕ) × (t ≡ word raw) × (n ≡ most_words)
+is_word (word w) n h k = (w, refl, omega arith)
+is_word t n h k = absurd (omega arith)
 
--- a token that is one too many is a word
-pub is_word : (t : Token) (n : ℕ) → n ≤ most_comparisons + most_comparisons
-    → most_comparisons + most_comparisons < n + word_count t → (raw : List ℕ) × (t ≡ word raw)
-is_word opens n h k = absurd (omega arith)
-is_word closes n h k = absurd (omega arith)
-is_word bang n h k = absurd (omega arith)
-is_word ands n h k = absurd (omega arith)
-is_word ors n h k = absurd (omega arith)
-is_word (op o) n h k = absurd (omega arith)
-is_word (word w) n h k = (w, refl)
-is_word lone n h k = absurd (omega arith)
-is_word cut n h k = absurd (omega arith)
+-- the next token is at fault, where the reading is, or it is passed over
+abbrev pub Next : ℕ → List Placed → Placed → MachineState → ℕ → Type 0
+Next end seen t s count =
+    ((p : ℕ) × IsFaultOf end (bare seen) t p
+    × ((rest : List Placed) → read_tokens end s count (t ∷ rest) ≡ Err p))
+    ⊎ ((s' : MachineState) × Seen (seen ++ t ∷ []) s' (count + word_count t.token)
+    × ((rest : List Placed) → read_tokens end s count (t ∷ rest)
+    ≡ read_tokens end s' (count + word_count t.token) rest))
 
--- before a word too many stand the most words
-pub count_at : (t : Token) (w : List ℕ) (n : ℕ)
-    → t ≡ word w → n ≤ most_comparisons + most_comparisons
-    → most_comparisons + most_comparisons < n + word_count t
-    → n ≡ most_comparisons + most_comparisons
-count_at t w n e h k = let one : word_count t ≡ 1 = ap word_count e in omega arith
-
--- one token more is passed over, if it is taken and no word too many
-pub seen_more : (seen : List Placed) (t : Placed) (s s' : MachineState) (count : ℕ)
-    → Seen seen s count
-    → step s t.token ≡ Some s' → count + word_count t.token ≤ most_comparisons + most_comparisons
-    → Seen (seen ++ t ∷ []) s' (count + word_count t.token)
-seen_more seen t s s' count h e few =
+-- it is refused, or one word too many, or taken
+next_by : (end : ℕ) (seen : List Placed) (t : Placed) (s : MachineState) (count : ℕ)
+    → Seen seen s count → (o : Option MachineState) → step s t.token ≡ o
+    → (most_words < count + word_count t.token) ⊎ (count + word_count t.token ≤ most_words)
+    → Next end seen t s count
+unfolding read_tokens
+next_by end seen t s count h None e few =
+    inl (fault_place end s.expected t, refused_fault end (bare seen) s t h.goes e, λ rest. rw e)
+next_by end seen t s count h (Some s') e (inl over) =
+    let w = is_word t.token count h.few over in
+    let fault = full end (bare seen) s s' t w.0 h.goes (h.counted ∙ w.2) w.1 e in
+    inl (t.place, fault, λ rest. rw (e, lt-leb _ _ over))
+next_by end seen t s count h (Some s') e (inr few) =
     let same = map-append (λ x. x.token) seen (t ∷ []) in
     let k = h.counted in
-    record {
+    let seen_more : Seen (seen ++ t ∷ []) s' (count + word_count t.token) = record {
       goes = ap (steps (start nesting)) same
           ∙ steps_push (bare seen) t.token (start nesting) s h.goes ∙ e;
       counted = ap words same ∙ omega (arith, words_append (bare seen) (t.token ∷ []));
       few = few;
-    }
+    } in
+    inr (s', seen_more, λ rest. rw (e, le-leb _ _ few))
 
--- a reading that stops after a token is taken stops at it, as one too many, or later
-count_by : (end : ℕ) (seen : List Placed) (t : Placed) (ts all : List Placed) (s s' : MachineState)
-    (count p : ℕ) (others : MachineState → Result Query ℕ) (b : Bool)
-    → all ≡ seen ++ t ∷ ts → Seen seen s count → step s t.token ≡ Some s'
-    → (Seen (seen ++ t ∷ []) s' (count + word_count t.token) → others s' ≡ Err p → Stops end all p)
-    → nat_le (count + word_count t.token) (most_comparisons + most_comparisons) ≡ b
-    → (if b then others s' else Err t.place) ≡ Err p → Stops end all p
-count_by end seen t ts all s s' count p others true a h e ih k f =
-    ih (seen_more seen t s s' count h e (leb-true _ _ k)) f
-count_by end seen t ts all s s' count p others false a h e ih k f =
-    let over = not_le _ _ k in
-    let w = is_word t.token count h.few over in
-    let many = h.counted ∙ count_at t.token w.0 count w.1 h.few over in
-    at_one seen t ts a (seen_fine end seen s count h)
-    (subst (IsFaultOf end (bare seen) t) (sym (same_place t.place p (Err t.place) refl f))
-    (full end (bare seen) s s' t w.0 h.goes many w.1 e))
+-- the next token is at fault or passed over
+pub next : (end : ℕ) (seen : List Placed) (t : Placed) (s : MachineState) (count : ℕ)
+    → Seen seen s count → Next end seen t s count
+next end seen t s count h = next_by end seen t s count h (step s t.token) refl
+    (cases_lt most_words (count + word_count t.token))
 
--- a reading that stops at a token or later: it is refused, one too many, or passed over
-after_by : (end : ℕ) (seen : List Placed) (t : Placed) (ts all : List Placed) (s : MachineState)
-    (count p : ℕ) (others : MachineState → Result Query ℕ) (o : Option MachineState)
-    → all ≡ seen ++ t ∷ ts → Seen seen s count → step s t.token ≡ o
-    → ((s' : MachineState) → Seen (seen ++ t ∷ []) s' (count + word_count t.token)
-    → others s' ≡ Err p → Stops end all p)
-    → after_token (fault_place end s.expected t) t o (count + word_count t.token) others ≡ Err p
-    → Stops end all p
-after_by end seen t ts all s count p others None a h e ih f =
-    let fault : IsFaultOf end (bare seen) t (fault_place end s.expected t) =
-    refused_fault end (bare seen) s t h.goes e in
-    at_one seen t ts a (seen_fine end seen s count h) (subst (IsFaultOf end (bare seen) t)
-    (sym (same_place (fault_place end s.expected t) p (Err (fault_place end s.expected t))
-    refl f)) fault)
-after_by end seen t ts all s count p others (Some s') a h e ih f =
-    count_by end seen t ts all s s' count p others
-    (nat_le (count + word_count t.token) (most_comparisons + most_comparisons)) a h e (ih s') refl f
+-- the state behind tokens none of which is at fault, from where the reading goes on
+pub record Passes (end : ℕ) (ts : List Placed) : Type 0 where
+  pub s : MachineState
+  pub count : ℕ
+  pub seen : Seen ts s count
+  pub goes : (rest : List Placed)
+      → read_tokens end (start nesting) 0 (ts ++ rest) ≡ read_tokens end s count rest
 
--- a reading that is a place stops at a fault there
-stops : (end : ℕ) (ts seen all : List Placed) (s : MachineState) (count p : ℕ)
-    → all ≡ seen ++ ts → Seen seen s count → read_tokens end s count ts ≡ Err p → Stops end all p
-unfolding read_tokens
-stops end [] seen all s count p a h e =
-    let same : all ≡ seen = a ∙ append-nil seen in
-    stops_whole end all s count (finished_query s) p
-    (subst (λ l. Seen l s count) (sym same) h) refl e
-stops end (t ∷ ts) seen all s count p a h e =
-    after_by end seen t ts all s count p (λ s'. read_tokens end s' (count + word_count t.token) ts)
-    (step s t.token) a h refl
-    (λ s' k f. stops end ts (seen ++ t ∷ []) all s' (count + word_count t.token) p
-    (a ∙ sym (append_assoc seen (t ∷ []) ts)) k f) e
+-- where the reading of all these tokens stops
+pub data Stops (end : ℕ) (all : List Placed) : Type 0 where
+  at_one : (before : List Placed) (here : Placed) (after : List Placed) (place : ℕ)
+      → all ≡ before ++ here ∷ after → AreFine end before → IsFaultOf end (bare before) here place
+      → read_tokens end (start nesting) 0 all ≡ Err place → Stops end all
+  behind_all : Passes end all → Stops end all
 
--- where the tokens of a text stop at a fault, the text is faulty there
-faulty : (text : List ℕ) (ts : List Placed) (p : ℕ) → HasTokens 0 text ts
-    → length text ≤ most_bytes → Stops (length text) ts p → IsFaulty text p
-faulty text ts p has short (at_one before here after split fine fault) =
-    at_token short before here after (subst (HasTokens 0 text) split has) fine fault
-faulty text ts p has short (too_soon fine none at) = ends_early short ts has fine none at
-faulty text ts p has short (too_big fine q formula over at) =
-    too_much short ts has fine q formula over at
+-- the reading goes on behind tokens that were passed over, up to where it stops
+stops_from : (end : ℕ) (all ts seen : List Placed) → all ≡ seen ++ ts → Passes end seen
+    → Stops end all
+stops_from end all [] seen a p = subst (Stops end) (sym (a ∙ append-nil seen)) (behind_all p)
+stops_from end all (t ∷ ts) seen a p = elim (next end seen t p.s p.count p.seen) [
+  | inl f ↦ at_one seen t ts f.0 a (seen_fine end seen p.s p.count p.seen) f.1
+      (ap (read_tokens end (start nesting) 0) a ∙ p.goes (t ∷ ts) ∙ f.2 ts)
+  | inr n ↦ stops_from end all ts (seen ++ t ∷ []) (a ∙ sym (append_assoc seen (t ∷ []) ts))
+      (record {
+        s = n.0;
+        count = p.count + word_count t.token;
+        seen = n.1;
+        goes = λ rest. ap (read_tokens end (start nesting) 0) (append_assoc seen (t ∷ []) rest)
+            ∙ p.goes (t ∷ rest) ∙ n.2 rest;
+      })
+]
 
--- a text that is refused is too long, or its tokens are refused
-length_by : (text : List ℕ) (ts : List Placed) (p : ℕ) (b : Bool) → HasTokens 0 text ts
-    → nat_le (length text) most_bytes ≡ b
-    → (if b then read_tokens (length text) (start nesting) 0 ts else Err most_bytes) ≡ Err p
-    → IsFaulty text p
-length_by text ts p true has h e =
-    faulty text ts p has (leb-true _ _ h) (stops (length text) ts [] ts
-    (start nesting) 0 p refl (record { goes = refl; counted = refl; few = omega arith }) e)
-length_by text ts p false has h e =
-    too_long (not_le _ _ h) (same_place most_bytes p (Err most_bytes) refl e)
+-- the reading of some tokens stops at one of them, or behind them all
+pub stops : (end : ℕ) (all : List Placed) → Stops end all
+stops end all = stops_from end all all [] refl (record {
+  s = start nesting;
+  count = 0;
+  seen = record { goes = refl; counted = refl; few = omega arith };
+  goes = λ rest. refl;
+})
 
--- where the machine finds a place, the text is faulty there
-pub reading_faulty : (text : List ℕ) (ts : List Placed) (p : ℕ) → HasTokens 0 text ts
-    → machine_reading text ts ≡ Err p → IsFaulty text p
-reading_faulty text ts p has e = length_by text ts p (nat_le (length text) most_bytes) has refl e
+-- the fault's place is the token's own, but for a cut text and for a bad literal
+plain_place : (end : ℕ) (q : Expected) (t : Token) (here : Placed)
+    → (t ≡ cut → ⊥) → ((a : List ℕ) (o : Op) (w : List ℕ) → q ≡ after_op a o → t ≡ word w → ⊥)
+    → fault_place_of end q t here ≡ here.place
+plain_place end q cut here h k = absurd (h refl)
+plain_place end (after_op a o) (word w) here h k = absurd (k a o w refl refl)
+plain_place end q t here h k = refl
+
+-- a word is no cut token
+no_cut_word : (w : List ℕ) → word w ≡ cut → ⊥
+no_cut_word w e = cc
+
+module _ (ts : List Token) (s : MachineState) (e : steps (start nesting) ts ≡ Some s) where
+  -- an operator's literal may be any word, as far as the grammar goes
+  word_stands : (t : Token) (a : List ℕ) (o : Op) (w : List ℕ) → s.expected ≡ after_op a o
+      → t ≡ word w → CanStand (ts ++ t ∷ [])
+  word_stands t a o w h k =
+      let empty = empty_literal o in
+      let goes = steps_push ts (word []) (start nesting) (at (after_op a o) s.below s.top s.room)
+      (subst (λ q. steps (start nesting) ts ≡ Some (at q s.below s.top s.room)) h e)
+      ∙ ap (option_map (λ literal. completed (Compare a o literal) s.below s.top s.room)) empty.1 in
+      subst (λ u. CanStand (ts ++ u ∷ [])) (sym k)
+      (can_stand (ts ++ word w ∷ []) (ts ++ word [] ∷ [])
+      (completed (Compare a o empty.0) s.below s.top s.room) goes
+      (map-append kind_of ts (word [] ∷ []) ∙ sym (map-append kind_of ts (word w ∷ []))))
+
+  -- where the name of an attribute is awaited, no literal is
+  not_literal : (a : List ℕ) (o : Op) → AwaitsAttr ts → s.expected ≡ after_op a o → ⊥
+  not_literal a o h k =
+      let d = stands_outline nesting ts (word [] ∷ op Eq ∷ []) s e h in
+      none-some d.0 (subst (λ q. outline_steps (outline_of (at q s.below s.top s.room))
+      (word [] ∷ op Eq ∷ []) ≡ Some d.0) k d.1)
+
+  -- the place of a fault is where the machine has it
+  pub fault_is : (end : ℕ) (here : Placed) (p : ℕ) → IsFaultOf end ts here p
+      → fault_place end s.expected here ≡ p
+  fault_is end here p (stray h k is) = plain_place end s.expected here.token here k
+      (λ a o w x y. h (word_stands here.token a o w x y)) ∙ sym is
+  fault_is end here p (cut_off h is) = rw h (sym is)
+  fault_is end here p (alone h is) = rw h (sym is)
+  fault_is end here p (too_deep (inl h) d is) = rw h (sym is)
+  fault_is end here p (too_deep (inr h) d is) = rw h (sym is)
+  fault_is end here p (bad_name w h a n is) = plain_place end s.expected here.token here
+      (λ x. no_cut_word w (sym h ∙ x)) (λ b o v x y. not_literal b o a x) ∙ sym is
+  fault_is end here p (one_more w h a m is) = plain_place end s.expected here.token here
+      (λ x. no_cut_word w (sym h ∙ x)) (λ b o v x y. not_literal b o a x) ∙ sym is
+  fault_is end here p (bad_pattern front o w k split h i is) =
+      let d = op_place (last_move front (op o) s
+      (subst (λ l. steps (start nesting) l ≡ Some s) split e)).1 in
+      ap (λ q. fault_place_of end q here.token here) d.1
+      ∙ ap (λ t. fault_place_of end (after_op d.0 o) t here) h
+      ∙ ap (λ r. place_with r here) i ∙ sym is

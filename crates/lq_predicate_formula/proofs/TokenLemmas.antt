@@ -1,59 +1,23 @@
 -- Each text has tokens, and one list of them: those that the lexer finds.
-use Rattle.std.proofs.Common.{◌≡◌, ◌<◌, ◌≤◌, ◌+◌, ℕ, zero, suc, Bool, true, false, cond, List, [], ◌∷◌, length, get_or, take, drop, Option, Some, None, refl, sym, ap, ap₂, ◌∙◌, arith, subst, length-drop}
-use Rattle.std.proofs.Math.Dec.{eqb-suc-zero}
-use Rattle.std.specs.Prelude.{◌==◌, ◌||◌}
-use Rattle.lq_value.specs.declared.op.Op.TheVariants.{Eq, Ne, Lt, Le, Gt, Ge}
-use Rattle.lq_predicate_formula.specs.Tokens.{Token, word, op, bang, ands, ors, lone, cut, Placed, HasOneTokenList, HasTokens}
-use Rattle.lq_predicate_formula.specs.Lexing.{spaces, word_bytes, quoted_bytes, Front, fixed, begins_with, longer, quoted_front, word_front, is_symbol, symbol_front, front, front_at, placed_at, BeginsBy, trimmed}
-use Rattle.lq_predicate_formula.proofs.SignLemmas.{HasFronts, tokens_by, tokens_of_fronts}
+use Rattle.std.proofs.Common.{◌≡◌, ◌<◌, ◌≤◌, ◌+◌, ℕ, zero, suc, true, false, List, [], ◌∷◌, length, get_or, drop, refl, sym, ap, ap₂, ◌∙◌, arith, subst, length-drop}
+use Rattle.lq_predicate_formula.specs.Bytes.{is_space}
+use Rattle.lq_predicate_formula.specs.Tokens.{Placed, HasOneTokenList, HasTokens}
+use Rattle.lq_predicate_formula.specs.Lexing.{spaces, is_symbol, symbol_front, front, front_at, placed_at, trimmed}
+use Rattle.lq_predicate_formula.proofs.SignLemmas.{HasFronts, front_stands, token_starts, tokens_by, tokens_of_fronts, trimmed_begun}
 
--- one of two that have a size has a size
-one_of : (c : Bool) (x y : Front) → 0 < x.size → 0 < y.size → 0 < (cond c x y).size
-one_of true x y h k = h
-one_of false x y h k = k
-
--- a symbol of one byte or two has a size
-longer_size : (c : ℕ) (bs : List ℕ) (t u : Token) → 0 < (longer c bs t u).size
-longer_size c bs t u = one_of (begins_with c bs) (fixed t 2) (fixed u 1) (omega arith) (omega arith)
-
--- a symbol has a size
-symbol_size : (b : ℕ) (bs : List ℕ) → 0 < (symbol_front b bs).size
-symbol_size b bs =
-    one_of (b == 40) _ _ (omega arith)
-    (one_of (b == 41) _ _ (omega arith) (one_of (b == 33) _ _ (longer_size 61 bs (op Ne) bang)
-    (one_of (b == 61) _ _ (longer_size 61 bs (op Eq) (op Eq)) (one_of (b == 60) _ _
-    (longer_size 61 bs (op Le) (op Lt)) (one_of (b == 62) _ _ (longer_size 61 bs (op Ge) (op Gt))
-    (one_of (b == 38) _ _ (longer_size 38 bs ands lone) (longer_size 124 bs ors lone)))))))
-
--- a quoted text has a size
-quoted_size : (bs : List ℕ) (o : Option ℕ) → 0 < (quoted_front bs o).size
-quoted_size bs None = omega arith
-quoted_size bs (Some n) = omega arith
-
--- a word has a size
-word_size : (b : ℕ) (bs : List ℕ) (n : ℕ) → 0 < (word_front (b ∷ bs) n).size
-word_size b bs zero = omega arith
-word_size b bs (suc n) =
-    subst (λ t. 0 < (cond t (fixed cut (length (b ∷ bs))) (record {
-      token = word (take (suc n) (b ∷ bs));
-      size = suc n;
-      inside = 0;
-    })).size) (sym (eqb-suc-zero n)) (let k : 0 < suc n = omega arith in k)
-
--- what stands at the front of a text that is not empty has a size
-front_size : (bs : List ℕ) → 0 < length bs → 0 < (front_at bs).size
-front_size [] h = absurd (omega arith)
-front_size (b ∷ bs) h =
-    one_of (is_symbol b) _ _ (symbol_size b bs) (one_of (b == 34 || b == 39) _ _
-    (quoted_size bs (quoted_bytes b false bs)) (word_size b bs (word_bytes false (b ∷ bs))))
+-- what stands at the front of a text has a size
+front_size : (b : ℕ) (bs : List ℕ) → is_space b ≡ false → 0 < (front b bs).size
+front_size b bs dark =
+    let h = front_stands b bs dark in
+    let s = token_starts _ _ _ _ h.4 in
+    let some : length h.0 ≡ suc (length s.1) = ap length s.2 in
+    omega (arith, some, h.3)
 
 -- what stands at the front of a text that begins with a symbol
 pub front_symbol : (bs : List ℕ) → 0 < length bs → is_symbol (get_or bs 0 0) ≡ true
     → front_at bs ≡ symbol_front (get_or bs 0 0) (drop 1 bs)
 front_symbol [] h e = absurd (omega arith)
-front_symbol (b ∷ bs) h e = ap (λ t. cond t (symbol_front b bs) (cond (b == 34 || b == 39)
-    (quoted_front bs (quoted_bytes b false bs))
-    (word_front (b ∷ bs) (word_bytes false (b ∷ bs))))) e
+front_symbol (b ∷ bs) h e = rw e
 
 -- the token at the start of trimmed bytes, and those after it
 abbrev first_and : ℕ → List ℕ → (ℕ → List ℕ → List Placed) → List Placed
@@ -73,13 +37,14 @@ has_first : (n at : ℕ) (bs cs : List ℕ) → trimmed bs ≡ cs → length cs 
 has_first n at bs [] e h others = e
 has_first n at bs (c ∷ cs) e h others =
     let ds = drop (front c cs).size (c ∷ cs) in
-    let some : 0 < (front c cs).size = front_size (c ∷ cs) (omega arith) in
-    let next = at + spaces bs + (front c cs).size in
-    let P : List ℕ → Type 0 =
-    λ l. BeginsBy (at + spaces bs) l (placed_at (at + spaces bs) (front c cs)) next ds in (
+    let long : length (trimmed bs) ≡ suc (length cs) = ap length e in
+    let b = trimmed_begun bs (omega arith) in
+    let same : b.0 ≡ c = ap (λ l. get_or l 0 0) (sym b.2 ∙ e) in
+    let some : 0 < (front c cs).size = front_size c cs (sym (ap is_space same) ∙ b.3) in
+    let next = at + spaces bs + (front c cs).size in (
       next,
       ds,
-      subst P (sym e) (omega arith, refl, refl, refl),
+      rw e (omega arith, refl, refl, refl),
       others next ds (omega (arith, length-drop (front c cs).size (c ∷ cs))),
     )
 

@@ -41,16 +41,12 @@ joined-add q others = (parts_by (codes "&&") q others refl, parts_by (codes "||"
 -- two predicates joined have four bytes beside their own
 pub and_two_size : (lower upper : Query) → length (canonical (And (queries (lower ∷ upper ∷ []))))
     ≡ (length (canonical lower) + length (canonical upper)) + 4
-and_two_size lower upper =
-    let e = (joined-add lower (queries (upper ∷ []))).0 in
-    omega (arith, e)
+and_two_size lower upper = omega (arith, (joined-add lower (queries (upper ∷ []))).0)
 
 -- an Or of two parts has four bytes beside them
 pub or_two_size : (lower upper : Query) → length (canonical (Or (queries (lower ∷ upper ∷ []))))
     ≡ (length (canonical lower) + length (canonical upper)) + 4
-or_two_size lower upper =
-    let e = (joined-add lower (queries (upper ∷ []))).1 in
-    omega (arith, e)
+or_two_size lower upper = omega (arith, (joined-add lower (queries (upper ∷ []))).1)
 
 -- two predicates joined, by an And or by an Or
 pub ruleset two_sizes = (and_two_size, or_two_size)

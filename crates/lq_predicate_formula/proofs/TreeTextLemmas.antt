@@ -1,9 +1,8 @@
 -- Canonical texts, a piece at a time.
-use Rattle.std.proofs.Common.{◌≡◌, ℕ, List, [], ◌∷◌, ◌++◌, append_assoc, refl, sym, ap, ◌∙◌}
-use Rattle.std.proofs.Common.{◌+◌, ◌<◌, length, drop, get_or}
+use Rattle.std.proofs.Common.{◌≡◌, ℕ, List, [], ◌∷◌, ◌++◌, append_assoc, refl, sym, ap, ◌∙◌, ◌+◌, ◌<◌, length, drop, get_or}
 use Rattle.std.specs.Prelude.{codes}
 use Rattle.lq_predicate_formula.proofs.PartLemmas.{parts_here}
-use Rattle.lq_predicate_formula.proofs.WritingLemmas.{attr_then-append, in_marks-append}
+use Rattle.lq_predicate_formula.proofs.WritingLemmas.{attr_then-append, in_marks-append, on}
 use Rattle.lq_predicate_formula.specs.Query.{Query, Compare, Not, And, Or, Queries, no_more, and_then, queries}
 use Rattle.lq_predicate_formula.specs.Canonical.{in_marks, attr_then, op_text, literal_text, written, parts_written, others_written, canonical}
 
@@ -54,9 +53,9 @@ module _ {V : Type 0} (after : V → List ℕ → V)
       ≡ after base (40 ∷ parts_written separator (queries parts) (41 ∷ []))
   parts_begun base s1 s2 separator first others parts is e1 e2 =
       let rest = others_written separator (queries others) (41 ∷ []) in
-      ap (λ s. after s rest) e2 ∙ joined s1 (canonical first) rest
-      ∙ ap (λ s. after s (canonical first ++ rest)) e1
-      ∙ joined base (40 ∷ []) (canonical first ++ rest)
+      let all = canonical first ++ rest in
+      on after joined s1 s2 (after base (40 ∷ all)) (canonical first) rest all refl
+      (ap (λ s. after s all) e1 ∙ joined base (40 ∷ []) all) e2
       ∙ ap (λ t. after base (40 ∷ t)) (sym (written-append first [] rest))
       ∙ ap (λ ps. after base (40 ∷ parts_written separator (queries ps) (41 ∷ []))) (sym is)
 
@@ -68,9 +67,8 @@ module _ {V : Type 0} (after : V → List ℕ → V)
       → after out' (others_written separator (queries (drop (i + 1) others)) (41 ∷ [])) ≡ base
   parts_on out s out' base separator others i q below is so_far e1 e2 =
       let rest = others_written separator (queries (drop (i + 1) others)) (41 ∷ []) in
-      ap (λ t. after t rest) e2 ∙ joined s (canonical q) rest
-      ∙ ap (λ t. after t (canonical q ++ rest)) e1
-      ∙ joined out separator (canonical q ++ rest)
-      ∙ ap (λ t. after out (separator ++ t)) (sym (written-append q [] rest))
-      ∙ ap (after out)
-      (sym (parts_here (λ qs. others_written separator qs (41 ∷ [])) others i q below is)) ∙ so_far
+      let all = canonical q ++ rest in
+      on after joined s out' base (canonical q) rest all refl
+      (on after joined out s base separator all _
+      (parts_here (λ qs. others_written separator qs (41 ∷ [])) others i q below is
+      ∙ ap (λ t. separator ++ t) (written-append q [] rest)) so_far e1) e2

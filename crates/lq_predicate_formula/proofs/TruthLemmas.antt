@@ -1,64 +1,46 @@
--- The truth of a predicate goes by what a row shows under its names.
-use Rattle.std.proofs.Common.{◌≡◌, ℕ, List, [], ◌∷◌, ◌++◌, refl, ap, sym, Bool, true, false}
-use Rattle.std.specs.Prelude.{not, ◌||◌, if◌then◌else◌}
+-- The truth of a predicate goes by what a row shows under its names; which ones bare rows fail.
+use Rattle.std.proofs.Common.{◌≡◌, ℕ, List, [], ◌∷◌, ◌++◌, refl, ap, ap₂, sym, ◌∙◌, inl, inr, Bool, true, false}
+use Rattle.std.specs.Prelude.{not, ◌&&◌, ◌||◌, None}
 use Rattle.std.specs.List.{list_any, AllByRecursion}
 use Rattle.std.specs.Str.{bytes_eq}
 use Rattle.std.proofs.lemmas.Slice.Eq.{bytes_eq-Decides}
-use Rattle.std.proofs.lemmas.Bool.{or_right}
+use Rattle.std.proofs.lemmas.Bool.{cond_both, false≢true, or_cases, or_left, or_right, and_left, and_parts, and_right, or_from}
+use Rattle.std.proofs.lemmas.List.Folds.{list_any-append}
+use Rattle.lq_value.specs.declared.field.Field.{Field}
+use Rattle.lq_value.specs.declared.field.Field.TheVariants.{Attribute}
+use Rattle.lq_value.specs.Field.{field_of}
 use Rattle.lq_predicate_formula.specs.Query.{Query, Compare, Not, And, Or, Queries, no_more, and_then}
-use Rattle.lq_predicate_formula.specs.Names.{attributes, all_attributes, is_among, with_name, each_once, names_of}
+use Rattle.lq_predicate_formula.specs.Names.{attributes, all_attributes, is_among, with_name, each_once}
 use Rattle.lq_predicate_formula.specs.Truth.{Look, compares_if_present, truth, all_true, some_true}
-use Rattle.lq_predicate_formula.specs.Laws.{TruthGoesByNames}
+use Rattle.lq_predicate_formula.specs.Laws.{TruthGoesByNames, BareRowsFail}
+use Rattle.lq_predicate_formula.specs.Needs.{is_attribute, needs_attribute, some_need, all_need}
+use Rattle.lq_predicate_formula.proofs.PartLemmas.{all_parts}
 
 -- ---- the truth of a predicate goes by its attributes
 
--- rows that agree under all of two lists of names agree under the first
-alike-left : (look other : Look) (xs ys : List (List ℕ))
-    → AllByRecursion (λ name. look name ≡ other name) (xs ++ ys)
-    → AllByRecursion (λ name. look name ≡ other name) xs
-alike-left look other [] ys h = tt
-alike-left look other (x ∷ xs) ys h = (h.0, alike-left look other xs ys h.1)
+-- of two rows
+module _ (look other : Look) where
+  -- they agree under these names
+  abbrev Agree : List (List ℕ) → Type 0
+  Agree names = AllByRecursion (λ name. look name ≡ other name) names
 
--- rows that agree under all of two lists of names agree under the second
-alike-right : (look other : Look) (xs ys : List (List ℕ))
-    → AllByRecursion (λ name. look name ≡ other name) (xs ++ ys)
-    → AllByRecursion (λ name. look name ≡ other name) ys
-alike-right look other [] ys h = h
-alike-right look other (x ∷ xs) ys h = alike-right look other xs ys h.1
+  mutual
+    -- a query holds of rows that agree under its names for both or for neither
+    truth-same : (q : Query) → Agree (attributes q) → truth q look ≡ truth q other
+    truth-same (Compare attr op literal) h = ap (λ o. compares_if_present o op literal) h.0
+    truth-same (Not q) h = ap not (truth-same q h)
+    truth-same (And qs) h = (each-same qs h).0
+    truth-same (Or qs) h = (each-same qs h).1
 
-mutual
-  -- a query holds of rows that agree under its names for both or for neither
-  truth-same : (q : Query) (look other : Look)
-      → AllByRecursion (λ name. look name ≡ other name) (attributes q)
-      → truth q look ≡ truth q other
-  truth-same (Compare attr op literal) look other h = ap (λ o. compares_if_present o op literal) h.0
-  truth-same (Not q) look other h = ap not (truth-same q look other h)
-  truth-same (And qs) look other h = all-same qs look other h
-  truth-same (Or qs) look other h = some-same qs look other h
-
-  -- so do all of some queries
-  all-same : (qs : Queries) (look other : Look)
-      → AllByRecursion (λ name. look name ≡ other name) (all_attributes qs)
-      → all_true qs look ≡ all_true qs other
-  all-same no_more look other h = refl
-  all-same (and_then q qs) look other h =
-      let first =
-      truth-same q look other (alike-left look other (attributes q) (all_attributes qs) h) in
-      let rest =
-      all-same qs look other (alike-right look other (attributes q) (all_attributes qs) h) in
-      cc
-
-  -- so does one of some queries
-  some-same : (qs : Queries) (look other : Look)
-      → AllByRecursion (λ name. look name ≡ other name) (all_attributes qs)
-      → some_true qs look ≡ some_true qs other
-  some-same no_more look other h = refl
-  some-same (and_then q qs) look other h =
-      let first =
-      truth-same q look other (alike-left look other (attributes q) (all_attributes qs) h) in
-      let rest =
-      some-same qs look other (alike-right look other (attributes q) (all_attributes qs) h) in
-      cc
+    -- so do all of some queries, and so does one of them
+    each-same : (qs : Queries) → Agree (all_attributes qs)
+        → (all_true qs look ≡ all_true qs other) × (some_true qs look ≡ some_true qs other)
+    each-same no_more h = (refl, refl)
+    each-same (and_then q qs) h =
+        let k = all_parts (λ name. look name ≡ other name) (attributes q) (all_attributes qs) h in
+        let first = truth-same q k.0 in
+        let rest = each-same qs k.1 in
+        (ap₂ (λ x y. x && y) first rest.0, ap₂ (λ x y. x || y) first rest.1)
 
 -- ---- a predicate's names are its attributes
 
@@ -69,56 +51,33 @@ has names name = list_any (bytes_eq name) names
 -- a name among some is among them and more
 among-front : (name : List ℕ) (xs ys : List (List ℕ)) → has xs name ≡ true
     → has (xs ++ ys) name ≡ true
-among-front name [] ys h = absurd (let bad : ⊥ = cc in bad)
-among-front name (x ∷ xs) ys h = by (bytes_eq name x) h (λ more. among-front name xs ys more)
-  where
-    by : (b : Bool) → (b || has xs name) ≡ true → (has xs name ≡ true → has (xs ++ ys) name ≡ true)
-        → (b || has (xs ++ ys) name) ≡ true
-    by true h more = refl
-    by false h more = more h
-
--- a name is equal to itself
-same-among : (name : List ℕ) → bytes_eq name name ≡ true
-same-among name = (bytes_eq-Decides name name).1 refl
+among-front name xs ys h = list_any-append (bytes_eq name) xs ys ∙ or_left _ _ h
 
 -- a name at the end of some is among them
 among-back : (name : List ℕ) (xs : List (List ℕ)) → has (xs ++ name ∷ []) name ≡ true
-among-back name [] = let e = same-among name in rw e refl
-among-back name (x ∷ xs) =
-    or_right (bytes_eq name x) (has (xs ++ name ∷ []) name) (among-back name xs)
+among-back name xs = list_any-append (bytes_eq name) xs (name ∷ [])
+    ∙ or_right (has xs name) _ (or_left _ _ ((bytes_eq-Decides name name).1 refl))
 
--- the definition of names compares the other way round
-turned : (a b : List ℕ) → bytes_eq a b ≡ true → bytes_eq b a ≡ true
-turned a b h =
-    let same : a ≡ b = (bytes_eq-Decides a b).0 h in
-    (bytes_eq-Decides b a).1 (sym same)
-
--- a name that is found among some is among them
+-- a name that is found among some, by the test turned round, is among them
 among-turned : (name : List ℕ) (xs : List (List ℕ)) → is_among xs name ≡ true → has xs name ≡ true
-among-turned name [] h = absurd (let bad : ⊥ = cc in bad)
-among-turned name (x ∷ xs) h = by (bytes_eq x name) refl h (λ more. among-turned name xs more)
-  where
-    by : (b : Bool) → bytes_eq x name ≡ b → (b || is_among xs name) ≡ true
-        → (is_among xs name ≡ true → has xs name ≡ true) → (bytes_eq name x || has xs name) ≡ true
-    by true is h more = let here = turned x name is in rw here refl
-    by false is h more = or_right (bytes_eq name x) (has xs name) (more h)
+among-turned name [] h = absurd (false≢true h)
+among-turned name (x ∷ xs) h = elim (or_cases (bytes_eq x name) (is_among xs name) h) [
+  | inl here ↦
+      let same = (bytes_eq-Decides x name).0 here in
+      or_left _ _ ((bytes_eq-Decides name x).1 (sym same))
+  | inr more ↦ or_right (bytes_eq name x) _ (among-turned name xs more)
+]
 
 -- a name that is added is there
 with-has : (xs : List (List ℕ)) (name : List ℕ) → has (with_name xs name) name ≡ true
-with-has xs name = by (is_among xs name) refl
-  where
-    by : (b : Bool) → is_among xs name ≡ b → has (if b then xs else xs ++ name ∷ []) name ≡ true
-    by true is = among-turned name xs is
-    by false is = among-back name xs
+with-has xs name = cond_both (is_among xs name) xs (xs ++ name ∷ []) (λ l. has l name ≡ true)
+    (among-turned name xs) (λ no. among-back name xs)
 
 -- a name that is there stays where another is added
 with-keeps : (xs : List (List ℕ)) (one name : List ℕ) → has xs name ≡ true
     → has (with_name xs one) name ≡ true
-with-keeps xs one name h = by (is_among xs one)
-  where
-    by : (b : Bool) → has (if b then xs else xs ++ one ∷ []) name ≡ true
-    by true = h
-    by false = among-front name xs (one ∷ []) h
+with-keeps xs one name h = cond_both (is_among xs one) xs (xs ++ one ∷ []) (λ l. has l name ≡ true)
+    (λ yes. h) (λ no. among-front name xs (one ∷ []) h)
 
 -- a name that is there stays where others are added, each once
 each-keeps : (xs uses : List (List ℕ)) (name : List ℕ) → has xs name ≡ true
@@ -127,24 +86,52 @@ each-keeps xs [] name h = h
 each-keeps xs (use_ ∷ uses) name h =
     each-keeps (with_name xs use_) uses name (with-keeps xs use_ name h)
 
--- each name that is used is among the names, each once
-each-has : (xs uses : List (List ℕ))
-    → AllByRecursion (λ name. has (each_once xs uses) name ≡ true) uses
-each-has xs [] = tt
-each-has xs (one ∷ uses) =
-    (each-keeps (with_name xs one) uses one (with-has xs one), each-has (with_name xs one) uses)
-
--- rows that agree under the names agree under all that are used
-all-alike : (look other : Look) (all uses : List (List ℕ))
-    → AllByRecursion (λ name. has all name ≡ true) uses
-    → ((name : List ℕ) → has all name ≡ true → look name ≡ other name)
+-- rows that agree under the names, each once, agree under all that are used
+each-agrees : (look other : Look) (xs uses : List (List ℕ))
+    → ((name : List ℕ) → has (each_once xs uses) name ≡ true → look name ≡ other name)
     → AllByRecursion (λ name. look name ≡ other name) uses
-all-alike look other all [] h same = tt
-all-alike look other all (one ∷ uses) h same =
-    (same one h.0, all-alike look other all uses h.1 same)
+each-agrees look other xs [] same = tt
+each-agrees look other xs (one ∷ uses) same = (
+  same one (each-keeps (with_name xs one) uses one (with-has xs one)),
+  each-agrees look other (with_name xs one) uses same,
+)
 
 -- the truth of a predicate goes by what a row shows under its names
 pub truth-names : TruthGoesByNames
 truth-names q look other same =
-    truth-same q look other
-    (all-alike look other (names_of q) (attributes q) (each-has [] (attributes q)) same)
+    truth-same look other q (each-agrees look other [] (attributes q) same)
+
+-- a field that is an attribute
+only-attribute : (f : Field) → is_attribute f ≡ true → f ≡ Attribute
+only-attribute Attribute h = refl
+only-attribute f h = absurd (false≢true h)
+
+-- of a row that shows nothing under the name of an attribute
+module _ (look : Look) (bare : (name : List ℕ) → field_of name ≡ Attribute → look name ≡ None) where
+  mutual
+    -- a query that needs an attribute is false
+    needs-false : (q : Query) → needs_attribute q ≡ true → truth q look ≡ false
+    needs-false (Compare attr op literal) h =
+        ap (λ o. compares_if_present o op literal) (bare attr (only-attribute (field_of attr) h))
+    needs-false (Not q) h = cc
+    needs-false (And qs) h = some-false qs h
+    needs-false (Or qs) h = each-false qs h
+
+    -- not all of some queries are true if one of them needs an attribute
+    some-false : (qs : Queries) → some_need qs ≡ true → all_true qs look ≡ false
+    some-false no_more h = cc
+    some-false (and_then q qs) h = elim (or_cases (needs_attribute q) (some_need qs) h) [
+      | inl n ↦ and_left (truth q look) (all_true qs look) (needs-false q n)
+      | inr n ↦ and_right (truth q look) (all_true qs look) (some-false qs n)
+    ]
+
+    -- none of some queries is true if each of them needs one
+    each-false : (qs : Queries) → all_need qs ≡ true → some_true qs look ≡ false
+    each-false no_more h = refl
+    each-false (and_then q qs) h =
+        let n = and_parts (needs_attribute q) (all_need qs) h in
+        or_from (truth q look) (some_true qs look) (needs-false q n.0) (each-false qs n.1)
+
+-- a predicate that needs an attribute is false of a row without attributes
+pub needs-bare : BareRowsFail
+needs-bare q look needs bare = needs-false look bare q needs

@@ -2,7 +2,7 @@
 use Rattle.std.proofs.Common.{◌≡◌, ℕ, zero, suc, ◌+◌, List, [], ◌∷◌, ◌++◌, refl, sym, ap, ◌∙◌, arith, inl, inr}
 use Rattle.lq_predicate_formula.specs.Tokens.{Token, closes, ands, ors}
 use Rattle.lq_predicate_formula.specs.Query.{Query, queries, both_of, either_of}
-use Rattle.lq_predicate_formula.specs.Grammar.{Reading, Follows, IsAnd, IsOr, IsComparison, IsNot, IsFormula}
+use Rattle.lq_predicate_formula.specs.Grammar.{Reading, Follows, Parts, IsAnd, IsOr, IsComparison, IsNot, IsFormula}
 use Rattle.lq_predicate_formula.specs.Canonical.{comparisons, all_comparisons}
 use Rattle.lq_predicate_formula.specs.MachineReading.{word_count}
 
@@ -42,26 +42,23 @@ follows_counts P counts sep none ts (q ∷ qs) h =
     let others = follows_counts P counts sep none h.1 qs h.4 in
     ap words h.2 ∙ omega (arith, words_append h.0 h.1)
 
--- a part and those after it have two words for each comparison
-parts_count : (a b : List Token) (q : Query) (qs : List Query)
-    → words a ≡ comparisons q + comparisons q
-    → words b ≡ all_comparisons (queries qs) + all_comparisons (queries qs)
-    → words (a ++ b) ≡ all_comparisons (queries (q ∷ qs)) + all_comparisons (queries (q ∷ qs))
-parts_count a b q qs e f = omega (arith, words_append a b)
+-- an and or an or has two words for each comparison, if its parts do
+joined_counts : (join : List Query → Query)
+    → ((q : Query) (qs : List Query)
+    → comparisons (join (q ∷ qs)) ≡ all_comparisons (queries (q ∷ qs)))
+    → (P : Reading) → Counts P → (sep : Token) → word_count sep ≡ 0
+    → Counts (λ a r. (q : Query) × (qs : List Query) × (r ≡ join (q ∷ qs)) × Parts P sep a q qs)
+joined_counts join total P counts sep none a r h =
+    let size = ap words h.3.2 in
+    let here = counts h.3.0 h.0 h.3.3 in
+    let others = follows_counts P counts sep none h.3.1 h.1 h.3.4 in
+    let whole = ap comparisons h.2 ∙ total h.0 h.1 in
+    omega (arith, words_append h.3.0 h.3.1)
 
--- an and has two words for each comparison, if its parts do
-and_counts : (P : Reading) → Counts P → Counts (IsAnd P)
-and_counts P counts a r h =
-    ap words h.3.2 ∙ parts_count h.3.0 h.3.1 h.0 h.1 (counts h.3.0 h.0 h.3.3)
-    (follows_counts P counts ands refl h.3.1 h.1 h.3.4)
-    ∙ sym (ap (λ n. n + n) (ap comparisons h.2 ∙ both_total h.0 h.1))
-
--- an or has two words for each comparison, if its parts do
+-- an or has two words for each comparison, if the parts of its ands do
 or_counts : (P : Reading) → Counts P → Counts (IsOr P)
-or_counts P counts a r h =
-    ap words h.3.2 ∙ parts_count h.3.0 h.3.1 h.0 h.1 (and_counts P counts h.3.0 h.0 h.3.3)
-    (follows_counts (IsAnd P) (and_counts P counts) ors refl h.3.1 h.1 h.3.4)
-    ∙ sym (ap (λ n. n + n) (ap comparisons h.2 ∙ either_total h.0 h.1))
+or_counts P counts = joined_counts either_of either_total (IsAnd P)
+    (joined_counts both_of both_total P counts ands refl) ors refl
 
 -- a comparison has two words
 comparison_counts : Counts IsComparison

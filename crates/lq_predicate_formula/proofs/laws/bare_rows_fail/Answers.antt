@@ -1,4 +1,4 @@
-use Rattle.lq_predicate_formula.proofs.NeedLemmas.{needs-bare}
+use Rattle.lq_predicate_formula.proofs.TruthLemmas.{needs-bare}
 use Rattle.lq_predicate_formula.proofs.laws.bare_rows_fail.Goals as goal
 
 pub returns : goal.returns

@@ -1,5 +1,5 @@
 use Rattle.std.proofs.Common.{arith}
-use Rattle.lq_predicate_formula.proofs.SizeLemmas.{length-comparison}
+use Rattle.lq_predicate_formula.proofs.SourceSizeLemmas.{length-comparison}
 use Rattle.lq_predicate_formula.proofs.raw_size.joined_size.Goals as goal
 
 pub returns : goal.returns

@@ -1,14 +1,15 @@
 use Rattle.std.proofs.Common.{arith, subst, sym}
+use Rattle.std.proofs.Math.Dec.{lit<}
 use Rattle.lq_value.specs.Element.TheVariants.{Any, Plain, Star}
 use Rattle.lq_predicate_formula.specs.Sizes.{IsSized}
-use Rattle.lq_predicate_formula.proofs.SourceSizeLemmas.{any_bytes, star_bytes}
+use Rattle.lq_predicate_formula.proofs.SourceSizeLemmas.{one_byte}
 use Rattle.lq_predicate_formula.proofs.source_size.first_size.Goals as goal
 
 pub returns-in-Star : goal.returns-in-Star
 returns-in-Star c = record {
   element = Star;
   is = c.in-Star.ensures.first;
-  size_is = omega (arith, star_bytes);
+  size_is = omega (arith, one_byte 42 (lit< tt));
   text = c.in-Star.ensures.text;
 }
 
@@ -16,7 +17,7 @@ pub returns-in-Any : goal.returns-in-Any
 returns-in-Any c = record {
   element = Any;
   is = c.in-Any.ensures.first;
-  size_is = omega (arith, any_bytes);
+  size_is = omega (arith, one_byte 63 (lit< tt));
   text = c.in-Any.ensures.text;
 }
 

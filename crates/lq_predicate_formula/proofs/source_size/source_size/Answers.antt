@@ -1,6 +1,5 @@
 use Rattle.std.proofs.Common.{arith}
 use Rattle.lq_predicate_formula.proofs.SourceSizeLemmas.{elements_on, elements_end, elements_stuck, none_measured}
-use Rattle.lq_predicate_formula.proofs.SizeLemmas.{capped_bound}
 use Rattle.lq_predicate_formula.proofs.source_size.source_size.Goals as goal
 
 pub returns-in-End : goal.returns-in-End
@@ -17,7 +16,7 @@ loop-element-smaller c = c.sources_are_walked.ensures.elements.fewer _ _ _ c.in-
 pub loop-element-preserved : goal.loop-element-preserved
 loop-element-preserved c = record {
   text = c.in-Has.ensures.text;
-  small = capped_bound _ _ _ c.saturating_add-size.ensures;
+  small = omega (arith, c.saturating_add-size.ensures);
   so_far = elements_on c.sources_are_walked.ensures _ _ _ _ _ _ _ c.loop-element.invariant.so_far
       c.in-Has.ensures c.saturating_add-size.ensures;
 }

@@ -2,14 +2,15 @@ use Rattle.std.proofs.Common.{ap, sym, ◌∙◌}
 use Rattle.std.specs.Str.{encode_utf8_all}
 use Rattle.std.proofs.lemmas.Iterator.{YieldsList-from_chars}
 use Rattle.std.proofs.lemmas.Iterator.Consumers.{YieldsList-end}
+use Rattle.std.proofs.lemmas.List.{map-id}
 use Rattle.lq_value.specs.Pattern.{plain_elements}
 use Rattle.lq_predicate_formula.specs.Canonical.{pattern_text}
-use Rattle.lq_predicate_formula.proofs.WritingLemmas.{map-same, plain_step_on}
+use Rattle.lq_predicate_formula.proofs.WritingLemmas.{plain_step, push_on}
 use Rattle.lq_predicate_formula.proofs.writing.put_plain_text.Goals as goal
 
 pub loop-c-preserved : goal.loop-c-preserved
-loop-c-preserved g c = plain_step_on g.S.Sink.after g.met.S.Sink.joined _ _ _ c.loop-c.yielded
-    c.in-Some.c c.loop-c.invariant c.in_ok-put_plain.ensures
+loop-c-preserved g c = push_on g.S.Sink.after g.met.S.Sink.joined _ _ _ _ _ _
+    (plain_step c.loop-c.yielded c.in-Some.c) c.loop-c.invariant c.in_ok-put_plain.ensures
 
 pub returns : goal.returns
 returns g c =
@@ -18,4 +19,4 @@ returns g c =
     c.loop-c.invariant
     ∙ ap (λ cs. g.S.Sink.after (g.S.Sink.seen c.args.out.now)
     (encode_utf8_all (pattern_text (plain_elements cs))))
-    (sym (map-same c.loop-c.yielded) ∙ t.0)
+    (sym (map-id c.loop-c.yielded) ∙ t.0)

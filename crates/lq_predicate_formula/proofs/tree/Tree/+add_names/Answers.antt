@@ -1,8 +1,7 @@
 use Rattle.std.proofs.Common.{sym, ap, ◌∙◌, drop, ◌+◌}
 use Rattle.lq_predicate_formula.specs.Query.{queries}
 use Rattle.lq_predicate_formula.specs.Names.{attributes, all_attributes, each_once}
-use Rattle.lq_predicate_formula.proofs.NameLemmas.{each_once-append}
-use Rattle.lq_predicate_formula.proofs.PartLemmas.{parts_here}
+use Rattle.lq_predicate_formula.proofs.PartLemmas.{each_once-append, parts_here}
 use Rattle.lq_predicate_formula.proofs.tree.Tree.+add_names.Goals as goal
 
 pub loop-part-preserved : goal.loop-part-preserved

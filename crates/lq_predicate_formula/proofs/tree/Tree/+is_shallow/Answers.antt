@@ -1,4 +1,4 @@
-use Rattle.lq_predicate_formula.proofs.TreeDepthLemmas.{not_flat}
+use Rattle.lq_predicate_formula.proofs.PartLemmas.{not_flat}
 use Rattle.lq_predicate_formula.proofs.tree.Tree.+is_shallow.Goals as goal
 
 pub returns-then-most-eq0 : goal.returns-then-most-eq0
