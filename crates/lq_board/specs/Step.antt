@@ -21,25 +21,8 @@ module _ {M : Type 0} where
       let book = grown was.book (option_to_list change) in
       let author = with_change was.back.author (length was.book.changes + 1) in
       let register = with_author was.register was.back.author.number in
-      (n
-      ≡ (
-        Keeper (record {
-          book = book;
-          slots = was.slots;
-          register = register;
-          back =
-              record {
-                slot = was.back.slot;
-                book = book;
-                asks = was.back.asks;
-                name = was.back.name;
-                author = author;
-                moments = was.back.moments;
-              };
-          was = was.was;
-        }),
-        m.1,
-      ))
+      let back = record was.back { book = book; author = author } in
+      (n ≡ (Keeper (record was { book = book; register = register; back = back }), m.1))
       × (found ≡ length was.book.changes)
       × IsFullBook book
       × CameBack was.book was.back was.was
@@ -49,18 +32,7 @@ module _ {M : Type 0} where
   Sees s m found n =
       let was = sitting_of m.0 in
       let book = (sitting_of n.0).book in
-      (n
-      ≡ (
-        Seat (record {
-          slot = was.slot;
-          book = book;
-          asks = was.asks;
-          name = was.name;
-          author = was.author;
-          moments = was.moments;
-        }),
-        m.1,
-      ))
+      (n ≡ (Seat (record was { book = book }), m.1))
       × Extends book was.book
       × (found ≡ length book.changes)
       × IsFullBook book
@@ -87,19 +59,7 @@ module _ {M : Type 0} where
   abbrev pub AsksAgain : Step ℕ → Me ℕ (TokenView M) → ℕ → Me ℕ (TokenView M) → Type 0
   AsksAgain s m found n =
       let was = sitting_of m.0 in
-      (n
-      ≡ (
-        Seat (record {
-          slot = was.slot;
-          book = was.book;
-          asks = was.asks + 1;
-          name = was.name;
-          author = was.author;
-          moments = was.moments;
-        }),
-        m.1,
-      ))
-      × (found ≡ was.asks)
+      (n ≡ (Seat (record was { asks = was.asks + 1 }), m.1)) × (found ≡ was.asks)
 
   -- two seats are two authors, who share no change
   abbrev pub Compares : Step ℕ → Me ℕ (TokenView M) → ℕ → Me ℕ (TokenView M) → Type 0

@@ -93,8 +93,8 @@ impl<M> Board<M> {
         }
     }
 
-    /// A seat of no slot, with a new number, which knows the keeper's book and has noted this moment
-    /// of the keeper. It takes no memory.
+    /// A seat of no slot, with a new number, which knows the keeper's book and has noted this
+    /// moment of the keeper. It takes no memory.
     ///
     /// It may make changes just where no seat leads.
     pub fn seat(&self, keeper: &mut Keeper<M>) -> Seat<M>

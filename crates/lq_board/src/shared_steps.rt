@@ -68,20 +68,15 @@ impl<M> Board<M> {
             ≡ keeper.old.board }
         ensures free { keeper.old.register.free ≡ keeper.old.board.free }
         ensures view { result.me ≡ (
-          TokenView.Seat (record {
+          TokenView.Seat (record (plain keeper.old.book (new_author keeper.old.register)) {
             slot = slot;
-            book = keeper.old.book;
             asks = (slot_at keeper.old.slots slot).asks;
             name = W.name;
-            author = new_author keeper.old.register;
-            moments = [];
           }),
           [],
         ) }
         ensures full { IsFullBook keeper.old.book }
-        ensures keeper { keeper.new ≡ record {
-          board = keeper.old.board;
-          book = keeper.old.book;
+        ensures keeper { keeper.new ≡ record keeper.old {
           slots = gone_out keeper.old.slots slot W.name;
           register = with_opening keeper.old.register;
         } }
@@ -99,12 +94,8 @@ impl<M> Board<M> {
         ensures back { CameBack keeper.old.book (sitting_of token.me.0)
             (slot_at keeper.old.slots (sitting_of token.me.0).slot) }
         ensures whole { IsWhole (sitting_of token.me.0).author (length keeper.old.book.changes) }
-        ensures keeper { keeper.new ≡ record {
-          board = keeper.old.board;
-          book = keeper.old.book;
-          slots = come_back keeper.old.slots (sitting_of token.me.0).slot
-              (sitting_of token.me.0).asks (sitting_of token.me.0).name;
-          register = keeper.old.register;
+        ensures keeper { let w = sitting_of token.me.0 in keeper.new ≡ record keeper.old {
+          slots = come_back keeper.old.slots w.slot w.asks w.name;
         } }
     {
         self.table

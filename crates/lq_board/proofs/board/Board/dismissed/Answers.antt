@@ -1,13 +1,15 @@
 -- Two seats can be joined, the first dismiss the second, and both be parted.
 use Rattle.std.proofs.Common.{ap, ◌∙◌, sym, arith}
-use Rattle.lq_board.proofs.PairLemmas.{pairs_as, dismisses_after, unpairs_as}
+use Rattle.lq_board.specs.View.{second_of}
+use Rattle.lq_board.proofs.PairLemmas.{pairs_as, dismisses, unpairs}
 use Rattle.lq_board.proofs.TokenLemmas.{same_table}
+use Rattle.lq_board.proofs.ViewLemmas.{after}
 use Rattle.lq_board.proofs.board.Board.dismissed.Goals as goal
 
 pub join_seat-requires : goal.join_seat-requires
 join_seat-requires g c = (
-  c.requires.board.0 ∙ sym (same_table _ _ c.self.view_is),
-  c.requires.board.1 ∙ sym (same_table _ _ c.self.view_is),
+  c.requires.board.0 ∙ sym (same_table c.self.view_is),
+  c.requires.board.1 ∙ sym (same_table c.self.view_is),
   ap (λ m. m.1) c.requires.two,
   omega (arith, c.self.invariant.0),
   pairs_as _ _ _ _ c.requires.one c.requires.two,
@@ -15,14 +17,16 @@ join_seat-requires g c = (
 
 pub load-requires : goal.load-requires
 load-requires g c = (
-  c.join_seat.ensures.0 ∙ c.requires.board.0 ∙ sym (same_table _ _ c.self.view_is),
+  c.join_seat.ensures.0 ∙ c.requires.board.0 ∙ sym (same_table c.self.view_is),
   omega (arith, c.self.invariant.0),
-  dismisses_after _ _ c.args.one.me c.args.two.me _ c.requires.one c.join_seat.ensures.2 c.requires.leads c.requires.signs,
+  dismisses _ _ _ _ (after c.requires.one c.join_seat.ensures.2) c.requires.leads
+      c.requires.signs,
 )
 
 pub split_seat-other-requires : goal.split_seat-other-requires
 split_seat-other-requires g c = (
-  c.load.ensures.0 ∙ c.join_seat.ensures.0 ∙ c.requires.board.0 ∙ sym (same_table _ _ c.self.view_is),
+  c.load.ensures.0 ∙ c.join_seat.ensures.0 ∙ c.requires.board.0
+      ∙ sym (same_table c.self.view_is),
   omega (arith, c.self.invariant.0),
-  unpairs_as _ c.load.new.seat.me _ _ _ c.load.ensures.2.0,
+  unpairs _ _ _ (λ v. (second_of v).moments) c.load.ensures.2.0,
 )
