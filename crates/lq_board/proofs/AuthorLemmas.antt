@@ -1,5 +1,5 @@
 -- Who made each change, where one change more is made, or one seat more goes out.
-use Rattle.std.proofs.Common.{◌≡◌, ◌≢◌, ℕ, ◌+◌, Bool, true, true≢false, List, [], ◌∷◌, length, refl, sym, ap, ◌∙◌, arith, length-append}
+use Rattle.std.proofs.Common.{◌≡◌, ◌≢◌, ℕ, ◌+◌, ◌≤◌, Bool, true, true≢false, List, [], ◌∷◌, ◌++◌, length, refl, sym, ap, ◌∙◌, arith, length-append}
 use Rattle.lq_volume.specs.declared.change.Change.{Change}
 use Rattle.lq_volume.specs.Book.{Book, grown}
 use Rattle.lq_board.specs.declared.token_views.Author.{Author}
@@ -52,18 +52,12 @@ pub owns_later : {r : Register} {roll : Roll} {by : ℕ} {a : Author} (f : ℕ �
     → Owns r roll by a → Owns (numbered f r) (moved roll (r.seats + 1) n) by a
 owns_later {r = r} {roll = roll} {a = a} f n o =
     let is = o.author in
-    let most = is.most in
+    let most : a.number ≤ r.seats + 1 = omega (arith, is.most) in
     record {
-      author =
-          record {
-            least = is.least;
-            most = omega (arith, most);
-            changes = is.changes;
-            free = is.free;
-          };
+      author = record { least = is.least; most = most; changes = is.changes; free = is.free };
       only =
           o.only
-          ∙ sym (owner_else roll.who (r.seats + 1) n a.number (λ e. omega (arith, e, most)));
+          ∙ sym (owner_else roll.who (r.seats + 1) n a.number (λ e. omega (arith, e, is.most)));
       signs = o.signs;
       leads = o.leads;
     }
@@ -77,10 +71,12 @@ fits_more book r roll by a x full may o b =
       full = full;
       signed =
           record {
-            each =
-                length-append r.authors (a.number ∷ [])
-                ∙ ap (λ (n : ℕ). n + 1) b.signed.each
-                ∙ sym (length-append book.changes (x ∷ []));
+            each = omega (
+              arith,
+              length-append r.authors (a.number ∷ []),
+              length-append book.changes (x ∷ []),
+              b.signed.each,
+            );
             seats =
                 seats_more r.seats a.number r.authors o.author.least o.author.most b.signed.seats;
           };
@@ -95,17 +91,12 @@ pub owns_more : (book : Book) (r : Register) (roll : Roll) (by : ℕ) (a : Autho
     → Owns r roll by a → BookFits book r roll
     → Owns (with_author r a.number) roll by (with_change a (length book.changes + 1))
 owns_more book r roll by a o b =
+    let is = o.author in
+    let n : ℕ = length book.changes + 1 in
+    let more = own_after 0 a.number n r.authors (omega (arith, b.signed.each)) in
+    let changes = ap (λ (l : List ℕ). l ++ n ∷ []) is.changes ∙ sym more in
     record {
-      author =
-          record {
-            least = o.author.least;
-            most = o.author.most;
-            changes =
-                rw o.author.changes
-                (sym (own_after 0 a.number (length book.changes + 1) r.authors
-                (omega (arith, b.signed.each))));
-            free = o.author.free;
-          };
+      author = record { least = is.least; most = is.most; changes = changes; free = is.free };
       only = o.only;
       signs = o.signs;
       leads = o.leads;
@@ -118,14 +109,9 @@ owns_added {r = r} {a = a} {b = b} mine apart o =
     let is = o.author in
     let same =
     else_after 0 a.number b.number r.authors (λ e. numbers_apart mine apart o (sym e)) in
+    let changes = is.changes ∙ sym same in
     record {
-      author =
-          record {
-            least = is.least;
-            most = is.most;
-            changes = is.changes ∙ sym same;
-            free = is.free;
-          };
+      author = record { least = is.least; most = is.most; changes = changes; free = is.free };
       only = o.only;
       signs = o.signs;
       leads = o.leads;

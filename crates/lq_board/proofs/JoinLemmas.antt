@@ -1,36 +1,29 @@
 -- A seat that comes back keeps the rule.
-use Rattle.std.proofs.Common.{◌≡◌, ◌≢◌, ℕ, ◌<◌, [], refl, ap, arith}
+use Rattle.std.proofs.Common.{◌≡◌, ◌≢◌, ℕ, ◌<◌, [], refl, arith}
 use Rattle.atomic_table.specs.Table.{Me, Joins}
-use Rattle.lq_board.specs.declared.token_views.KnownSlot.{KnownSlot}
 use Rattle.lq_board.specs.declared.token_views.Sitting.{Sitting}
 use Rattle.lq_board.specs.declared.token_views.Keeping.{Keeping}
 use Rattle.lq_board.specs.declared.token_views.TokenView.{TokenView}
 use Rattle.lq_board.specs.declared.token_views.TokenView.TheVariants.{Keeper, Seat, Spent}
-use Rattle.lq_board.specs.Slot.{slot_at, come_back}
-use Rattle.lq_board.specs.View.{taken}
-use Rattle.lq_board.specs.Rule.{ViewFits, Roll, IsKept}
+use Rattle.lq_board.specs.View.{keeping_of, taken}
+use Rattle.lq_board.specs.Rule.{ViewFits, BoardState, IsKept}
 use Rattle.lq_board.proofs.SlotLemmas.{back_else, agrees_back}
 use Rattle.lq_board.proofs.ViewLemmas.{moved, numbers_apart, owns_here, owns_else, fits_join, seen_before, fits_still, rule_of, joins_as, sits_same, slots_apart}
 
 module _ {M : Type 0} where
   -- a seat comes back
-  backs : (id : ℕ) (v : Keeping M) (other : ℕ) (w : Sitting M)
-      → Joins IsKept id (Keeper v) other (Seat w) (taken (Keeper v) (Seat w)) Spent
-  backs id v other w s kept at apart there =
+  pub backs : {me you : Me ℕ (TokenView M)} (id : ℕ) (v : Keeping M) (other : ℕ) (w : Sitting M)
+      → me ≡ (Keeper v, []) → you ≡ (Seat w, [])
+      → Joins IsKept id me.0 other you.0 (taken me.0 you.0) Spent
+  backs id v other w is are =
+      joins_as id other taken is are (λ s kept at apart there.
       let k = rule_of s kept id v at in
-      let now : Keeping M =
-      record v {
-        slots = come_back v.slots w.slot w.asks w.name;
-        back = w;
-        was = slot_at v.slots w.slot;
-      } in
-      let roll : Roll = moved kept.2 w.author.number id in
+      let now : Keeping M = keeping_of (taken (Keeper v) (Seat w)) in
+      let b : BoardState M =
+      record { id = id; view = now; roll = moved kept.0.roll w.author.number id; holder = kept.0.holder } in
       let seat =
       k.fits other (Seat w) (seen_before s.views id other (Keeper now) (Seat w) apart there) in (
-        id,
-        now,
-        roll,
-        kept.3,
+        b,
         record {
           number = k.number;
           agrees = agrees_back s.words v.slots w.slot w.asks w.name (λ pos. (seat.2 pos).word)
@@ -43,19 +36,19 @@ module _ {M : Type 0} where
                 (t.named, omega (arith, t.word, known), t.out),
           );
           books = k.books;
-          fits = fits_join (ViewFits id now roll kept.3 s.words) s.views id other (Keeper now)
-              (fits_still k now roll kept.3 s.words (λ by. (by ≢ id) × (by ≢ other))
+          fits = fits_join (ViewFits b s.words) s.views id other (Keeper now)
+              (fits_still k b s.words (λ by. (by ≢ id) × (by ≢ other))
               (λ by away is. absurd (away.0 is))
-              (λ by b away f. (
+              (λ by u away f. (
                 f.0,
                 owns_else id seat.1 away.1 f.1,
                 λ pos.
-                    let ne : b.slot ≢ w.slot =
+                    let ne : u.slot ≢ w.slot =
                     λ i. slots_apart (numbers_apart seat.1 away.1 f.1) (f.2 pos)
                     (seat.2 (omega (arith, i, pos))) i in
-                    let same = back_else v.slots w.slot b.slot w.asks w.name ne in
-                    sits_same (ap (λ (q : KnownSlot M). q.out) same)
-                    (ap (λ (q : KnownSlot M). q.name) same) refl (f.2 pos),
+                    sits_same
+                    (rw (back_else v.slots w.slot u.slot w.asks w.name ne) (refl, refl)) refl
+                    (f.2 pos),
               ))) (
                 refl,
                 refl,
@@ -67,10 +60,4 @@ module _ {M : Type 0} where
               )
               tt;
         },
-      )
-
-  -- the same of tokens that are known
-  pub backs_as : {me you : Me ℕ (TokenView M)} (id : ℕ) (v : Keeping M) (other : ℕ) (w : Sitting M)
-      → me ≡ (Keeper v, []) → you ≡ (Seat w, [])
-      → Joins IsKept id me.0 other you.0 (taken me.0 you.0) Spent
-  backs_as id v other w is are = joins_as id other taken is are (backs id v other w)
+      ))

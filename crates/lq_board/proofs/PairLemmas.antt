@@ -11,7 +11,7 @@ use Rattle.lq_board.specs.declared.token_views.TokenView.TheVariants.{Seat, Pair
 use Rattle.lq_board.specs.Roll.{is_listed, without_number, changes_of_others, AreSeats}
 use Rattle.lq_board.specs.Author.{with_signs, with_roll}
 use Rattle.lq_board.specs.View.{paired, second_of, first_seat}
-use Rattle.lq_board.specs.Rule.{ViewFits, Roll, BoardRule, IsKept}
+use Rattle.lq_board.specs.Rule.{ViewFits, BoardState, BoardRule, IsKept}
 use Rattle.lq_board.specs.Step.{Compares, Enlists, Dismisses}
 use Rattle.lq_board.proofs.RollLemmas.{seats_without, has_here, has_else, without_here, without_else, others_enlisted, others_dismissed}
 use Rattle.lq_board.proofs.AuthorLemmas.{author_same, owns_called, share_none}
@@ -20,27 +20,28 @@ use Rattle.lq_board.proofs.PlayLemmas.{looks, viewed}
 
 module _ {M : Type 0} where
   -- two seats become a pair
-  pairs : (id : ℕ) (a : Sitting M) (other : ℕ) (b : Sitting M)
-      → Joins IsKept id (Seat a) other (Seat b) (Pair a b) Spent
-  pairs id a other b s kept at apart there =
-      let k = kept.4 in
+  pub pairs : {me you : Me ℕ (TokenView M)} (id : ℕ) (a : Sitting M) (other : ℕ) (b : Sitting M)
+      → me ≡ (Seat a, []) → you ≡ (Seat b, [])
+      → Joins IsKept id me.0 other you.0 (paired me.0 you.0) Spent
+  pairs id a other b is are =
+      joins_as id other paired is are (λ s kept at apart there.
+      let k = kept.1 in
       let one = k.fits id (Seat a) at in
       let two =
       k.fits other (Seat b) (seen_before s.views id other (Pair a b) (Seat b) apart there) in
       let ne = numbers_apart two.1 (λ e. apart (sym e)) one.1 in
-      let roll : Roll = moved kept.2 b.author.number id in (
-        kept.0,
-        kept.1,
-        roll,
-        kept.3,
+      let now : BoardState M =
+      record kept.0 { roll = moved kept.0.roll b.author.number id } in (
+        now,
         record {
           number = k.number;
           agrees = k.agrees;
           came = k.came;
           books = k.books;
-          fits = fits_join (ViewFits kept.0 kept.1 roll kept.3 s.words) s.views id other (Pair a b)
-              (fits_still k kept.1 roll kept.3 s.words (λ by. (by ≢ id) × (by ≢ other))
-              (λ by away is. refl) (λ by w away f. (f.0, owns_else id two.1 away.1 f.1, f.2))) (
+          fits = fits_join (ViewFits now s.words) s.views id other (Pair a b)
+              (fits_still k now s.words (λ by. (by ≢ id) × (by ≢ other))
+              (λ by away is. (is, refl))
+              (λ by w away f. (f.0, owns_else id two.1 away.1 f.1, f.2))) (
                 (
                   one.0,
                   owns_moved b.author.number id ne one.1,
@@ -51,42 +52,38 @@ module _ {M : Type 0} where
               )
               tt;
         },
-      )
-
-  -- the same of tokens that are known
-  pub pairs_as : {me you : Me ℕ (TokenView M)} (id : ℕ) (a : Sitting M) (other : ℕ)
-      (b : Sitting M) → me ≡ (Seat a, []) → you ≡ (Seat b, [])
-      → Joins IsKept id me.0 other you.0 (paired me.0 you.0) Spent
-  pairs_as id a other b is are = joins_as id other paired is are (pairs id a other b)
+      ))
 
   -- a pair is compared
   pub compares : {me : Me ℕ (TokenView M)} (slots id : ℕ) (a b : Sitting M) → me ≡ (Pair a b, [])
       → Allows IsKept slots id me 0 (λ n. n) (Compares (step slots 0 0 0 none) me)
   compares slots id a b is =
       looks slots id 0 (Pair a b) (Compares (step slots 0 0 0 none)) is (λ s kept at.
-      let fit = kept.4.fits id (Pair a b) at in (
+      let fit = kept.1.fits id (Pair a b) at in (
         Pair a b,
         viewed s kept id (Pair a b) fit,
         (refl, fit.2, share_none fit.0.1.author fit.1.1.author fit.2),
       ))
 
-  -- the rule, where the leading seat's roll is known
+  -- what the rule knows, and the rule, where the leading seat's roll is known
+  abbrev rolled : BoardState M → List ℕ → List ℕ → BoardState M
+  rolled b enlisted gathered =
+      record b { roll = record b.roll { enlisted = enlisted; gathered = gathered } }
+
   led_by : (s : State ℕ (TokenView M)) (kept : IsKept s) (id : ℕ) (a b : Sitting M)
       → a.author.leads ≡ true → get_elem? s.views id ≡ some (Pair a b)
-      → (let roll : Roll =
-      record kept.2 { enlisted = a.author.enlisted; gathered = a.author.gathered } in
-      BoardRule kept.0 kept.1 roll kept.3 s.words s.views)
+      → BoardRule (rolled kept.0 a.author.enlisted a.author.gathered) s.words s.views
   led_by s kept id a b leads at =
-      let l = (kept.4.fits id (Pair a b) at).0.1.leads leads in
-      subst (λ (roll : Roll). BoardRule kept.0 kept.1 roll kept.3 s.words s.views)
-      (λ i. record kept.2 { enlisted = sym l.enlisted i; gathered = sym l.gathered i }) kept.4
+      let l = (kept.1.fits id (Pair a b) at).0.1.leads leads in
+      subst (λ (c : BoardState M). BoardRule c s.words s.views)
+      (λ i. rolled kept.0 (sym l.enlisted i) (sym l.gathered i)) kept.1
 
   -- the first of a pair enlists or dismisses the second
   called : (s : State ℕ (TokenView M)) (kept : IsKept s) (id : ℕ) (a b : Sitting M)
       (enlisted gathered : List ℕ) (signs : Bool)
       → a.author.leads ≡ true → get_elem? s.views id ≡ some (Pair a b)
-      → AreSeats kept.1.register.seats enlisted
-      → gathered ≡ changes_of_others enlisted kept.1.register.authors
+      → AreSeats kept.0.view.register.seats enlisted
+      → gathered ≡ changes_of_others enlisted kept.0.view.register.authors
       → ((j : ℕ) → j ≢ b.author.number
       → is_listed j enlisted ≡ is_listed j a.author.enlisted)
       → is_listed b.author.number enlisted ≡ signs
@@ -102,11 +99,8 @@ module _ {M : Type 0} where
       let one = fit.0.1 in
       let two = fit.1.1 in
       let l = one.leads leads in
-      let roll : Roll = record kept.2 { enlisted = enlisted; gathered = gathered } in (
-        kept.0,
-        kept.1,
-        roll,
-        kept.3,
+      let now : BoardState M = rolled kept.0 enlisted gathered in (
+        now,
         record {
           number = k.number;
           agrees = k.agrees;
@@ -118,8 +112,8 @@ module _ {M : Type 0} where
                 enlisted = seats;
                 gathered = λ counted. whole;
               };
-          fits = fits_set (ViewFits kept.0 kept.1 roll kept.3 s.words) s.views id _
-              (fits_still k kept.1 roll kept.3 s.words (λ by. by ≢ id) (λ by apart is. refl)
+          fits = fits_set (ViewFits now s.words) s.views id _
+              (fits_still k now s.words (λ by. by ≢ id) (λ by apart is. (is, refl))
               (λ by w apart f. (
                 f.0,
                 owns_called enlisted gathered
@@ -171,7 +165,7 @@ module _ {M : Type 0} where
         called s kept id a b (n ∷ a.author.enlisted) a.author.gathered true leads at
             (two.least, two.most, k.books.enlisted)
             (k.books.gathered (fit.0.1.leads leads).counted
-            ∙ sym (others_enlisted 0 n a.author.enlisted kept.1.register.authors
+            ∙ sym (others_enlisted 0 n a.author.enlisted kept.0.view.register.authors
             (sym two.changes ∙ fresh)))
             (λ j ne. has_else j n a.author.enlisted ne) (has_here n a.author.enlisted),
         refl,
@@ -189,10 +183,10 @@ module _ {M : Type 0} where
       let fit = k.fits id (Pair a b) at in
       let two = fit.1.1 in
       let counted = (fit.0.1.leads leads).counted in
-      let authors : List ℕ = kept.1.register.authors in (
+      let authors : List ℕ = kept.0.view.register.authors in (
         _,
         called s kept id a b enlisted (changes_of_others enlisted authors) false leads at
-            (seats_without kept.1.register.seats n a.author.enlisted k.books.enlisted) refl
+            (seats_without kept.0.view.register.seats n a.author.enlisted k.books.enlisted) refl
             (λ j ne. without_else n j a.author.enlisted ne) (without_here n a.author.enlisted),
         (
           refl,
@@ -210,23 +204,20 @@ module _ {M : Type 0} where
       let last : TokenView M → TokenView M =
       λ v. Seat (record (second_of v) { moments = moments v }) in
       splits_as id first_seat last is (λ s kept at.
-      let k = kept.4 in
+      let k = kept.1 in
       let fit = k.fits id (Pair a b) at in
       let two = fit.1.1 in
       let n : ℕ = length s.views in
-      let roll : Roll = moved kept.2 b.author.number n in (
-        kept.0,
-        kept.1,
-        roll,
-        kept.3,
+      let now : BoardState M = record kept.0 { roll = moved kept.0.roll b.author.number n } in (
+        now,
         record {
           number = k.number;
           agrees = k.agrees;
           came = k.came;
           books = k.books;
-          fits = fits_split (ViewFits kept.0 kept.1 roll kept.3 s.words) s.views id
-              (first_seat (Pair a b)) (last (Pair a b))
-              (fits_still k kept.1 roll kept.3 s.words (λ by. by ≢ id) (λ by apart is. refl)
+          fits = fits_split (ViewFits now s.words) s.views id (first_seat (Pair a b))
+              (last (Pair a b))
+              (fits_still k now s.words (λ by. by ≢ id) (λ by apart is. (is, refl))
               (λ by w apart f. (f.0, owns_else n two apart f.1, f.2)))
               (fit.0.0, owns_moved b.author.number n fit.2 fit.0.1, fit.0.2)
               (fit.1.0, owns_here n two, fit.1.2);

@@ -17,10 +17,10 @@ use Rattle.lq_board.specs.declared.token_views.TokenView.{TokenView}
 use Rattle.lq_board.specs.declared.token_views.TokenView.TheVariants.{Keeper, Seat}
 use Rattle.lq_board.specs.Book.{IsFullBook}
 use Rattle.lq_board.specs.Roll.{numbers, changes_of_others}
-use Rattle.lq_board.specs.Author.{IsWhole, no_register, with_author, with_change}
-use Rattle.lq_board.specs.Slot.{unused_slots, counted}
-use Rattle.lq_board.specs.View.{keeping, newborn}
-use Rattle.lq_board.specs.Rule.{ViewFits, Roll, Owns, BoardRule, IsKept}
+use Rattle.lq_board.specs.Author.{IsWhole, with_author, with_change}
+use Rattle.lq_board.specs.Slot.{counted}
+use Rattle.lq_board.specs.View.{keeping, keeping_of, newborn}
+use Rattle.lq_board.specs.Rule.{ViewFits, Owns, BoardState, BoardRule, IsKept}
 use Rattle.lq_board.specs.Step.{AddsChange, Sees, Checks, Counts, AsksAgain}
 use Rattle.lq_board.proofs.RollLemmas.{others_all}
 use Rattle.lq_board.proofs.AuthorLemmas.{fits_more, owns_more, owns_added}
@@ -34,14 +34,11 @@ module _ {M : Type 0} where
       → IsKept {M = M} (record { words = replicate 65 0; homes = []; views = newborn start ∷ [] })
   opens start full =
       let within : 0 < 65 = omega arith in (
-        0,
         first,
-        none_called,
-        λ _. 0,
         record {
           number = get_or-replicate 65 0 0 0 within;
           agrees = agrees_unused;
-          came = came_self first.book;
+          came = came_self first.view.book;
           books =
               record {
                 full = full;
@@ -53,18 +50,21 @@ module _ {M : Type 0} where
         },
       )
     where
-      none_called : Roll
-      none_called = record { who = λ _. 0; enlisted = []; gathered = [] }
+      first : BoardState M
+      first =
+          record {
+            id = 0;
+            view = keeping_of (newborn start);
+            roll = record { who = λ _. 0; enlisted = []; gathered = [] };
+            holder = λ _. 0;
+          }
 
-      first : Keeping M
-      first = keeping (record { start = start; changes = [] }) unused_slots no_register
-
-      one : (by : ℕ) (u : TokenView M) → get_elem? (newborn start ∷ []) by ≡ some u
-          → ViewFits 0 first none_called (λ _. 0) (replicate 65 0) by u
-      one zero u e =
-          subst (ViewFits 0 first none_called (λ _. 0) (replicate 65 0) 0) (some-injective _ _ e)
+      one : (by : ℕ) (v : TokenView M) → get_elem? (newborn start ∷ []) by ≡ some v
+          → ViewFits first (replicate 65 0) by v
+      one zero v e =
+          subst (ViewFits first (replicate 65 0) 0) (some-injective _ _ e)
           (refl, refl, λ (lt : 0 < 0). absurd (omega arith))
-      one (suc by) u e = absurd (some-ne-none u (sym e))
+      one (suc by) v e = absurd (some-ne-none v (sym e))
 
   -- a step that leaves its word, of a token that is known
   pub looks : {me : Me ℕ (TokenView M)} (slots id i : ℕ) (v : TokenView M)
@@ -80,34 +80,34 @@ module _ {M : Type 0} where
       (now.0, keeps, tt, rw (set-get_or s.words i 0) now.1, now.2))
 
   -- one view changes, and nothing else
-  pub viewed : (s : State ℕ (TokenView M)) (kept : IsKept s) (id : ℕ) (w : TokenView M)
-      → ViewFits kept.0 kept.1 kept.2 kept.3 s.words id w
-      → IsKept (record s { views = slice_set s.views id w })
-  viewed s kept id w fit =
-      let k = kept.4 in (
+  pub viewed : (s : State ℕ (TokenView M)) (kept : IsKept s) (id : ℕ) (v : TokenView M)
+      → ViewFits kept.0 s.words id v → IsKept (record s { views = slice_set s.views id v })
+  viewed s kept id v fit =
+      let k = kept.1 in (
         kept.0,
-        kept.1,
-        kept.2,
-        kept.3,
         record {
           number = k.number;
           agrees = k.agrees;
           came = k.came;
           books = k.books;
-          fits = fits_set (ViewFits kept.0 kept.1 kept.2 kept.3 s.words) s.views id w
-              (λ by u apart e. k.fits by u e) fit;
+          fits = fits_set (ViewFits kept.0 s.words) s.views id v (λ by u apart e. k.fits by u e)
+              fit;
         },
       )
 
   -- a change by the latest seat that came back is added
-  adds : (slots id : ℕ) (v : Keeping M) (x : Change) → ChangesKeepTrees
+  pub adds : {me : Me ℕ (TokenView M)} (slots id : ℕ) (v : Keeping M) (x : Change)
+      (said : Option Change) → me ≡ (Keeper v, []) → said ≡ Some x → ChangesKeepTrees
       → 0 < v.back.author.number → v.back.author.signs ≡ true → IsLawful (state_of v.book) x
-      → Allows IsKept slots id (Keeper v, []) 0 (λ n. (n + 1) % 2 ^ 64)
-      (AddsChange (Some x) (step slots 0 1 0 none) (Keeper v, []))
-  adds slots id v x keeps_trees pos may lawful s kept len at small =
+      → Allows IsKept slots id me 0 (λ n. (n + 1) % 2 ^ 64)
+      (AddsChange said (step slots 0 1 0 none) me)
+  adds slots id v x said is says keeps_trees pos may lawful =
+      subst
+      (λ (p : Me ℕ (TokenView M) × Option Change). Allows IsKept slots id p.0 0
+      (λ n. (n + 1) % 2 ^ 64) (AddsChange p.1 (step slots 0 1 0 none) p.0))
+      (λ i. (sym is i, sym says i)) (λ s kept len at small.
       let k = rule_of s kept id v at in
       let o = ((k.fits id (Keeper v) at).2 pos).1 in
-      let roll : Roll = kept.2 in
       let n : ℕ = (slice_index s.words 0 + 1) % 2 ^ 64 in
       let words : List ℕ = slice_set s.words 0 n in
       let book : Book = grown v.book (x ∷ []) in
@@ -118,6 +118,7 @@ module _ {M : Type 0} where
         register = with_author v.register v.back.author.number;
         back = record v.back { book = book; author = made };
       } in
+      let b : BoardState M = record kept.0 { id = id; view = w } in
       let room = room_of keeps_trees v.book x k.books.full lawful in
       let full = full_more keeps_trees v.book x k.books.full lawful in
       let next : n ≡ length book.changes =
@@ -126,24 +127,20 @@ module _ {M : Type 0} where
         keeps,
         tt,
         (
-          id,
-          w,
-          roll,
-          kept.3,
+          b,
           record {
             number = get_or-set_same s.words 0 n 0 (omega (arith, k.agrees.wide)) ∙ next;
             agrees =
                 agrees_word s.words v.slots 0 n (λ (lt : 0 < 0). absurd (omega arith)) k.agrees;
             came = (extends_self book, k.came.1);
-            books = fits_more v.book v.register roll id v.back.author x full may o k.books;
-            fits = fits_set (ViewFits id w roll kept.3 words) s.views id (Keeper w)
-                (fits_still k w roll kept.3 words (λ by. by ≢ id)
-                (λ by apart is. absurd (apart is))
-                (λ by b apart f. (
-                  extends_more v.book b.book x f.0,
+            books = fits_more v.book v.register b.roll id v.back.author x full may o k.books;
+            fits = fits_set (ViewFits b words) s.views id (Keeper w)
+                (fits_still k b words (λ by. by ≢ id) (λ by apart is. absurd (apart is))
+                (λ by u apart f. (
+                  extends_more v.book u.book x f.0,
                   owns_added o apart f.1,
                   λ pos. sits_at
-                      (get_or-set_other s.words 0 b.slot n 0 (λ e. omega (arith, e, pos))
+                      (get_or-set_other s.words 0 u.slot n 0 (λ e. omega (arith, e, pos))
                       ∙ (f.2 pos).word)
                       (f.2 pos),
                 ))) (
@@ -151,38 +148,25 @@ module _ {M : Type 0} where
                   refl,
                   λ _. (
                     extends_self book,
-                    owns_more v.book v.register roll id v.back.author o k.books,
+                    owns_more v.book v.register b.roll id v.back.author o k.books,
                     λ (lt : 0 < 0). absurd (omega arith),
                   ),
                 );
           },
         ),
         (refl, k.number, full, k.came),
-      )
-
-  -- the same of a token that is known
-  pub adds_as : {me : Me ℕ (TokenView M)} (slots id : ℕ) (v : Keeping M) (x : Change)
-      (said : Option Change) → me ≡ (Keeper v, []) → said ≡ Some x → ChangesKeepTrees
-      → 0 < v.back.author.number → v.back.author.signs ≡ true → IsLawful (state_of v.book) x
-      → Allows IsKept slots id me 0 (λ n. (n + 1) % 2 ^ 64)
-      (AddsChange said (step slots 0 1 0 none) me)
-  adds_as slots id v x said is says keeps_trees pos may lawful =
-      subst
-      (λ (p : Me ℕ (TokenView M) × Option Change). Allows IsKept slots id p.0 0
-      (λ n. (n + 1) % 2 ^ 64) (AddsChange p.1 (step slots 0 1 0 none) p.0))
-      (λ i. (sym is i, sym says i)) (adds slots id v x keeps_trees pos may lawful)
+      ))
 
   -- what the leading seat has gathered where no seat is enlisted
-  whole : {id : ℕ} {v : Keeping M} {roll : Roll} {holder : ℕ → ℕ} {words : List ℕ}
-      {views : List (TokenView M)} {by : ℕ} {a : Author}
-      → BoardRule id v roll holder words views → Owns v.register roll by a
+  whole : {b : BoardState M} {words : List ℕ} {views : List (TokenView M)} {by : ℕ} {a : Author}
+      → BoardRule b words views → Owns b.view.register b.roll by a
       → IsWhole a (slice_index words 0)
-  whole {v = v} k o leads empty =
+  whole {b = b} k o leads empty =
       let l = o.leads leads in
       l.gathered ∙ k.books.gathered l.counted
-      ∙ ap (λ (called : List ℕ). changes_of_others called v.register.authors)
+      ∙ ap (λ (called : List ℕ). changes_of_others called b.view.register.authors)
       (sym l.enlisted ∙ empty)
-      ∙ others_all 0 v.register.authors
+      ∙ others_all 0 b.view.register.authors
       ∙ ap numbers (k.books.signed.each ∙ sym k.number)
 
   -- a seat looks at the number
@@ -190,11 +174,12 @@ module _ {M : Type 0} where
       → Allows IsKept slots id me 0 (λ n. n) (Sees (step slots 0 0 0 none) me)
   sees slots id w is =
       looks slots id 0 (Seat w) (Sees (step slots 0 0 0 none)) is (λ s kept at.
-      let k = kept.4 in
+      let k = kept.1 in
       let mine = k.fits id (Seat w) at in
-      let now : TokenView M = Seat (record w { book = kept.1.book }) in (
+      let book : Book = kept.0.view.book in
+      let now : TokenView M = Seat (record w { book = book }) in (
         now,
-        viewed s kept id now (extends_self kept.1.book, mine.1, mine.2),
+        viewed s kept id now (extends_self book, mine.1, mine.2),
         (refl, mine.0, k.number, k.books.full, whole k mine.1),
       ))
 
@@ -205,7 +190,7 @@ module _ {M : Type 0} where
       looks slots id 0 (Keeper v) (Checks (step slots 0 0 0 none)) is (λ s kept at.
       let k = rule_of s kept id v at in (
         Keeper v,
-        viewed s kept id (Keeper v) (kept.4.fits id (Keeper v) at),
+        viewed s kept id (Keeper v) (kept.1.fits id (Keeper v) at),
         (refl, k.came, k.number, λ pos. whole k ((k.fits id (Keeper v) at).2 pos).1),
       ))
 
@@ -217,28 +202,24 @@ module _ {M : Type 0} where
       looks slots id i (Keeper v) (Counts (step slots i 0 0 none)) is (λ s kept at.
       let k = rule_of s kept id v at in
       let n : ℕ = slice_index s.words i in
-      let w : Keeping M = keeping v.book (counted v.slots i n) v.register in (
+      let w : Keeping M = keeping v.book (counted v.slots i n) v.register in
+      let b : BoardState M = record kept.0 { id = id; view = w } in (
         Keeper w,
         (
-          id,
-          w,
-          kept.2,
-          kept.3,
+          b,
           record {
             number = k.number;
             agrees = agrees_slot s.words v.slots i _ (omega arith) (λ out. refl) k.agrees;
             came = came_self v.book;
             books = k.books;
-            fits = fits_set (ViewFits id w kept.2 kept.3 s.words) s.views id (Keeper w)
-                (fits_still k w kept.2 kept.3 s.words (λ by. by ≢ id)
-                (λ by apart is. absurd (apart is))
-                (λ by b apart f. (
+            fits = fits_set (ViewFits b s.words) s.views id (Keeper w)
+                (fits_still k b s.words (λ by. by ≢ id) (λ by apart is. absurd (apart is))
+                (λ by u apart f. (
                   f.0,
                   f.1,
-                  λ pos.
-                      let same = counted_same v.slots i n b.slot
-                      (omega (arith, k.agrees.places, within)) in
-                      sits_same same.0 same.1 refl (f.2 pos),
+                  λ pos. sits_same
+                      (counted_same v.slots i n u.slot (omega (arith, k.agrees.places, within)))
+                      refl (f.2 pos),
                 )))
                 (refl, refl, λ (lt : 0 < 0). absurd (omega arith));
           },
@@ -247,17 +228,21 @@ module _ {M : Type 0} where
       ))
 
   -- a slot's seat asks
-  asks : (slots id : ℕ) (w : Sitting M) → 0 < w.slot → w.asks < 1000000000000
-      → Allows IsKept slots id (Seat w, []) w.slot (λ n. (n + 1) % 2 ^ 64)
-      (AsksAgain (step slots w.slot 1 0 none) (Seat w, []))
-  asks slots id w pos room s kept len at small =
-      let k = kept.4 in
+  pub asks : {me : Me ℕ (TokenView M)} (slots id i : ℕ) (w : Sitting M) → me ≡ (Seat w, [])
+      → i ≡ w.slot → 0 < w.slot → w.asks < 1000000000000
+      → Allows IsKept slots id me i (λ n. (n + 1) % 2 ^ 64) (AsksAgain (step slots i 1 0 none) me)
+  asks slots id i w is here pos room =
+      subst
+      (λ (p : Me ℕ (TokenView M) × ℕ). Allows IsKept slots id p.0 p.1 (λ n. (n + 1) % 2 ^ 64)
+      (AsksAgain (step slots p.1 1 0 none) p.0))
+      (λ j. (sym is j, sym here j)) (λ s kept len at small.
+      let k = kept.1 in
       let mine = k.fits id (Seat w) at in
       let t = mine.2 pos in
       let n : ℕ = (slice_index s.words w.slot + 1) % 2 ^ 64 in
       let words : List ℕ = slice_set s.words w.slot n in
       let next : n ≡ w.asks + 1 = omega (arith, t.word) in
-      let here : slice_index words w.slot ≡ n =
+      let word : slice_index words w.slot ≡ n =
       get_or-set_same s.words w.slot n 0 (omega (arith, k.agrees.wide, t.within)) in
       let now : TokenView M = Seat (record w { asks = w.asks + 1 }) in (
         now,
@@ -265,37 +250,24 @@ module _ {M : Type 0} where
         tt,
         (
           kept.0,
-          kept.1,
-          kept.2,
-          kept.3,
           record {
             number = get_or-set_other s.words w.slot 0 n 0 (λ e. omega (arith, pos, e)) ∙ k.number;
-            agrees = agrees_word s.words kept.1.slots w.slot n
+            agrees = agrees_word s.words kept.0.view.slots w.slot n
                 (λ _. (t.out, omega (arith, next, t.word))) k.agrees;
             came = k.came;
             books = k.books;
-            fits = fits_set (ViewFits kept.0 kept.1 kept.2 kept.3 words) s.views id now
-                (fits_still k kept.1 kept.2 kept.3 words (λ by. by ≢ id) (λ by apart is. refl)
-                (λ by b apart f. (
+            fits = fits_set (ViewFits kept.0 words) s.views id now
+                (fits_still k kept.0 words (λ by. by ≢ id) (λ by apart is. (is, refl))
+                (λ by u apart f. (
                   f.0,
                   f.1,
                   λ pos.
                       let ne = slots_apart (numbers_apart mine.1 apart f.1) (f.2 pos) t in
-                      sits_at (get_or-set_other s.words w.slot b.slot n 0 ne ∙ (f.2 pos).word)
+                      sits_at (get_or-set_other s.words w.slot u.slot n 0 ne ∙ (f.2 pos).word)
                       (f.2 pos),
                 )))
-                (mine.0, mine.1, λ _. sits_at (here ∙ next) t);
+                (mine.0, mine.1, λ _. sits_at (word ∙ next) t);
           },
         ),
         (refl, t.word),
-      )
-
-  -- the same of a token that is known
-  pub asks_as : {me : Me ℕ (TokenView M)} (slots id i : ℕ) (w : Sitting M) → me ≡ (Seat w, [])
-      → i ≡ w.slot → 0 < w.slot → w.asks < 1000000000000
-      → Allows IsKept slots id me i (λ n. (n + 1) % 2 ^ 64) (AsksAgain (step slots i 1 0 none) me)
-  asks_as slots id i w is here pos room =
-      subst
-      (λ (p : Me ℕ (TokenView M) × ℕ). Allows IsKept slots id p.0 p.1 (λ n. (n + 1) % 2 ^ 64)
-      (AsksAgain (step slots p.1 1 0 none) p.0))
-      (λ j. (sym is j, sym here j)) (asks slots id w pos room)
+      ))

@@ -14,7 +14,7 @@ use Rattle.lq_board.specs.declared.token_views.TokenView.TheVariants.{Keeper, Se
 use Rattle.lq_board.specs.Author.{no_register, leader_register, new_author}
 use Rattle.lq_board.specs.Slot.{slot_at, go_out, come_back}
 use Rattle.lq_board.specs.View.{keeping, keeper, keeping_of, sitting_of, taken, with_new_seat, copy_of, led, lead_of, with_slot_seat, seated, parted, again_of}
-use Rattle.lq_board.specs.Rule.{Agrees, Sits, ViewFits, BookFits, Roll, Owns, IsKept}
+use Rattle.lq_board.specs.Rule.{Agrees, Sits, ViewFits, BookFits, Roll, Owns, BoardState, IsKept}
 use Rattle.lq_board.proofs.AuthorLemmas.{numbered, fits_later, owns_new, owns_later}
 use Rattle.lq_board.proofs.BookLemmas.{extends_self}
 use Rattle.lq_board.proofs.SlotLemmas.{slot_here, out_else, agrees_out}
@@ -76,7 +76,8 @@ module _ {M : Type 0} where
   goes_out : (s : State ℕ (TokenView M)) (kept : IsKept s) (id : ℕ) (v : Keeping M)
       → get_elem? s.views id ≡ some (Keeper v) → (r : Register) (roll : Roll) (new : Sitting M)
       → new.slot < 65 → IsFree v.slots new.slot new.asks → BookFits v.book r roll
-      → ((by : ℕ) (a : Author) → by ≢ id → Owns v.register kept.2 by a → Owns r roll by a)
+      → ((by : ℕ) (a : Author) → by ≢ id → Owns v.register kept.0.roll by a
+      → Owns r roll by a)
       → Owns r roll (length s.views) new.author
       → IsKept (record s {
         views =
@@ -85,39 +86,40 @@ module _ {M : Type 0} where
       })
   goes_out s kept id v at r roll new within free books still mine =
       let k = rule_of s kept id v at in
-      let holder : ℕ → ℕ = owner_set kept.3 new.slot new.author.number in
-      let w : Keeping M = keeping v.book (go_out v.slots new.slot new.name) r in (
-        id,
-        w,
-        roll,
-        holder,
+      let holder : ℕ → ℕ = kept.0.holder in
+      let w : Keeping M = keeping v.book (go_out v.slots new.slot new.name) r in
+      let b : BoardState M =
+      record {
+        id = id;
+        view = w;
+        roll = roll;
+        holder = owner_set holder new.slot new.author.number;
+      } in (
+        b,
         record {
           number = k.number;
           agrees = agrees_out s.words v.slots new.slot new.name within k.agrees;
           came = came_self v.book;
           books = books;
-          fits = fits_split (ViewFits id w roll holder s.words) s.views id (Keeper w)
+          fits = fits_split (ViewFits b s.words) s.views id (Keeper w)
               (Seat (record new { book = v.book }))
-              (fits_still k w roll holder s.words (λ by. by ≢ id)
-              (λ by apart is. absurd (apart is))
-              (λ by b apart f. (
+              (fits_still k b s.words (λ by. by ≢ id) (λ by apart is. absurd (apart is))
+              (λ by u apart f. (
                 f.0,
-                still by b.author apart f.1,
+                still by u.author apart f.1,
                 λ pos.
                     let t = f.2 pos in
-                    let ne : b.slot ≢ new.slot =
+                    let ne : u.slot ≢ new.slot =
                     λ i. true≢false
                     (sym t.out ∙ ap (λ (j : ℕ). (slot_at v.slots j).out) i
                     ∙ (free (omega (arith, i, pos))).0) in
-                    let same = out_else v.slots new.slot b.slot new.name ne in
-                    sits_same (ap (λ (q : KnownSlot M). q.out) same)
-                    (ap (λ (q : KnownSlot M). q.name) same)
-                    (owner_else kept.3 new.slot new.author.number b.slot ne) t,
+                    sits_same (rw (out_else v.slots new.slot u.slot new.name ne) (refl, refl))
+                    (owner_else holder new.slot new.author.number u.slot ne) t,
               )))
               (refl, refl, λ (lt : 0 < 0). absurd (omega arith)) (
                 extends_self v.book,
                 mine,
-                sits_out v.slots kept.3 s.words new.slot new.asks new.name new.author.number within
+                sits_out v.slots holder s.words new.slot new.asks new.name new.author.number within
                     free k.agrees,
               );
         },
@@ -132,10 +134,10 @@ module _ {M : Type 0} where
   enters f id v new within free s kept at =
       let books = (rule_of s kept id v at).books in
       let n : ℕ = length s.views in
-      goes_out s kept id v at (numbered f v.register) (moved kept.2 (v.register.seats + 1) n)
+      goes_out s kept id v at (numbered f v.register) (moved kept.0.roll (v.register.seats + 1) n)
       (record new { author = new_author v.register }) within free
-      (fits_later f v.book v.register kept.2 books) (λ by a apart o. owns_later f n o)
-      (owns_new f n v.book v.register kept.2 books)
+      (fits_later f v.book v.register kept.0.roll books) (λ by a apart o. owns_later f n o)
+      (owns_new f n v.book v.register kept.0.roll books)
 
   -- a new seat of no slot
   pub copies : {me : Me ℕ (TokenView M)} (id : ℕ) (v : Keeping M) → me ≡ (Keeper v, [])
@@ -195,6 +197,6 @@ module _ {M : Type 0} where
       let k = rule_of s kept id v at in
       let n : ℕ = length s.views in
       let o = ((k.fits id (Keeper v) at).2 back.0).1 in
-      goes_out s kept id v at v.register (moved kept.2 v.back.author.number n)
+      goes_out s kept id v at v.register (moved kept.0.roll v.back.author.number n)
       (sitting_of (again_of name (Keeper v))) back.1 back.2 k.books
       (λ by a apart other. owns_else n o apart other) (owns_here n o))

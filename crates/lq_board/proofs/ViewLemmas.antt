@@ -16,7 +16,7 @@ use Rattle.lq_board.specs.declared.token_views.TokenView.TheVariants.{Keeper, Se
 use Rattle.lq_board.specs.Author.{no_author}
 use Rattle.lq_board.specs.Slot.{unused, slot_at}
 use Rattle.lq_board.specs.View.{plain, of_no_slot}
-use Rattle.lq_board.specs.Rule.{CameBack, Sits, SeatFits, ViewFits, Roll, Owns, BoardRule, IsKept}
+use Rattle.lq_board.specs.Rule.{CameBack, Sits, SeatFits, ViewFits, Roll, Owns, BoardState, BoardRule, IsKept}
 use Rattle.lq_board.proofs.BookLemmas.{extends_self}
 
 -- the last of a list, and where it stands
@@ -126,32 +126,31 @@ module _ {M : Type 0} where
       (at_set views id other w v there)
 
   -- the view of any token elsewhere, where a seat that fits still does
-  pub fits_still : {id : ℕ} {v : Keeping M} {roll : Roll} {holder : ℕ → ℕ} {words : List ℕ}
-      {views : List (TokenView M)} → BoardRule id v roll holder words views
-      → (v' : Keeping M) (roll' : Roll) (holder' : ℕ → ℕ) (words' : List ℕ) (Else : ℕ → Type 0)
-      → ((by : ℕ) → Else by → by ≡ id → v ≡ v')
-      → ((by : ℕ) (w : Sitting M) → Else by → SeatFits v roll holder words by w
-      → SeatFits v' roll' holder' words' by w)
-      → (by : ℕ) (u : TokenView M) → Else by → get_elem? views by ≡ some u
-      → ViewFits id v' roll' holder' words' by u
-  fits_still k v' roll' holder' words' Else same still by (Keeper x) there e =
-      let f = k.fits by (Keeper x) e in
-      (f.0, f.1 ∙ same by there f.0, λ pos. still by (of_no_slot x.back) there (f.2 pos))
-  fits_still k v' roll' holder' words' Else same still by (Seat w) there e =
+  pub fits_still : {b : BoardState M} {words : List ℕ} {views : List (TokenView M)}
+      → BoardRule b words views → (b' : BoardState M) (words' : List ℕ) (Else : ℕ → Type 0)
+      → ((by : ℕ) → Else by → by ≡ b.id → (by ≡ b'.id) × (b.view ≡ b'.view))
+      → ((by : ℕ) (w : Sitting M) → Else by → SeatFits b words by w → SeatFits b' words' by w)
+      → (by : ℕ) (v : TokenView M) → Else by → get_elem? views by ≡ some v
+      → ViewFits b' words' by v
+  fits_still k b' words' Else same still by (Keeper v) there e =
+      let f = k.fits by (Keeper v) e in
+      let is = same by there f.0 in
+      (is.0, f.1 ∙ is.1, λ pos. still by (of_no_slot v.back) there (f.2 pos))
+  fits_still k b' words' Else same still by (Seat w) there e =
       still by w there (k.fits by (Seat w) e)
-  fits_still k v' roll' holder' words' Else same still by (Pair a b) there e =
-      let f = k.fits by (Pair a b) e in
-      (still by (of_no_slot a) there f.0, still by b there f.1, f.2)
-  fits_still k v' roll' holder' words' Else same still by Spent there e = tt
+  fits_still k b' words' Else same still by (Pair u w) there e =
+      let f = k.fits by (Pair u w) e in
+      (still by (of_no_slot u) there f.0, still by w there f.1, f.2)
+  fits_still k b' words' Else same still by Spent there e = tt
 
   -- the rule, where the keeper's view is known
   pub rule_of : (s : State ℕ (TokenView M)) (kept : IsKept s) (id : ℕ) (v : Keeping M)
       → get_elem? s.views id ≡ some (Keeper v)
-      → BoardRule id v kept.2 kept.3 s.words s.views
+      → BoardRule (record kept.0 { id = id; view = v }) s.words s.views
   rule_of s kept id v at =
-      let mine = kept.4.fits id (Keeper v) at in
-      subst (λ (y : ℕ × Keeping M). BoardRule y.0 y.1 kept.2 kept.3 s.words s.views)
-      (λ i. (sym mine.0 i, sym mine.1 i)) kept.4
+      let mine = kept.1.fits id (Keeper v) at in
+      subst (λ (b : BoardState M). BoardRule b s.words s.views)
+      (λ i. record kept.0 { id = sym mine.0 i; view = sym mine.1 i }) kept.1
 
   -- what a token is after a call, where it had no slots of the table
   pub after : {me now : Me ℕ (TokenView M)} {v w : TokenView M} → me ≡ (v, [])
@@ -193,15 +192,15 @@ module _ {M : Type 0} where
   -- a seat's slot, where the keeper knows the same of it, and it has the same holder
   pub sits_same : {slots slots' : List (KnownSlot M)} {holder holder' : ℕ → ℕ} {words : List ℕ}
       {slot asks number : ℕ} {name : Option M}
-      → (slot_at slots' slot).out ≡ (slot_at slots slot).out
-      → (slot_at slots' slot).name ≡ (slot_at slots slot).name → holder' slot ≡ holder slot
+      → ((slot_at slots' slot).out ≡ (slot_at slots slot).out)
+      × ((slot_at slots' slot).name ≡ (slot_at slots slot).name) → holder' slot ≡ holder slot
       → Sits slots holder words slot asks name number
       → Sits slots' holder' words slot asks name number
-  sits_same out named held t =
+  sits_same same held t =
       record {
         within = t.within;
-        out = out ∙ t.out;
-        named = named ∙ t.named;
+        out = same.0 ∙ t.out;
+        named = same.1 ∙ t.named;
         word = t.word;
         only = t.only ∙ sym held;
       }

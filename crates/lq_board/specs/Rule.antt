@@ -41,6 +41,14 @@ pub record Owns (r : Register) (roll : Roll) (by : ℕ) (a : Author) : Type 0 wh
   pub signs : r.free ≡ false → a.signs ≡ is_listed a.number roll.enlisted
   pub leads : a.leads ≡ true → LeadsBoard r.free roll a
 
+-- What the rule knows: the keeper's token and its view, the roll, and the author whose seat a slot
+-- has out.
+pub record BoardState (M : Type 0) : Type 0 where
+  pub id : ℕ
+  pub view : Keeping M
+  pub roll : Roll
+  pub holder : ℕ → ℕ
+
 -- A lawful book, each change of which has one author. On a counted board `gathered` is just the
 -- changes whose authors are not enlisted.
 abbrev pub BookFits : Book → Register → Roll → Type 0
@@ -75,26 +83,25 @@ module _ {M : Type 0} where
     pub only : number ≡ holder slot
 
   -- a seat's book is a prefix of the keeper's, its author is this token, and it is out of its slot
-  abbrev pub SeatFits : Keeping M → Roll → (ℕ → ℕ) → List ℕ → ℕ → Sitting M → Type 0
-  SeatFits v roll holder words by w =
-      Extends v.book w.book
-      × Owns v.register roll by w.author
-      × (0 < w.slot → Sits v.slots holder words w.slot w.asks w.name w.author.number)
+  abbrev pub SeatFits : BoardState M → List ℕ → ℕ → Sitting M → Type 0
+  SeatFits b words by w =
+      Extends b.view.book w.book
+      × Owns b.view.register b.roll by w.author
+      × (0 < w.slot → Sits b.view.slots b.holder words w.slot w.asks w.name w.author.number)
 
   -- There is one keeper, which has the token of the latest seat that came back. The seats of a pair
   -- are two authors, the first of no slot.
-  abbrev pub ViewFits :
-      ℕ → Keeping M → Roll → (ℕ → ℕ) → List ℕ → ℕ → TokenView M → Type 0
-  ViewFits id v roll holder words by (Keeper u) =
-      (by ≡ id)
-      × (u ≡ v)
-      × (0 < u.back.author.number → SeatFits v roll holder words by (of_no_slot u.back))
-  ViewFits id v roll holder words by (Seat w) = SeatFits v roll holder words by w
-  ViewFits id v roll holder words by (Pair a b) =
-      SeatFits v roll holder words by (of_no_slot a)
-      × SeatFits v roll holder words by b
-      × (a.author.number ≢ b.author.number)
-  ViewFits id v roll holder words by Spent = Unit {0}
+  abbrev pub ViewFits : BoardState M → List ℕ → ℕ → TokenView M → Type 0
+  ViewFits b words by (Keeper v) =
+      (by ≡ b.id)
+      × (v ≡ b.view)
+      × (0 < v.back.author.number → SeatFits b words by (of_no_slot v.back))
+  ViewFits b words by (Seat w) = SeatFits b words by w
+  ViewFits b words by (Pair u w) =
+      SeatFits b words by (of_no_slot u)
+      × SeatFits b words by w
+      × (u.author.number ≢ w.author.number)
+  ViewFits b words by Spent = Unit {0}
 
   -- a slot's word is at least what the keeper knows, and equals it where no seat of the slot is out
   pub record Agrees (words : List ℕ) (slots : List (KnownSlot M)) : Type 0 where
@@ -104,25 +111,16 @@ module _ {M : Type 0} where
     pub idle : (k : ℕ) → 0 < k → k < 65 → (slot_at slots k).out ≡ false
         → slice_index words k ≡ (slot_at slots k).asks
 
-  -- Word 0 is the length of the keeper's book. `holder` is the author whose seat a slot has out.
+  -- word 0 is the length of the keeper's book
   pub record BoardRule
-      (id : ℕ)
-      (v : Keeping M)
-      (roll : Roll)
-      (holder : ℕ → ℕ)
+      (b : BoardState M)
       (words : List ℕ)
       (views : List (TokenView M)) : Type 0 where
-    pub number : slice_index words 0 ≡ length v.book.changes
-    pub agrees : Agrees words v.slots
-    pub came : CameBack v.book v.back v.was
-    pub books : BookFits v.book v.register roll
-    pub fits : (by : ℕ) (u : TokenView M) → get_elem? views by ≡ some u
-        → ViewFits id v roll holder words by u
+    pub number : slice_index words 0 ≡ length b.view.book.changes
+    pub agrees : Agrees words b.view.slots
+    pub came : CameBack b.view.book b.view.back b.view.was
+    pub books : BookFits b.view.book b.view.register b.roll
+    pub fits : (by : ℕ) (v : TokenView M) → get_elem? views by ≡ some v → ViewFits b words by v
 
   abbrev pub IsKept : State ℕ (TokenView M) → Type 0
-  IsKept s =
-      (id : ℕ)
-      × (v : Keeping M)
-      × (roll : Roll)
-      × (holder : ℕ → ℕ)
-      × BoardRule id v roll holder s.words s.views
+  IsKept s = (b : BoardState M) × BoardRule b s.words s.views

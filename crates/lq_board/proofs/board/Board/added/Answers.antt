@@ -1,10 +1,7 @@
 -- The seat can come back, its change be added then, and the seat go out again.
-use Rattle.std.proofs.Common.{sym, ap, ◌∙◌, subst, arith}
-use Rattle.lq_volume.specs.Change.{IsLawful}
-use Rattle.lq_volume.specs.Book.{state_of}
-use Rattle.lq_board.specs.Token.{KeeperToken}
-use Rattle.lq_board.proofs.JoinLemmas.{backs_as}
-use Rattle.lq_board.proofs.PlayLemmas.{adds_as}
+use Rattle.std.proofs.Common.{sym, ap, ◌∙◌, arith}
+use Rattle.lq_board.proofs.JoinLemmas.{backs}
+use Rattle.lq_board.proofs.PlayLemmas.{adds}
 use Rattle.lq_board.proofs.SplitLemmas.{is_back, again}
 use Rattle.lq_board.proofs.TokenLemmas.{same_table, keeper_table}
 use Rattle.lq_board.proofs.ViewLemmas.{after}
@@ -16,18 +13,16 @@ join_seat-requires g c = (
   c.requires.board.1 ∙ sym (same_table c.self.view_is),
   ap (λ m. m.1) c.requires.view,
   omega (arith, c.self.invariant.0),
-  backs_as _ _ _ _ c.keeper.invariant.0 c.requires.view,
+  backs _ _ _ _ c.keeper.invariant.0 c.requires.view,
 )
 
 pub fetch_add-number-requires : goal.fetch_add-number-requires
 fetch_add-number-requires g c = (
   c.join_seat.ensures.0 ∙ keeper_table c.keeper.view_is c.requires.board.0 c.self.view_is,
   omega (arith, c.self.invariant.0),
-  adds_as _ _ _ _ _ (after c.keeper.invariant.0 c.join_seat.ensures.2) c.requires.chosen
+  adds _ _ _ _ _ (after c.keeper.invariant.0 c.join_seat.ensures.2) c.requires.chosen
       c.accepted_changes_keep_trees.ensures c.requires.number c.requires.signs
-      (subst
-      (λ (h : KeeperToken g.row.M.Denot). IsLawful (state_of h.book) c.args.change.now)
-      (sym c.keeper.view_is) c.requires.lawful),
+      (rw (← c.keeper.view_is) at c.requires.lawful),
 )
 
 pub split_seat-again-requires : goal.split_seat-again-requires

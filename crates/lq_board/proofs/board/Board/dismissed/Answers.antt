@@ -1,7 +1,7 @@
 -- Two seats can be joined, the first dismiss the second, and both be parted.
 use Rattle.std.proofs.Common.{ap, ◌∙◌, sym, arith}
 use Rattle.lq_board.specs.View.{second_of}
-use Rattle.lq_board.proofs.PairLemmas.{pairs_as, dismisses, unpairs}
+use Rattle.lq_board.proofs.PairLemmas.{pairs, dismisses, unpairs}
 use Rattle.lq_board.proofs.TokenLemmas.{same_table}
 use Rattle.lq_board.proofs.ViewLemmas.{after}
 use Rattle.lq_board.proofs.board.Board.dismissed.Goals as goal
@@ -12,7 +12,7 @@ join_seat-requires g c = (
   c.requires.board.1 ∙ sym (same_table c.self.view_is),
   ap (λ m. m.1) c.requires.two,
   omega (arith, c.self.invariant.0),
-  pairs_as _ _ _ _ c.requires.one c.requires.two,
+  pairs _ _ _ _ c.requires.one c.requires.two,
 )
 
 pub load-requires : goal.load-requires

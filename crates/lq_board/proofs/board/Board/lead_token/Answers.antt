@@ -1,6 +1,5 @@
 -- No seat was given out before.
-use Rattle.std.proofs.Common.{ap, ◌∙◌, arith}
-use Rattle.lq_board.specs.Token.{KeeperToken}
+use Rattle.std.proofs.Common.{arith}
 use Rattle.lq_board.proofs.SplitLemmas.{leading}
 use Rattle.lq_board.proofs.TokenLemmas.{keeper_table, is_keeping}
 use Rattle.lq_board.proofs.board.Board.lead_token.Goals as goal
@@ -9,8 +8,7 @@ pub split_seat-requires : goal.split_seat-requires
 split_seat-requires g c = (
   keeper_table c.keeper.view_is c.requires.board c.self.view_is,
   omega (arith, c.self.invariant.0),
-  leading _ _ c.keeper.invariant.0
-      (ap (λ (h : KeeperToken g.row.M.Denot). h.register) c.keeper.view_is ∙ c.requires.first),
+  leading _ _ c.keeper.invariant.0 (rw (← c.keeper.view_is) at c.requires.first),
 )
 
 pub invariant_of-keeper : goal.invariant_of-keeper

@@ -1,6 +1,6 @@
 -- The seat can come back, the number be read then, and the seat go out again.
 use Rattle.std.proofs.Common.{refl, sym, ap, ◌∙◌, arith}
-use Rattle.lq_board.proofs.JoinLemmas.{backs_as}
+use Rattle.lq_board.proofs.JoinLemmas.{backs}
 use Rattle.lq_board.proofs.PlayLemmas.{checks}
 use Rattle.lq_board.proofs.SplitLemmas.{is_back, again}
 use Rattle.lq_board.proofs.TokenLemmas.{same_table, keeper_table}
@@ -13,7 +13,7 @@ join_seat-requires g c = (
   c.requires.board.1 ∙ sym (same_table c.self.view_is),
   ap (λ m. m.1) c.requires.view,
   omega (arith, c.self.invariant.0),
-  backs_as _ _ _ _ c.keeper.invariant.0 c.requires.view,
+  backs _ _ _ _ c.keeper.invariant.0 c.requires.view,
 )
 
 pub load-number-requires : goal.load-number-requires

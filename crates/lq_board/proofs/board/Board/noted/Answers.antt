@@ -1,7 +1,7 @@
 -- Two seats can be joined, and parted with the first's moments.
 use Rattle.std.proofs.Common.{ap, ◌∙◌, sym, arith, ◌++◌}
 use Rattle.lq_board.specs.View.{first_sitting, second_of}
-use Rattle.lq_board.proofs.PairLemmas.{pairs_as, unpairs}
+use Rattle.lq_board.proofs.PairLemmas.{pairs, unpairs}
 use Rattle.lq_board.proofs.TokenLemmas.{same_table}
 use Rattle.lq_board.proofs.board.Board.noted.Goals as goal
 
@@ -11,7 +11,7 @@ join_seat-requires g c = (
   c.requires.board.1 ∙ sym (same_table c.self.view_is),
   ap (λ m. m.1) c.requires.two,
   omega (arith, c.self.invariant.0),
-  pairs_as _ _ _ _ c.requires.one c.requires.two,
+  pairs _ _ _ _ c.requires.one c.requires.two,
 )
 
 pub split_seat-requires : goal.split_seat-requires
