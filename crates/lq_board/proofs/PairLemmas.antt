@@ -1,26 +1,28 @@
 -- Two seats that a call takes keep the rule, whether it compares, enlists or dismisses.
-use Rattle.std.proofs.Common.{◌≡◌, ◌≢◌, ℕ, ◌<◌, Bool, true, false, List, [], ◌∷◌, length, refl, sym, ◌∙◌, subst, arith}
+use Rattle.std.proofs.Common.{◌≡◌, ◌≢◌, ℕ, ◌<◌, Bool, true, false, List, [], ◌∷◌, length, refl, sym, ◌∙◌, subst, arith, ap}
 use Rattle.std.specs.Prelude.{slice_set}
 use mathlib.Core.Option.{none, some}
 use lib.ListN.{get_elem?}
+use Rattle.atomic_table.specs.Seated.{TableId}
 use Rattle.atomic_table.specs.Table.{State, Me, step, Allows, Splits, Joins}
 use Rattle.lq_board.specs.declared.token_views.Moment.{Moment}
 use Rattle.lq_board.specs.declared.token_views.Sitting.{Sitting}
 use Rattle.lq_board.specs.declared.token_views.TokenView.{TokenView}
 use Rattle.lq_board.specs.declared.token_views.TokenView.TheVariants.{Seat, Pair, Spent}
 use Rattle.lq_board.specs.Roll.{is_listed, without_number, changes_of_others, AreSeats}
-use Rattle.lq_board.specs.Author.{with_signs, with_roll}
-use Rattle.lq_board.specs.View.{paired, second_of, first_seat}
+use Rattle.lq_board.specs.View.{paired, sitting_of, IsSeat, second_of, first_seat, of_roll, of_signs}
 use Rattle.lq_board.specs.Rule.{ViewFits, BoardState, BoardRule, IsKept}
 use Rattle.lq_board.specs.Step.{Compares, Enlists, Dismisses}
 use Rattle.lq_board.proofs.RollLemmas.{seats_without, has_here, has_else, without_here, without_else, others_enlisted, others_dismissed}
 use Rattle.lq_board.proofs.AuthorLemmas.{author_same, owns_called, share_none}
 use Rattle.lq_board.proofs.ViewLemmas.{moved, numbers_apart, owns_moved, owns_here, owns_else, fits_set, fits_split, fits_join, seen_before, fits_still, splits_as, joins_as}
+use Rattle.lq_board.specs.Token.{BoardName}
+use Rattle.lq_board.proofs.TokenLemmas.{same_table}
 use Rattle.lq_board.proofs.PlayLemmas.{looks, viewed}
 
 module _ {M : Type 0} where
   -- two seats become a pair
-  pub pairs : {me you : Me ℕ (TokenView M)} (id : ℕ) (a : Sitting M) (other : ℕ) (b : Sitting M)
+  pairs : {me you : Me ℕ (TokenView M)} (id : ℕ) (a : Sitting M) (other : ℕ) (b : Sitting M)
       → me ≡ (Seat a, []) → you ≡ (Seat b, [])
       → Joins IsKept id me.0 other you.0 (paired me.0 you.0) Spent
   pairs id a other b is are =
@@ -53,6 +55,23 @@ module _ {M : Type 0} where
               tt;
         },
       ))
+
+  -- what a join of two seats asks
+  pub pair_may : {t u : TableId} {a b : BoardName} {one two : Me ℕ (TokenView M)} (id other : ℕ)
+      → (t ≡ b.table) × (u ≡ b.table) → a ≡ b → a.table.words ≡ 65
+      → IsSeat one (sitting_of one.0) → IsSeat two (sitting_of two.0)
+      → (t ≡ a.table)
+      × (u ≡ a.table)
+      × (two.1 ≡ [])
+      × (0 < a.table.words)
+      × Joins IsKept id one.0 other two.0 (paired one.0 two.0) Spent
+  pair_may id other on view words is are = (
+    on.0 ∙ sym (same_table view),
+    on.1 ∙ sym (same_table view),
+    ap (λ (m : Me ℕ (TokenView M)). m.1) are,
+    omega (arith, words),
+    pairs id _ other _ is are,
+  )
 
   -- a pair is compared
   pub compares : {me : Me ℕ (TokenView M)} (slots id : ℕ) (a b : Sitting M) → me ≡ (Pair a b, [])
@@ -88,10 +107,7 @@ module _ {M : Type 0} where
       → is_listed j enlisted ≡ is_listed j a.author.enlisted)
       → is_listed b.author.number enlisted ≡ signs
       → IsKept (record s {
-        views =
-            slice_set s.views id (Pair
-            (record a { author = with_roll a.author enlisted gathered })
-            (record b { author = with_signs b.author signs }));
+        views = slice_set s.views id (Pair (of_roll a enlisted gathered) (of_signs b signs));
       })
   called s kept id a b enlisted gathered signs leads at seats whole others is =
       let k = led_by s kept id a b leads at in

@@ -48,27 +48,22 @@ pub numbers_apart : {r : Register} {roll : Roll} {at by : ℕ} {a b : Author}
     → Owns r roll at b → by ≢ at → Owns r roll by a → a.number ≢ b.number
 numbers_apart {roll = roll} mine apart o i = apart (o.only ∙ ap roll.who i ∙ sym mine.only)
 
+-- an author, where one of this number has another token
+owns_as : {r : Register} {roll : Roll} {by : ℕ} {a : Author} (k n by' : ℕ)
+    → by' ≡ owner_set roll.who k n a.number → Owns r roll by a → Owns r (moved roll k n) by' a
+owns_as k n by' is o =
+    record { author = o.author; only = is; signs = o.signs; leads = o.leads }
+
 -- an author, where another has another token
 pub owns_moved : {r : Register} {roll : Roll} {by : ℕ} {a : Author} (k n : ℕ) → a.number ≢ k
     → Owns r roll by a → Owns r (moved roll k n) by a
 owns_moved {roll = roll} {a = a} k n ne o =
-    record {
-      author = o.author;
-      only = o.only ∙ sym (owner_else roll.who k n a.number ne);
-      signs = o.signs;
-      leads = o.leads;
-    }
+    owns_as k n _ (o.only ∙ sym (owner_else roll.who k n a.number ne)) o
 
 -- an author that another token takes over
 pub owns_here : {r : Register} {roll : Roll} {by : ℕ} {a : Author} (n : ℕ) → Owns r roll by a
     → Owns r (moved roll a.number n) n a
-owns_here {roll = roll} {a = a} n o =
-    record {
-      author = o.author;
-      only = sym (owner_here roll.who a.number n);
-      signs = o.signs;
-      leads = o.leads;
-    }
+owns_here {roll = roll} {a = a} n o = owns_as _ n n (sym (owner_here roll.who a.number n)) o
 
 -- another token's author, where an author has another token
 pub owns_else : {r : Register} {roll : Roll} {at by : ℕ} {a b : Author} (n : ℕ)

@@ -7,9 +7,9 @@ use Rattle.lq_board.specs.declared.token_views.TokenView.{TokenView}
 use Rattle.lq_board.specs.declared.token_views.TokenView.TheVariants.{Keeper, Seat, Pair}
 use Rattle.lq_board.specs.Book.{IsFullBook}
 use Rattle.lq_board.specs.Roll.{IsMerged, without_number}
-use Rattle.lq_board.specs.Author.{AreDisjoint, IsWhole, with_author, with_change, with_signs, with_roll}
+use Rattle.lq_board.specs.Author.{AreDisjoint, IsWhole, with_author, with_change}
 use Rattle.lq_board.specs.Slot.{slot_at, counted}
-use Rattle.lq_board.specs.View.{keeper, keeping_of, sitting_of, first_sitting, second_of}
+use Rattle.lq_board.specs.View.{keeper, keeping_of, sitting_of, first_sitting, second_of, of_roll, of_signs}
 use Rattle.lq_board.specs.Rule.{CameBack}
 
 module _ {M : Type 0} where
@@ -74,13 +74,7 @@ module _ {M : Type 0} where
       let a = first_sitting m.0 in
       let b = second_of m.0 in
       let enlisted = b.author.number ∷ a.author.enlisted in
-      n
-      ≡ (
-        Pair
-            (record a { author = with_roll a.author enlisted a.author.gathered })
-            (record b { author = with_signs b.author true }),
-        m.1,
-      )
+      n ≡ (Pair (of_roll a enlisted a.author.gathered) (of_signs b true), m.1)
 
   -- the first seat of a pair leads, and dismisses the second
   abbrev pub Dismisses : Step ℕ → Me ℕ (TokenView M) → ℕ → Me ℕ (TokenView M) → Type 0
@@ -89,11 +83,5 @@ module _ {M : Type 0} where
       let b = second_of m.0 in
       let enlisted = without_number b.author.number a.author.enlisted in
       let gathered = (first_sitting n.0).author.gathered in
-      (n
-      ≡ (
-        Pair
-            (record a { author = with_roll a.author enlisted gathered })
-            (record b { author = with_signs b.author false }),
-        m.1,
-      ))
+      (n ≡ (Pair (of_roll a enlisted gathered) (of_signs b false), m.1))
       × IsMerged a.author.gathered b.author.changes gathered

@@ -1,5 +1,5 @@
 -- What a token knows, before and after a step.
-use Rattle.std.specs.Prelude.{◌≡◌, ℕ, ◌<◌, List, [], ◌∷◌, ◌++◌, length, Option, None, IsSome}
+use Rattle.std.specs.Prelude.{◌≡◌, ℕ, ◌<◌, Bool, List, [], ◌∷◌, ◌++◌, length, Option, None, IsSome}
 use Rattle.atomic_table.specs.Table.{Me}
 use Rattle.lq_volume.specs.State.{State}
 use Rattle.lq_volume.specs.Book.{Book}
@@ -12,7 +12,7 @@ use Rattle.lq_board.specs.declared.token_views.Keeping.{Keeping}
 use Rattle.lq_board.specs.declared.token_views.TokenView.{TokenView}
 use Rattle.lq_board.specs.declared.token_views.TokenView.TheVariants.{Keeper, Seat, Pair}
 use Rattle.lq_board.specs.Book.{no_book, IsFullBook}
-use Rattle.lq_board.specs.Author.{no_author, no_register, leader, leader_register, with_seat, with_opening, new_author}
+use Rattle.lq_board.specs.Author.{no_author, no_register, leader, leader_register, with_seat, with_opening, new_author, with_signs, with_roll}
 use Rattle.lq_board.specs.Slot.{unused, unused_slots, slot_at, gone_out, go_out, come_back}
 
 module _ {M : Type 0} where
@@ -61,6 +61,13 @@ module _ {M : Type 0} where
 
   abbrev pub of_no_slot : Sitting M → Sitting M
   of_no_slot w = record w { slot = 0 }
+
+  -- a seat that leads these and has gathered these changes, or that may make changes or may not
+  abbrev pub of_roll : Sitting M → List ℕ → List ℕ → Sitting M
+  of_roll w enlisted gathered = record w { author = with_roll w.author enlisted gathered }
+
+  abbrev pub of_signs : Sitting M → Bool → Sitting M
+  of_signs w signs = record w { author = with_signs w.author signs }
 
   -- the second has noted the first's moments too
   abbrev pub second_noted : TokenView M → TokenView M
@@ -140,6 +147,9 @@ module _ {M : Type 0} where
     pub plain : slot ≡ 0 → (asks ≡ 0) × (name ≡ None)
 
   -- a seat that isn't spent
+  abbrev pub IsSeat : Me ℕ (TokenView M) → Sitting M → Type 0
+  IsSeat me w = me ≡ (Seat w, [])
+
   abbrev pub IsSitting : Me ℕ (TokenView M) → Type 0
   IsSitting me =
       (me ≡ (Seat (sitting_of me.0), []))

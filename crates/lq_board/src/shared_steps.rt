@@ -2,11 +2,11 @@
 ghost use Rattle.std.specs.Prelude.{◌≡◌, ◌≢◌, ◌<◌, [], ◌∷◌, ◌++◌, length, true, false, Some};
 ghost use Rattle.lq_volume.specs.Book.{grown, state_of};
 ghost use Rattle.lq_volume.specs.Change.{after, IsLawful};
-ghost use Rattle.lq_board.specs.Author.{AreDisjoint, IsWhole, leader, leader_register, no_register, with_seat, with_opening, new_author, with_author, with_change, with_signs, with_roll};
+ghost use Rattle.lq_board.specs.Author.{AreDisjoint, IsWhole, leader, leader_register, no_register, with_seat, with_opening, new_author, with_author, with_change};
 ghost use Rattle.lq_board.specs.Book.{IsFullBook};
 ghost use Rattle.lq_board.specs.Slot.{slot_at, gone_out, come_back};
 ghost use Rattle.lq_board.specs.Token.{counted_board, moment_of};
-ghost use Rattle.lq_board.specs.View.{sitting_of, plain, of_no_slot};
+ghost use Rattle.lq_board.specs.View.{sitting_of, plain, of_no_slot, of_roll, of_signs, IsSeat};
 ghost use Rattle.lq_board.specs.Return.{GoesOutAgain};
 ghost use Rattle.lq_board.specs.Roll.{IsMerged, without_number};
 ghost use Rattle.lq_board.specs.Rule.{CameBack};
@@ -16,7 +16,6 @@ use crate::step_types::{
     Add, Again, Back, Check, Chosen, Compare, Dismiss, Enlist, Lead, Note, Open, Part, Plain,
     Together,
 };
-use crate::token_views::TokenView;
 use crate::tokens::{Keeper, Token};
 use lq_volume::{Change, accepted_changes_keep_trees};
 
@@ -27,13 +26,10 @@ impl<M> Board<M> {
         ensures board { record { table = result.table_id; free = keeper.old.register.free }
             ≡ keeper.old.board }
         ensures free { keeper.old.register.free ≡ keeper.old.board.free }
-        ensures view { result.me
-            ≡ (
-              TokenView.Seat (record (plain keeper.old.book (new_author keeper.old.register)) {
-                moments = moment_of keeper.old ∷ [];
-              }),
-              [],
-            ) }
+        ensures view { IsSeat result.me (
+            record (plain keeper.old.book (new_author keeper.old.register)) {
+              moments = moment_of keeper.old ∷ [];
+            }) }
         ensures full { IsFullBook keeper.old.book }
         ensures keeper { keeper.new ≡ record keeper.old {
           register = with_seat keeper.old.register;
@@ -47,7 +43,7 @@ impl<M> Board<M> {
         requires board { keeper.old.board ≡ self.now }
         requires first { keeper.old.register ≡ no_register }
         ensures board { result.table_id ≡ keeper.old.board.table }
-        ensures view { result.me ≡ (TokenView.Seat (plain keeper.old.book leader), []) }
+        ensures view { IsSeat result.me (plain keeper.old.book leader) }
         ensures full { IsFullBook keeper.old.book }
         ensures keeper { keeper.new ≡ record keeper.old {
           board = counted_board keeper.old.board;
@@ -67,14 +63,12 @@ impl<M> Board<M> {
         ensures board { record { table = result.table_id; free = keeper.old.register.free }
             ≡ keeper.old.board }
         ensures free { keeper.old.register.free ≡ keeper.old.board.free }
-        ensures view { result.me ≡ (
-          TokenView.Seat (record (plain keeper.old.book (new_author keeper.old.register)) {
-            slot = slot;
-            asks = (slot_at keeper.old.slots slot).asks;
-            name = W.name;
-          }),
-          [],
-        ) }
+        ensures view { IsSeat result.me (
+            record (plain keeper.old.book (new_author keeper.old.register)) {
+              slot = slot;
+              asks = (slot_at keeper.old.slots slot).asks;
+              name = W.name;
+            }) }
         ensures full { IsFullBook keeper.old.book }
         ensures keeper { keeper.new ≡ record keeper.old {
           slots = gone_out keeper.old.slots slot W.name;
@@ -88,7 +82,7 @@ impl<M> Board<M> {
     // Takes a seat back. The keeper then reads the number, which proves what holds for that seat.
     pub(crate) fn back(&self, keeper: &mut Keeper<M>, token: Token<M>) -> u64
         requires board { (keeper.old.board ≡ self.now) × (token.table_id ≡ self.now.table) }
-        requires view { token.me ≡ (TokenView.Seat (sitting_of token.me.0), []) }
+        requires view { IsSeat token.me (sitting_of token.me.0) }
         requires number { 0 < (sitting_of token.me.0).author.number }
         ensures number { result ≡ length keeper.old.book.changes }
         ensures back { CameBack keeper.old.book (sitting_of token.me.0)
@@ -111,7 +105,7 @@ impl<M> Board<M> {
         token: Token<M>,
     ) -> (u64, Token<M>)
         requires board { (keeper.old.board ≡ self.now) × (token.table_id ≡ self.now.table) }
-        requires view { token.me ≡ (TokenView.Seat (sitting_of token.me.0), []) }
+        requires view { IsSeat token.me (sitting_of token.me.0) }
         requires number { 0 < (sitting_of token.me.0).author.number }
         requires slot { (sitting_of token.me.0).slot < 65 }
         ensures number { result.0 ≡ length keeper.old.book.changes }
@@ -138,7 +132,7 @@ impl<M> Board<M> {
         change: &Change,
     ) -> (u64, Token<M>)
         requires board { (keeper.old.board ≡ self.now) × (token.table_id ≡ self.now.table) }
-        requires view { token.me ≡ (TokenView.Seat (sitting_of token.me.0), []) }
+        requires view { IsSeat token.me (sitting_of token.me.0) }
         requires number { 0 < (sitting_of token.me.0).author.number }
         requires slot { (sitting_of token.me.0).slot < 65 }
         requires chosen { W.change ≡ Some change.now }
@@ -173,11 +167,11 @@ impl<M> Board<M> {
     // Joins two seats, compares them and parts them.
     pub(crate) fn compared(&self, one: Token<M>, two: Token<M>) -> (Token<M>, Token<M>)
         requires board { (one.table_id ≡ self.now.table) × (two.table_id ≡ self.now.table) }
-        requires one { one.me ≡ (TokenView.Seat (sitting_of one.me.0), []) }
-        requires two { two.me ≡ (TokenView.Seat (sitting_of two.me.0), []) }
+        requires one { IsSeat one.me (sitting_of one.me.0) }
+        requires two { IsSeat two.me (sitting_of two.me.0) }
         ensures board { (result.0.table_id ≡ one.table_id) × (result.1.table_id ≡ one.table_id) }
-        ensures one { result.0.me ≡ (TokenView.Seat (of_no_slot (sitting_of one.me.0)), []) }
-        ensures two { result.1.me ≡ (TokenView.Seat (sitting_of two.me.0), []) }
+        ensures one { IsSeat result.0.me (of_no_slot (sitting_of one.me.0)) }
+        ensures two { IsSeat result.1.me (sitting_of two.me.0) }
         ensures numbers { (sitting_of one.me.0).author.number
             ≢ (sitting_of two.me.0).author.number }
         ensures changes { AreDisjoint (sitting_of one.me.0).author.changes
@@ -193,13 +187,11 @@ impl<M> Board<M> {
     // Joins two seats and parts them. The second has then noted the first's moments too.
     pub(crate) fn noted(&self, one: Token<M>, two: Token<M>) -> Token<M>
         requires board { (one.table_id ≡ self.now.table) × (two.table_id ≡ self.now.table) }
-        requires one { one.me ≡ (TokenView.Seat (sitting_of one.me.0), []) }
-        requires two { two.me ≡ (TokenView.Seat (sitting_of two.me.0), []) }
+        requires one { IsSeat one.me (sitting_of one.me.0) }
+        requires two { IsSeat two.me (sitting_of two.me.0) }
         ensures board { result.table_id ≡ one.table_id }
-        ensures two { let b = sitting_of two.me.0 in result.me ≡ (
-          TokenView.Seat (record b { moments = b.moments ++ (sitting_of one.me.0).moments }),
-          [],
-        ) }
+        ensures two { let b = sitting_of two.me.0 in IsSeat result.me
+            (record b { moments = b.moments ++ (sitting_of one.me.0).moments }) }
     {
         let mut pair = one;
         self.table.shared.join_seat::<Together>(&mut pair, two);
@@ -209,22 +201,14 @@ impl<M> Board<M> {
     // Joins two seats, the first enlists the second, and parts them.
     pub(crate) fn enlisted(&self, one: Token<M>, two: Token<M>) -> (Token<M>, Token<M>)
         requires board { (one.table_id ≡ self.now.table) × (two.table_id ≡ self.now.table) }
-        requires one { one.me ≡ (TokenView.Seat (sitting_of one.me.0), []) }
-        requires two { two.me ≡ (TokenView.Seat (sitting_of two.me.0), []) }
+        requires one { IsSeat one.me (sitting_of one.me.0) }
+        requires two { IsSeat two.me (sitting_of two.me.0) }
         requires leads { (sitting_of one.me.0).author.leads ≡ true }
         requires fresh { (sitting_of two.me.0).author.changes ≡ [] }
         ensures board { (result.0.table_id ≡ one.table_id) × (result.1.table_id ≡ one.table_id) }
-        ensures one { let a = sitting_of one.me.0 in result.0.me ≡ (
-          TokenView.Seat (record (of_no_slot a) {
-            author = with_roll a.author
-                ((sitting_of two.me.0).author.number ∷ a.author.enlisted) a.author.gathered;
-          }),
-          [],
-        ) }
-        ensures two { let b = sitting_of two.me.0 in result.1.me ≡ (
-          TokenView.Seat (record b { author = with_signs b.author true }),
-          [],
-        ) }
+        ensures one { let a = sitting_of one.me.0 in IsSeat result.0.me (of_roll (of_no_slot a)
+            ((sitting_of two.me.0).author.number ∷ a.author.enlisted) a.author.gathered) }
+        ensures two { IsSeat result.1.me (of_signs (sitting_of two.me.0) true) }
     {
         let mut pair = one;
         self.table.shared.join_seat::<Together>(&mut pair, two);
@@ -236,25 +220,17 @@ impl<M> Board<M> {
     // Joins two seats, the first dismisses the second, and parts them.
     pub(crate) fn dismissed(&self, one: Token<M>, two: Token<M>) -> (Token<M>, Token<M>)
         requires board { (one.table_id ≡ self.now.table) × (two.table_id ≡ self.now.table) }
-        requires one { one.me ≡ (TokenView.Seat (sitting_of one.me.0), []) }
-        requires two { two.me ≡ (TokenView.Seat (sitting_of two.me.0), []) }
+        requires one { IsSeat one.me (sitting_of one.me.0) }
+        requires two { IsSeat two.me (sitting_of two.me.0) }
         requires leads { (sitting_of one.me.0).author.leads ≡ true }
         requires signs { (sitting_of two.me.0).author.signs ≡ true }
         ensures board { (result.0.table_id ≡ one.table_id) × (result.1.table_id ≡ one.table_id) }
-        ensures one { let a = sitting_of one.me.0 in result.0.me ≡ (
-          TokenView.Seat (record (of_no_slot a) {
-            author = with_roll a.author
-                (without_number (sitting_of two.me.0).author.number a.author.enlisted)
-                (sitting_of result.0.me.0).author.gathered;
-          }),
-          [],
-        ) }
+        ensures one { let a = sitting_of one.me.0 in IsSeat result.0.me (of_roll (of_no_slot a)
+            (without_number (sitting_of two.me.0).author.number a.author.enlisted)
+            (sitting_of result.0.me.0).author.gathered) }
         ensures merged { IsMerged (sitting_of one.me.0).author.gathered
             (sitting_of two.me.0).author.changes (sitting_of result.0.me.0).author.gathered }
-        ensures two { let b = sitting_of two.me.0 in result.1.me ≡ (
-          TokenView.Seat (record b { author = with_signs b.author false }),
-          [],
-        ) }
+        ensures two { IsSeat result.1.me (of_signs (sitting_of two.me.0) false) }
     {
         let mut pair = one;
         self.table.shared.join_seat::<Together>(&mut pair, two);

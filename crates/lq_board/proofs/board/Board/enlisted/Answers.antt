@@ -1,19 +1,14 @@
 -- Two seats can be joined, the first enlist the second, and both be parted.
-use Rattle.std.proofs.Common.{ap, ◌∙◌, sym, arith}
+use Rattle.std.proofs.Common.{◌∙◌, sym, arith}
 use Rattle.lq_board.specs.View.{second_of}
-use Rattle.lq_board.proofs.PairLemmas.{pairs, enlists, unpairs}
+use Rattle.lq_board.proofs.PairLemmas.{pair_may, enlists, unpairs}
 use Rattle.lq_board.proofs.TokenLemmas.{same_table}
 use Rattle.lq_board.proofs.ViewLemmas.{after}
 use Rattle.lq_board.proofs.board.Board.enlisted.Goals as goal
 
 pub join_seat-requires : goal.join_seat-requires
-join_seat-requires g c = (
-  c.requires.board.0 ∙ sym (same_table c.self.view_is),
-  c.requires.board.1 ∙ sym (same_table c.self.view_is),
-  ap (λ m. m.1) c.requires.two,
-  omega (arith, c.self.invariant.0),
-  pairs _ _ _ _ c.requires.one c.requires.two,
-)
+join_seat-requires g c =
+    pair_may _ _ c.requires.board c.self.view_is c.self.invariant.0 c.requires.one c.requires.two
 
 pub load-requires : goal.load-requires
 load-requires g c = (
