@@ -2,6 +2,7 @@
 use Rattle.std.proofs.Common.{◌≡◌, ◌≢◌, ℕ, ◌<◌, [], refl, arith, ◌∙◌, ap, sym}
 use Rattle.atomic_table.specs.Seated.{TableId}
 use Rattle.atomic_table.specs.Table.{Me, Joins}
+use Rattle.atomic_table.proofs.Lists.{set_else}
 use Rattle.lq_board.specs.declared.token_views.Sitting.{Sitting}
 use Rattle.lq_board.specs.declared.token_views.Keeping.{Keeping}
 use Rattle.lq_board.specs.declared.token_views.TokenView.{TokenView}
@@ -11,7 +12,7 @@ use Rattle.lq_board.specs.Rule.{ViewFits, BoardState, IsKept}
 use Rattle.lq_board.specs.Token.{BoardName, KeeperToken}
 use Rattle.lq_board.proofs.TokenLemmas.{same_table, keeper_table}
 use Rattle.lq_board.proofs.SlotLemmas.{back_else, agrees_back}
-use Rattle.lq_board.proofs.ViewLemmas.{moved, numbers_apart, owns_here, owns_else, fits_join, seen_before, fits_still, rule_of, joins_as, sits_same, slots_apart}
+use Rattle.lq_board.proofs.ViewLemmas.{moved, numbers_apart, owns_here, owns_else, fits_join, fits_still, rule_of, joins_as, sits_same, slots_apart}
 
 module _ {M : Type 0} where
   -- a seat comes back
@@ -25,7 +26,7 @@ module _ {M : Type 0} where
       let b : BoardState M =
       record { id = id; view = now; roll = moved kept.0.roll w.author.number id; holder = kept.0.holder } in
       let seat =
-      k.fits other (Seat w) (seen_before s.views id other (Keeper now) (Seat w) apart there) in (
+      k.fits other (Seat w) (sym (set_else s.views id other (Keeper now) apart) ∙ there) in (
         b,
         record {
           number = k.number;

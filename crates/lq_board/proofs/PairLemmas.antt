@@ -5,6 +5,7 @@ use mathlib.Core.Option.{none, some}
 use lib.ListN.{get_elem?}
 use Rattle.atomic_table.specs.Seated.{TableId}
 use Rattle.atomic_table.specs.Table.{State, Me, step, Allows, Splits, Joins}
+use Rattle.atomic_table.proofs.Lists.{set_else}
 use Rattle.lq_board.specs.declared.token_views.Moment.{Moment}
 use Rattle.lq_board.specs.declared.token_views.Sitting.{Sitting}
 use Rattle.lq_board.specs.declared.token_views.TokenView.{TokenView}
@@ -15,7 +16,7 @@ use Rattle.lq_board.specs.Rule.{ViewFits, BoardState, BoardRule, IsKept}
 use Rattle.lq_board.specs.Step.{Compares, Enlists, Dismisses}
 use Rattle.lq_board.proofs.RollLemmas.{seats_without, has_here, has_else, without_here, without_else, others_enlisted, others_dismissed}
 use Rattle.lq_board.proofs.AuthorLemmas.{author_same, owns_called, share_none}
-use Rattle.lq_board.proofs.ViewLemmas.{moved, numbers_apart, owns_moved, owns_here, owns_else, fits_set, fits_split, fits_join, seen_before, fits_still, splits_as, joins_as}
+use Rattle.lq_board.proofs.ViewLemmas.{moved, numbers_apart, owns_moved, owns_here, owns_else, fits_set, fits_split, fits_join, fits_still, splits_as, joins_as}
 use Rattle.lq_board.specs.Token.{BoardName}
 use Rattle.lq_board.proofs.TokenLemmas.{same_table}
 use Rattle.lq_board.proofs.PlayLemmas.{looks, viewed}
@@ -30,7 +31,7 @@ module _ {M : Type 0} where
       let k = kept.1 in
       let one = k.fits id (Seat a) at in
       let two =
-      k.fits other (Seat b) (seen_before s.views id other (Pair a b) (Seat b) apart there) in
+      k.fits other (Seat b) (sym (set_else s.views id other (Pair a b) apart) ∙ there) in
       let ne = numbers_apart two.1 (λ e. apart (sym e)) one.1 in
       let now : BoardState M =
       record kept.0 { roll = moved kept.0.roll b.author.number id } in (

@@ -111,15 +111,6 @@ module _ {M : Type 0} where
       (λ by' v' apart e' away'. others by' v' (apart, away') e') (λ _. mine) by v e away)
       gone
 
-  -- another's view, before one changed
-  pub seen_before : (views : List (TokenView M)) (id other : ℕ) (w v : TokenView M)
-      → ¬ (other ≡ id) → get_elem? (slice_set views id w) other ≡ some v
-      → get_elem? views other ≡ some v
-  seen_before views id other w v apart there =
-      ⊎_elim (λ (t : (other ≡ id) × (w ≡ v)). absurd (apart t.0))
-      (λ (t : (other ≢ id) × (get_elem? views other ≡ some v)). t.1)
-      (at_set views id other w v there)
-
   -- the view of any token elsewhere, where a seat that fits still does
   pub fits_still : {b : BoardState M} {words : List ℕ} {views : List (TokenView M)}
       → BoardRule b words views → (b' : BoardState M) (words' : List ℕ) (Else : ℕ → Type 0)
@@ -150,8 +141,7 @@ module _ {M : Type 0} where
   -- what a token is after a call, where it had no slots of the table
   pub after : {me now : Me ℕ (TokenView M)} {v w : TokenView M} → me ≡ (v, [])
       → now ≡ (w, me.1) → now ≡ (w, [])
-  after {w = w} was is =
-      is ∙ ap (λ (m : Me ℕ (TokenView M)). let x : Me ℕ (TokenView M) = (w, m.1) in x) was
+  after {w = w} was is = is ∙ (λ i. (w, (was i).1))
 
   -- a split of a token that is known
   pub splits_as : {now : Me ℕ (TokenView M)} {v : TokenView M} {more : List (ℕ × ℕ)} (id : ℕ)
