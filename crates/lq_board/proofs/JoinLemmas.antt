@@ -10,7 +10,7 @@ use Rattle.lq_board.specs.declared.token_views.TokenView.TheVariants.{Keeper, Se
 use Rattle.lq_board.specs.View.{keeping_of, sitting_of, taken, IsSeat}
 use Rattle.lq_board.specs.Rule.{ViewFits, BoardState, IsKept}
 use Rattle.lq_board.specs.Token.{BoardName, KeeperToken}
-use Rattle.lq_board.proofs.TokenLemmas.{same_table, keeper_table}
+use Rattle.lq_board.proofs.TokenLemmas.{keeper_table}
 use Rattle.lq_board.proofs.SlotLemmas.{back_else, agrees_back}
 use Rattle.lq_board.proofs.ViewLemmas.{moved, numbers_apart, owns_here, owns_else, fits_join, fits_still, rule_of, joins_as, sits_same, slots_apart}
 
@@ -68,17 +68,17 @@ module _ {M : Type 0} where
 
   -- what the join asks
   pub back_may : {u : TableId} {h k : KeeperToken M} {a b : BoardName}
-      {me you : Me ℕ (TokenView M)} (id other : ℕ) → h ≡ k
-      → (k.board ≡ b) × (u ≡ b.table) → a ≡ b → a.table.words ≡ 65
-      → me ≡ (Keeper (keeping_of me.0), []) → IsSeat you (sitting_of you.0)
+      {me you : Me ℕ (TokenView M)} (id other : ℕ) → h ≡ k → k.board ≡ b → a ≡ b
+      → u ≡ a.table → a.table.words ≡ 65 → me ≡ (Keeper (keeping_of me.0), [])
+      → IsSeat you (sitting_of you.0)
       → (h.board.table ≡ a.table)
       × (u ≡ a.table)
       × (you.1 ≡ [])
       × (0 < a.table.words)
       × Joins IsKept id me.0 other you.0 (taken me.0 you.0) Spent
-  back_may id other is on view words keeps sits = (
-    keeper_table is on.0 view,
-    on.1 ∙ sym (same_table view),
+  back_may id other is on view there words keeps sits = (
+    keeper_table is on view,
+    there,
     ap (λ (m : Me ℕ (TokenView M)). m.1) sits,
     omega (arith, words),
     backs id _ other _ keeps sits,

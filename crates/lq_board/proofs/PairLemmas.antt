@@ -11,14 +11,12 @@ use Rattle.lq_board.specs.declared.token_views.Sitting.{Sitting}
 use Rattle.lq_board.specs.declared.token_views.TokenView.{TokenView}
 use Rattle.lq_board.specs.declared.token_views.TokenView.TheVariants.{Seat, Pair, Spent}
 use Rattle.lq_board.specs.Roll.{is_listed, without_number, changes_of_others, AreSeats}
-use Rattle.lq_board.specs.View.{paired, sitting_of, IsSeat, second_of, first_seat, of_roll, of_signs}
+use Rattle.lq_board.specs.View.{paired, IsSeat, second_of, first_seat, of_roll, of_signs}
 use Rattle.lq_board.specs.Rule.{ViewFits, BoardState, BoardRule, IsKept}
 use Rattle.lq_board.specs.Step.{Compares, Enlists, Dismisses}
 use Rattle.lq_board.proofs.RollLemmas.{seats_without, has_here, has_else, without_here, without_else, others_enlisted, others_dismissed}
 use Rattle.lq_board.proofs.AuthorLemmas.{author_same, owns_called, share_none}
 use Rattle.lq_board.proofs.ViewLemmas.{moved, numbers_apart, owns_moved, owns_here, owns_else, fits_set, fits_split, fits_join, fits_still, splits_as, joins_as}
-use Rattle.lq_board.specs.Token.{BoardName}
-use Rattle.lq_board.proofs.TokenLemmas.{same_table}
 use Rattle.lq_board.proofs.PlayLemmas.{looks, viewed}
 
 module _ {M : Type 0} where
@@ -58,17 +56,16 @@ module _ {M : Type 0} where
       ))
 
   -- what a join of two seats asks
-  pub pair_may : {t u : TableId} {a b : BoardName} {one two : Me ℕ (TokenView M)} (id other : ℕ)
-      → (t ≡ b.table) × (u ≡ b.table) → a ≡ b → a.table.words ≡ 65
-      → IsSeat one (sitting_of one.0) → IsSeat two (sitting_of two.0)
-      → (t ≡ a.table)
-      × (u ≡ a.table)
+  pub pair_may : {t u table : TableId} {one two : Me ℕ (TokenView M)} {a b : Sitting M}
+      (id other : ℕ) → t ≡ table → u ≡ table → table.words ≡ 65 → IsSeat one a → IsSeat two b
+      → (t ≡ table)
+      × (u ≡ table)
       × (two.1 ≡ [])
-      × (0 < a.table.words)
+      × (0 < table.words)
       × Joins IsKept id one.0 other two.0 (paired one.0 two.0) Spent
-  pair_may id other on view words is are = (
-    on.0 ∙ sym (same_table view),
-    on.1 ∙ sym (same_table view),
+  pair_may id other on there words is are = (
+    on,
+    there,
     ap (λ (m : Me ℕ (TokenView M)). m.1) are,
     omega (arith, words),
     pairs id _ other _ is are,

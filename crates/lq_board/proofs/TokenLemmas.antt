@@ -1,16 +1,17 @@
 -- The tokens between their steps, as the calls need them.
-use Rattle.std.proofs.Common.{◌≡◌, ℕ, ◌<◌, List, [], ◌∷◌, length, refl, sym, ap, ◌∙◌, subst, arith, None}
+use Rattle.std.proofs.Common.{◌≡◌, ℕ, ◌<◌, List, [], ◌∷◌, length, refl, sym, ap, ◌∙◌, subst, arith, None, Option, Some}
 use Rattle.std.specs.Prelude.{slice_index}
 use mathlib.Core.Option.{some, some-injective, some-ne-none}
 use lib.ListN.{get_elem?}
+use Rattle.atomic_table.specs.declared.shared.Seat.{Seat as Token}
 use Rattle.atomic_table.specs.Table.{Me, Final, Seen}
 use Rattle.lq_board.specs.declared.token_views.Keeping.{Keeping}
 use Rattle.lq_board.specs.declared.token_views.Sitting.{Sitting}
 use Rattle.lq_board.specs.declared.token_views.TokenView.{TokenView}
 use Rattle.lq_board.specs.declared.token_views.TokenView.TheVariants.{Keeper, Seat}
 use Rattle.lq_board.specs.Book.{IsFullBook}
-use Rattle.lq_board.specs.Token.{BoardName, KeeperToken, SeatToken}
-use Rattle.lq_board.specs.View.{IsKeeping, IsSitting, IsNamed, sitting_of}
+use Rattle.lq_board.specs.Token.{BoardName, KeeperToken, SeatToken, seat_token, table_of, me_of}
+use Rattle.lq_board.specs.View.{IsKeeping, IsSitting, IsNamed, sitting_of, IsSeat}
 use Rattle.lq_board.specs.Rule.{IsKept}
 use Rattle.lq_board.proofs.ViewLemmas.{after, rule_of}
 
@@ -25,11 +26,15 @@ module _ {M : Type 0} where
   keeper_table is on view =
       ap (λ (t : KeeperToken M). t.board.table) is ∙ same_table (on ∙ sym view)
 
-  -- a seat of this board is of its table
-  pub seat_table : {s t : SeatToken M} {a b : BoardName} → s ≡ t → t.board ≡ b → a ≡ b
-      → s.board.table ≡ a.table
-  seat_table is on view =
-      ap (λ (t : SeatToken M). t.board.table) is ∙ same_table (on ∙ sym view)
+  -- a seat's token, which is absent only within a call
+  pub lent : {o : Option (Token ℕ (TokenView M))} {token : Token ℕ (TokenView M)}
+      {s : SeatToken M} {a b : BoardName} → o ≡ Some token → IsSitting (me_of o)
+      → seat_token (table_of o) (me_of o) ≡ s → s.board ≡ b → a ≡ b
+      → (token.table_id ≡ a.table) × IsSeat token.me (sitting_of token.me.0)
+  lent is sits seen on view = (
+    rw is at (ap (λ (t : SeatToken M). t.board.table) seen ∙ same_table (on ∙ sym view)),
+    rw is at sits.0,
+  )
 
   -- a keeper after a seat went out
   pub is_keeping : {me now : Me ℕ (TokenView M)} {v : Keeping M} → IsKeeping me

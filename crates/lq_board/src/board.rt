@@ -8,7 +8,7 @@ ghost use Rattle.lq_board.specs.Meeting.{GoesOut};
 ghost use Rattle.lq_board.specs.Slot.{unused_slots, slot_at, come_back, counted};
 ghost use Rattle.lq_board.specs.Token.{counted_board, moment_of};
 
-use crate::step_types::{Ask, Count, See};
+use crate::step_types::{Ask, Back, Check, Count, Lead, See};
 use crate::token_views::{Law, TokenView};
 use crate::tokens::{Keeper, Seat};
 use atomic_table::Table;
@@ -85,7 +85,7 @@ impl<M> Board<M> {
           register = leader_register;
         } }
     {
-        let token = self.lead_token(keeper);
+        let token = self.table.shared.split_seat::<Lead>(&mut keeper.token);
         self.free = false;
         Seat {
             token: Some(token),
@@ -159,7 +159,11 @@ impl<M> Board<M> {
     {
         let Seat { token, slot: _ } = seat;
         let Some(token) = token else { unreachable!() };
-        self.back(keeper, token);
+        self.table
+            .shared
+            .join_seat::<Back>(&mut keeper.token, token);
+        // For the proof: this read tells what holds for the seat.
+        self.table.shared.load::<Check>(&mut keeper.token, 0);
     }
 
     /// How often a slot's seats have asked. The keeper then knows it. It takes no memory.

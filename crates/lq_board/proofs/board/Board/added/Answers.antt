@@ -1,15 +1,16 @@
 -- The seat can come back, its change be added then, and the seat go out again.
-use Rattle.std.proofs.Common.{◌∙◌, arith}
+use Rattle.std.proofs.Common.{sym, ◌∙◌, arith}
 use Rattle.lq_board.proofs.JoinLemmas.{back_may}
 use Rattle.lq_board.proofs.PlayLemmas.{adds}
 use Rattle.lq_board.proofs.SplitLemmas.{is_back, again}
-use Rattle.lq_board.proofs.TokenLemmas.{keeper_table}
+use Rattle.lq_board.proofs.TokenLemmas.{same_table, keeper_table}
 use Rattle.lq_board.proofs.ViewLemmas.{after}
 use Rattle.lq_board.proofs.board.Board.added.Goals as goal
 
 pub join_seat-requires : goal.join_seat-requires
 join_seat-requires g c =
-    back_may _ _ c.keeper.view_is c.requires.board c.self.view_is c.self.invariant.0
+    back_may _ _ c.keeper.view_is c.requires.board.0 c.self.view_is
+    (c.requires.board.1 ∙ sym (same_table c.self.view_is)) c.self.invariant.0
     c.keeper.invariant.0 c.requires.view
 
 pub fetch_add-number-requires : goal.fetch_add-number-requires

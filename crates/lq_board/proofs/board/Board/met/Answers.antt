@@ -1,15 +1,16 @@
 -- The seat can come back, the number be read then, and the seat go out again.
-use Rattle.std.proofs.Common.{refl, ◌∙◌, arith}
+use Rattle.std.proofs.Common.{sym, refl, ◌∙◌, arith}
 use Rattle.lq_board.proofs.JoinLemmas.{back_may}
 use Rattle.lq_board.proofs.PlayLemmas.{checks}
 use Rattle.lq_board.proofs.SplitLemmas.{is_back, again}
-use Rattle.lq_board.proofs.TokenLemmas.{keeper_table}
+use Rattle.lq_board.proofs.TokenLemmas.{same_table, keeper_table}
 use Rattle.lq_board.proofs.ViewLemmas.{after}
 use Rattle.lq_board.proofs.board.Board.met.Goals as goal
 
 pub join_seat-requires : goal.join_seat-requires
 join_seat-requires g c =
-    back_may _ _ c.keeper.view_is c.requires.board c.self.view_is c.self.invariant.0
+    back_may _ _ c.keeper.view_is c.requires.board.0 c.self.view_is
+    (c.requires.board.1 ∙ sym (same_table c.self.view_is)) c.self.invariant.0
     c.keeper.invariant.0 c.requires.view
 
 pub load-number-requires : goal.load-number-requires
