@@ -114,7 +114,10 @@ impl<M> Board<M> {
           register = with_seat keeper.old.register;
         } }
     {
-        let mut first = self.plain_token(keeper);
+        let Seat { token, slot: _ } = self.seat(keeper);
+        let Some(mut first) = token else {
+            unreachable!()
+        };
         let Some(second) = seat.token.take() else {
             unreachable!()
         };

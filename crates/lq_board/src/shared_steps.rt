@@ -1,38 +1,19 @@
-//! Steps on a board's words that several calls share, or that a call chooses.
+//! Steps on a board's words that a call chooses.
 ghost use Rattle.std.specs.Prelude.{◌≡◌, ◌<◌, [], ◌∷◌, length, true, false, Some};
 ghost use Rattle.lq_volume.specs.Book.{grown, state_of};
 ghost use Rattle.lq_volume.specs.Change.{after, IsLawful};
-ghost use Rattle.lq_board.specs.Author.{with_seat, with_opening, new_author, with_author, with_change};
+ghost use Rattle.lq_board.specs.Author.{with_opening, new_author, with_author, with_change};
 ghost use Rattle.lq_board.specs.Book.{IsFullBook};
 ghost use Rattle.lq_board.specs.Slot.{slot_at, gone_out};
-ghost use Rattle.lq_board.specs.Token.{moment_of};
 ghost use Rattle.lq_board.specs.View.{sitting_of, plain, IsSeat};
 ghost use Rattle.lq_board.specs.Return.{GoesOutAgain};
 
 use crate::board::Board;
-use crate::step_types::{Add, Again, Back, Check, Chosen, Open, Plain};
+use crate::step_types::{Add, Again, Back, Check, Chosen, Open};
 use crate::tokens::{Keeper, Token};
 use lq_volume::{Change, accepted_changes_keep_trees};
 
 impl<M> Board<M> {
-    // Splits a new seat of no slot off the keeper.
-    pub(crate) fn plain_token(&self, keeper: &mut Keeper<M>) -> Token<M>
-        requires board { keeper.old.board ≡ self.now }
-        ensures board { record { table = result.table_id; free = keeper.old.register.free }
-            ≡ keeper.old.board }
-        ensures free { keeper.old.register.free ≡ keeper.old.board.free }
-        ensures view { IsSeat result.me (
-            record (plain keeper.old.book (new_author keeper.old.register)) {
-              moments = moment_of keeper.old ∷ [];
-            }) }
-        ensures full { IsFullBook keeper.old.book }
-        ensures keeper { keeper.new ≡ record keeper.old {
-          register = with_seat keeper.old.register;
-        } }
-    {
-        self.table.shared.split_seat::<Plain>(&mut keeper.token)
-    }
-
     // Splits a slot's new seat off the keeper. `slot` is for the proof: the call takes W's slot
     // from it.
     pub(crate) fn slot_token<W: Chosen<M>>(&self, keeper: &mut Keeper<M>, slot: u64) -> Token<M>
