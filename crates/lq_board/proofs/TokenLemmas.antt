@@ -1,19 +1,17 @@
 -- The tokens between their steps, as the calls need them.
-use Rattle.std.proofs.Common.{◌≡◌, ℕ, ◌<◌, List, [], ◌∷◌, length, refl, sym, ap, ◌∙◌, subst, arith, None, Option, Some}
+use Rattle.std.proofs.Common.{◌≡◌, ℕ, List, [], ◌∷◌, length, sym, ap, ◌∙◌, Option, Some}
 use Rattle.std.specs.Prelude.{slice_index}
 use mathlib.Core.Option.{some, some-injective, some-ne-none}
 use lib.ListN.{get_elem?}
 use Rattle.atomic_table.specs.declared.shared.Seat.{Seat as Token}
 use Rattle.atomic_table.specs.Table.{Me, Final, Seen}
 use Rattle.lq_board.specs.declared.token_views.Keeping.{Keeping}
-use Rattle.lq_board.specs.declared.token_views.Sitting.{Sitting}
 use Rattle.lq_board.specs.declared.token_views.TokenView.{TokenView}
-use Rattle.lq_board.specs.declared.token_views.TokenView.TheVariants.{Keeper, Seat}
-use Rattle.lq_board.specs.Book.{IsFullBook}
+use Rattle.lq_board.specs.declared.token_views.TokenView.TheVariants.{Keeper}
 use Rattle.lq_board.specs.Token.{BoardName, KeeperToken, SeatToken, seat_token, table_of, me_of}
-use Rattle.lq_board.specs.View.{IsKeeping, IsSitting, IsNamed, sitting_of, IsSeat}
+use Rattle.lq_board.specs.View.{IsSitting, sitting_of, IsSeat}
 use Rattle.lq_board.specs.Rule.{IsKept}
-use Rattle.lq_board.proofs.ViewLemmas.{after, rule_of}
+use Rattle.lq_board.proofs.ViewLemmas.{rule_of}
 
 -- one board has one table
 pub same_table : {a b : BoardName} → a ≡ b → a.table ≡ b.table
@@ -35,25 +33,6 @@ module _ {M : Type 0} where
     rw is at (ap (λ (t : SeatToken M). t.board.table) seen ∙ same_table (on ∙ sym view)),
     rw is at sits.0,
   )
-
-  -- a keeper after a seat went out
-  pub is_keeping : {me now : Me ℕ (TokenView M)} {v : Keeping M} → IsKeeping me
-      → now ≡ (Keeper v, me.1) → length v.slots ≡ 65 → IsFullBook v.book → IsKeeping now
-  is_keeping k is wide full = subst IsKeeping (sym (after k.0 is)) (refl, wide, full)
-
-  -- a seat that went out
-  pub is_sitting : {me : Me ℕ (TokenView M)} {w : Sitting M} → me ≡ (Seat w, [])
-      → IsFullBook w.book → 0 < w.author.number → w.slot < 65 → IsNamed w.slot w.asks w.name
-      → IsSitting me
-      × (w.slot ≡ (sitting_of me.0).slot)
-      × (w.slot < 65)
-      × IsNamed (sitting_of me.0).slot (sitting_of me.0).asks (sitting_of me.0).name
-  is_sitting is full number within named = rw is ((refl, full, number), refl, within, named)
-
-  -- a seat of no slot has no name
-  pub is_plain : IsNamed {M = M} 0 0 None
-  is_plain =
-      record { named = λ (lt : 0 < 0). absurd (omega arith); plain = λ _. (refl, refl) }
 
   -- the last number is the length of the keeper's book
   pub closes : (id : ℕ) {me : Me ℕ (TokenView M)} (v : Keeping M) (words other : List ℕ)
