@@ -24,7 +24,7 @@ module _ {M : Type 0} where
       let k = rule_of s kept id v at in
       let now : Keeping M = keeping_of (taken (Keeper v) (Seat w)) in
       let b : BoardState M =
-      record { id = id; view = now; roll = moved kept.0.roll w.author.number id; holder = kept.0.holder } in
+      record kept.0 { id = id; view = now; roll = moved kept.0.roll w.author.number id } in
       let seat =
       k.fits other (Seat w) (sym (set_else s.views id other (Keeper now) apart) ∙ there) in (
         b,

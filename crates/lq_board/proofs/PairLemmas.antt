@@ -82,11 +82,12 @@ module _ {M : Type 0} where
         (refl, fit.2, share_none fit.0.1.author fit.1.1.author fit.2),
       ))
 
-  -- what the rule knows, and the rule, where the leading seat's roll is known
+  -- what the rule knows, with this roll
   abbrev rolled : BoardState M → List ℕ → List ℕ → BoardState M
   rolled b enlisted gathered =
       record b { roll = record b.roll { enlisted = enlisted; gathered = gathered } }
 
+  -- the rule, where the roll is that of the leading seat
   led_by : (s : State ℕ (TokenView M)) (kept : IsKept s) (id : ℕ) (a b : Sitting M)
       → a.author.leads ≡ true → get_elem? s.views id ≡ some (Pair a b)
       → BoardRule (rolled kept.0 a.author.enlisted a.author.gathered) s.words s.views

@@ -43,12 +43,12 @@ leader =
       gathered = [];
     }
 
+abbrev pub leader_register : Register
+leader_register = record { authors = []; seats = 1; openings = 0; free = false }
+
 -- no author, and no change
 abbrev pub no_author : Author
 no_author = record leader { number = 0; free = true; leads = false }
-
-abbrev pub leader_register : Register
-leader_register = record { authors = []; seats = 1; openings = 0; free = false }
 
 -- one seat more, and that seat, which made no change
 abbrev pub with_seat : Register → Register

@@ -40,8 +40,8 @@ impl<M> Board<M> {
         self.table.shared.split_seat::<Open<W>>(&mut keeper.token)
     }
 
-    // Takes a seat back, which goes out again under the name that the call chooses. The keeper reads
-    // the number in between, which proves what holds for that seat.
+    // Takes a seat back, which goes out again under the name that the call chooses. The number that
+    // the keeper reads in between proves what holds for that seat.
     pub(crate) fn met<W: Chosen<M>>(
         &self,
         keeper: &mut Keeper<M>,

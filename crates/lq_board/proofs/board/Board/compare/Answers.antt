@@ -33,5 +33,6 @@ split_seat-requires g c =
     c.requires.board.0 c.self.view_is in (
       c.load.ensures.0 ∙ c.join_seat.ensures.0 ∙ one.0,
       omega (arith, c.self.invariant.0),
-      unpairs _ _ _ (λ v. (second_of v).moments) (c.load.ensures.2.0 ∙ after one.1 c.join_seat.ensures.2),
+      unpairs _ _ _ (λ v. (second_of v).moments)
+          (c.load.ensures.2.0 ∙ after one.1 c.join_seat.ensures.2),
     )
