@@ -1,102 +1,147 @@
 -- Who made each change, where one change more is made, or one seat more goes out.
-use Rattle.std.proofs.Common.{◌≡◌, ◌≢◌, ℕ, ◌+◌, List, [], ◌∷◌, ◌++◌, length, refl, sym, ap, ◌∙◌, subst, arith, length-append, Contains}
+use Rattle.std.proofs.Common.{◌≡◌, ◌≢◌, ℕ, ◌+◌, ◌≤◌, Bool, true, true≢false, List, [], ◌∷◌, ◌++◌, length, refl, sym, ap, ◌∙◌, arith, length-append}
 use Rattle.lq_volume.specs.declared.change.Change.{Change}
 use Rattle.lq_volume.specs.Book.{Book, grown}
 use Rattle.lq_board.specs.declared.token_views.Author.{Author}
 use Rattle.lq_board.specs.declared.token_views.Register.{Register}
-use Rattle.lq_board.specs.Roll.{changes_by}
-use Rattle.lq_board.specs.Author.{IsSigned, IsAuthor, AreDisjoint, new_author, with_author, with_change}
-use Rattle.lq_board.proofs.RollLemmas.{own_more, else_more, seats_more, seats_later, none_by, one_author}
+use Rattle.lq_board.specs.Book.{IsFullBook}
+use Rattle.lq_board.specs.Roll.{is_listed}
+use Rattle.lq_board.specs.Author.{IsAuthor, AreDisjoint, new_author, with_author, with_change}
+use Rattle.lq_board.specs.Rule.{BookFits, Roll, Owns}
+use Rattle.lq_board.proofs.RollLemmas.{own_after, else_after, seats_more, seats_later, none_after, none_has, one_author, others_added}
+use Rattle.lq_board.proofs.ViewLemmas.{owner_here, owner_else, moved, numbers_apart}
 
 -- the register, where one seat more has a number, and so many openings are counted
 abbrev pub numbered : (ℕ → ℕ) → Register → Register
 numbered f r = record r { seats = r.seats + 1; openings = f r.openings }
 
--- it is signed as before
-pub signed_seat : (f : ℕ → ℕ) (book : Book) (r : Register) → IsSigned book r
-    → IsSigned book (numbered f r)
-signed_seat f book r s =
-    record { each = s.each; seats = seats_later r.seats r.authors s.seats }
+-- its book fits as before
+pub fits_later : (f : ℕ → ℕ) (book : Book) (r : Register) (roll : Roll) → BookFits book r roll
+    → BookFits book (numbered f r) roll
+fits_later f book r roll b =
+    record {
+      full = b.full;
+      signed =
+          record { each = b.signed.each; seats = seats_later r.seats r.authors b.signed.seats };
+      enlisted = seats_later r.seats roll.enlisted b.enlisted;
+      gathered = b.gathered;
+    }
 
 -- that seat as an author
-pub author_new : (f : ℕ → ℕ) (book : Book) (r : Register) → IsSigned book r
-    → IsAuthor (new_author r) (numbered f r)
-author_new f book r s =
+pub owns_new : (f : ℕ → ℕ) (n : ℕ) (book : Book) (r : Register) (roll : Roll)
+    → BookFits book r roll → Owns (numbered f r) (moved roll (r.seats + 1) n) n (new_author r)
+owns_new f n book r roll b =
     record {
-      least = omega arith;
-      most = omega arith;
-      changes = sym (none_by r.seats (r.seats + 1) r.authors (omega arith) s.seats);
-      free = refl;
+      author =
+          record {
+            least = omega arith;
+            most = omega arith;
+            changes =
+                sym (none_after 0 r.seats (r.seats + 1) r.authors (omega arith) b.signed.seats);
+            free = refl;
+          };
+      only = sym (owner_here roll.who (r.seats + 1) n);
+      signs = λ counted.
+          counted
+          ∙ sym (none_has r.seats (r.seats + 1) roll.enlisted (omega arith) b.enlisted);
+      leads = λ is. absurd (true≢false (sym is));
     }
 
--- the register, where one change more has an author
-pub signed_more : (book : Book) (r : Register) (a : Author) (x : Change) → IsSigned book r
-    → IsAuthor a r → IsSigned (grown book (x ∷ [])) (with_author r a.number)
-signed_more book r a x s mine =
+-- another author, where one seat more has a number
+pub owns_later : {r : Register} {roll : Roll} {by : ℕ} {a : Author} (f : ℕ → ℕ) (n : ℕ)
+    → Owns r roll by a → Owns (numbered f r) (moved roll (r.seats + 1) n) by a
+owns_later {r = r} {roll = roll} {a = a} f n o =
+    let is = o.author in
+    let most : a.number ≤ r.seats + 1 = omega (arith, is.most) in
     record {
-      each =
-          length-append r.authors (a.number ∷ [])
-          ∙ ap (λ (n : ℕ). n + 1) s.each
-          ∙ sym (length-append book.changes (x ∷ []));
-      seats = seats_more r.seats a.number r.authors mine.least mine.most s.seats;
+      author = record { least = is.least; most = most; changes = is.changes; free = is.free };
+      only =
+          o.only
+          ∙ sym (owner_else roll.who (r.seats + 1) n a.number (λ e. omega (arith, e, is.most)));
+      signs = o.signs;
+      leads = o.leads;
     }
 
--- its author has one change more
-pub author_more : (book : Book) (r : Register) (a : Author) → IsSigned book r → IsAuthor a r
-    → IsAuthor (with_change a (length book.changes + 1)) (with_author r a.number)
-author_more book r a s mine =
+-- the book, where an author that may make changes makes one more
+pub fits_more : (book : Book) (r : Register) (roll : Roll) (by : ℕ) (a : Author) (x : Change)
+    → IsFullBook (grown book (x ∷ [])) → a.signs ≡ true → Owns r roll by a → BookFits book r roll
+    → BookFits (grown book (x ∷ [])) (with_author r a.number) roll
+fits_more book r roll by a x full may o b =
     record {
-      least = mine.least;
-      most = mine.most;
-      changes =
-          ap (λ (l : List ℕ). l ++ (length book.changes + 1) ∷ []) mine.changes
-          ∙ ap (λ (n : ℕ). changes_by a.number r.authors ++ (n + 1) ∷ []) (sym s.each)
-          ∙ sym (own_more a.number r.authors);
-      free = mine.free;
+      full = full;
+      signed =
+          record {
+            each = omega (
+              arith,
+              length-append r.authors (a.number ∷ []),
+              length-append book.changes (x ∷ []),
+              b.signed.each,
+            );
+            seats =
+                seats_more r.seats a.number r.authors o.author.least o.author.most b.signed.seats;
+          };
+      enlisted = b.enlisted;
+      gathered = λ counted.
+          b.gathered counted
+          ∙ sym (others_added 0 a.number roll.enlisted r.authors (sym (o.signs counted) ∙ may));
+    }
+
+-- that author
+pub owns_more : (book : Book) (r : Register) (roll : Roll) (by : ℕ) (a : Author)
+    → Owns r roll by a → BookFits book r roll
+    → Owns (with_author r a.number) roll by (with_change a (length book.changes + 1))
+owns_more book r roll by a o b =
+    let is = o.author in
+    let n : ℕ = length book.changes + 1 in
+    let more = own_after 0 a.number n r.authors (omega (arith, b.signed.each)) in
+    let changes = ap (λ (l : List ℕ). l ++ n ∷ []) is.changes ∙ sym more in
+    record {
+      author = record { least = is.least; most = is.most; changes = changes; free = is.free };
+      only = o.only;
+      signs = o.signs;
+      leads = o.leads;
     }
 
 -- another author knows what it knew
-pub author_else : (r : Register) (a : Author) (other : ℕ) → other ≢ a.number → IsAuthor a r
-    → IsAuthor a (with_author r other)
-author_else r a other ne mine =
+pub owns_added : {r : Register} {roll : Roll} {at by : ℕ} {a b : Author} → Owns r roll at b
+    → by ≢ at → Owns r roll by a → Owns (with_author r b.number) roll by a
+owns_added {r = r} {a = a} {b = b} mine apart o =
+    let is = o.author in
+    let same =
+    else_after 0 a.number b.number r.authors (λ e. numbers_apart mine apart o (sym e)) in
+    let changes = is.changes ∙ sym same in
     record {
-      least = mine.least;
-      most = mine.most;
-      changes = mine.changes ∙ sym (else_more a.number other r.authors ne);
-      free = mine.free;
-    }
-
--- the same, where one seat more has a number
-pub author_later : (f : ℕ → ℕ) (r : Register) (a : Author) → IsAuthor a r
-    → IsAuthor a (numbered f r)
-author_later f r a mine =
-    let most = mine.most in
-    record {
-      least = mine.least;
-      most = omega (arith, most);
-      changes = mine.changes;
-      free = mine.free;
+      author = record { least = is.least; most = is.most; changes = changes; free = is.free };
+      only = o.only;
+      signs = o.signs;
+      leads = o.leads;
     }
 
 -- an author, where it knows other things of other authors, or may make changes or no more
-pub author_same : (r : Register) (a b : Author) → b.number ≡ a.number → b.changes ≡ a.changes
-    → b.free ≡ a.free → IsAuthor a r → IsAuthor b r
-author_same r a b number changes free is =
-    let least = is.least in
-    let most = is.most in
+pub author_same : {r : Register} {a : Author} (signs : Bool) (enlisted gathered : List ℕ)
+    → IsAuthor a r
+    → IsAuthor (record a { signs = signs; enlisted = enlisted; gathered = gathered }) r
+author_same signs enlisted gathered is =
+    record { least = is.least; most = is.most; changes = is.changes; free = is.free }
+
+-- an author that doesn't lead, where others are enlisted or dismissed
+pub owns_called : {r : Register} {roll : Roll} {by : ℕ} {a : Author} (enlisted gathered : List ℕ)
+    → a.number ≢ 1 → is_listed a.number enlisted ≡ is_listed a.number roll.enlisted
+    → Owns r roll by a
+    → Owns r (record roll { enlisted = enlisted; gathered = gathered }) by a
+owns_called enlisted gathered ne same o =
     record {
-      least = omega (arith, number, least);
-      most = omega (arith, number, most);
-      changes = changes ∙ is.changes ∙ ap (λ (n : ℕ). changes_by n r.authors) (sym number);
-      free = free ∙ is.free;
+      author = o.author;
+      only = o.only;
+      signs = λ counted. o.signs counted ∙ sym same;
+      leads = λ is. absurd (ne (o.leads is).number);
     }
 
 -- authors of different numbers share no change
-pub share_none : (one two : Author) (r : Register) → IsAuthor one r → IsAuthor two r
+pub share_none : {one two : Author} {r : Register} → IsAuthor one r → IsAuthor two r
     → one.number ≢ two.number → AreDisjoint one.changes two.changes
-share_none one two r is are ne =
+share_none {one = one} {two = two} {r = r} is are ne =
     record {
-      none = λ k h g. one_author 0 one.number two.number k r.authors ne
-          (subst (λ (l : List ℕ). Contains l k) is.changes h)
-          (subst (λ (l : List ℕ). Contains l k) are.changes g);
+      none = λ k h g. one_author one.number two.number k r.authors ne (rw is.changes at h)
+          (rw are.changes at g);
     }

@@ -1,13 +1,13 @@
--- Read in this order: BookLemmas (the book), RollLemmas and AuthorLemmas (who made which change),
--- SlotLemmas (the words), ViewLemmas (who sees what); PlayLemmas, SplitLemmas, JoinLemmas and
--- PairLemmas (each step keeps the rule); TokenLemmas (what the calls cite).
+-- Read in this order: BookLemmas (the book), RollLemmas (who made which change), SlotLemmas (the
+-- words), ViewLemmas (who sees what), AuthorLemmas (the authors); TokenLemmas (what is known of a
+-- token); PlayLemmas, SplitLemmas, JoinLemmas and PairLemmas (each step keeps the rule).
 pub mod BookLemmas
 pub mod RollLemmas
-pub mod AuthorLemmas
 pub mod SlotLemmas
 pub mod ViewLemmas
+pub mod AuthorLemmas
+pub mod TokenLemmas
 pub mod PlayLemmas
 pub mod SplitLemmas
 pub mod JoinLemmas
 pub mod PairLemmas
-pub mod TokenLemmas

@@ -26,19 +26,7 @@ pub record AreDisjoint (one two : List ℕ) : Type 0 where
 abbrev pub IsWhole : Author → ℕ → Type 0
 IsWhole a n = a.leads ≡ true → a.enlisted ≡ [] → a.gathered ≡ numbers n
 
--- no author, no change and no seat
-abbrev pub no_author : Author
-no_author =
-    record {
-      number = 0;
-      changes = [];
-      free = true;
-      signs = false;
-      leads = false;
-      enlisted = [];
-      gathered = [];
-    }
-
+-- no author and no seat
 abbrev pub no_register : Register
 no_register = record { authors = []; seats = 0; openings = 0; free = true }
 
@@ -57,6 +45,10 @@ leader =
 
 abbrev pub leader_register : Register
 leader_register = record { authors = []; seats = 1; openings = 0; free = false }
+
+-- no author, and no change
+abbrev pub no_author : Author
+no_author = record leader { number = 0; free = true; leads = false }
 
 -- one seat more, and that seat, which made no change
 abbrev pub with_seat : Register → Register

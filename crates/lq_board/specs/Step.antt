@@ -7,9 +7,9 @@ use Rattle.lq_board.specs.declared.token_views.TokenView.{TokenView}
 use Rattle.lq_board.specs.declared.token_views.TokenView.TheVariants.{Keeper, Seat, Pair}
 use Rattle.lq_board.specs.Book.{IsFullBook}
 use Rattle.lq_board.specs.Roll.{IsMerged, without_number}
-use Rattle.lq_board.specs.Author.{AreDisjoint, IsWhole, with_author, with_change, with_signs, with_roll}
+use Rattle.lq_board.specs.Author.{AreDisjoint, IsWhole, with_author, with_change}
 use Rattle.lq_board.specs.Slot.{slot_at, counted}
-use Rattle.lq_board.specs.View.{keeper, keeping_of, sitting_of, first_sitting, second_of}
+use Rattle.lq_board.specs.View.{keeper, keeping_of, sitting_of, first_sitting, second_of, of_roll, of_signs}
 use Rattle.lq_board.specs.Rule.{CameBack}
 
 module _ {M : Type 0} where
@@ -21,25 +21,8 @@ module _ {M : Type 0} where
       let book = grown was.book (option_to_list change) in
       let author = with_change was.back.author (length was.book.changes + 1) in
       let register = with_author was.register was.back.author.number in
-      (n
-      ≡ (
-        Keeper (record {
-          book = book;
-          slots = was.slots;
-          register = register;
-          back =
-              record {
-                slot = was.back.slot;
-                book = book;
-                asks = was.back.asks;
-                name = was.back.name;
-                author = author;
-                moments = was.back.moments;
-              };
-          was = was.was;
-        }),
-        m.1,
-      ))
+      let back = record was.back { book = book; author = author } in
+      (n ≡ (Keeper (record was { book = book; register = register; back = back }), m.1))
       × (found ≡ length was.book.changes)
       × IsFullBook book
       × CameBack was.book was.back was.was
@@ -49,18 +32,7 @@ module _ {M : Type 0} where
   Sees s m found n =
       let was = sitting_of m.0 in
       let book = (sitting_of n.0).book in
-      (n
-      ≡ (
-        Seat (record {
-          slot = was.slot;
-          book = book;
-          asks = was.asks;
-          name = was.name;
-          author = was.author;
-          moments = was.moments;
-        }),
-        m.1,
-      ))
+      (n ≡ (Seat (record was { book = book }), m.1))
       × Extends book was.book
       × (found ≡ length book.changes)
       × IsFullBook book
@@ -87,19 +59,7 @@ module _ {M : Type 0} where
   abbrev pub AsksAgain : Step ℕ → Me ℕ (TokenView M) → ℕ → Me ℕ (TokenView M) → Type 0
   AsksAgain s m found n =
       let was = sitting_of m.0 in
-      (n
-      ≡ (
-        Seat (record {
-          slot = was.slot;
-          book = was.book;
-          asks = was.asks + 1;
-          name = was.name;
-          author = was.author;
-          moments = was.moments;
-        }),
-        m.1,
-      ))
-      × (found ≡ was.asks)
+      (n ≡ (Seat (record was { asks = was.asks + 1 }), m.1)) × (found ≡ was.asks)
 
   -- two seats are two authors, who share no change
   abbrev pub Compares : Step ℕ → Me ℕ (TokenView M) → ℕ → Me ℕ (TokenView M) → Type 0
@@ -114,13 +74,7 @@ module _ {M : Type 0} where
       let a = first_sitting m.0 in
       let b = second_of m.0 in
       let enlisted = b.author.number ∷ a.author.enlisted in
-      n
-      ≡ (
-        Pair
-            (record a { author = with_roll a.author enlisted a.author.gathered })
-            (record b { author = with_signs b.author true }),
-        m.1,
-      )
+      n ≡ (Pair (of_roll a enlisted a.author.gathered) (of_signs b true), m.1)
 
   -- the first seat of a pair leads, and dismisses the second
   abbrev pub Dismisses : Step ℕ → Me ℕ (TokenView M) → ℕ → Me ℕ (TokenView M) → Type 0
@@ -129,11 +83,5 @@ module _ {M : Type 0} where
       let b = second_of m.0 in
       let enlisted = without_number b.author.number a.author.enlisted in
       let gathered = (first_sitting n.0).author.gathered in
-      (n
-      ≡ (
-        Pair
-            (record a { author = with_roll a.author enlisted gathered })
-            (record b { author = with_signs b.author false }),
-        m.1,
-      ))
+      (n ≡ (Pair (of_roll a enlisted gathered) (of_signs b false), m.1))
       × IsMerged a.author.gathered b.author.changes gathered

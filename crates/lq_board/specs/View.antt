@@ -1,5 +1,5 @@
 -- What a token knows, before and after a step.
-use Rattle.std.specs.Prelude.{◌≡◌, ℕ, ◌<◌, List, [], ◌∷◌, ◌++◌, length, Option, None, IsSome}
+use Rattle.std.specs.Prelude.{◌≡◌, ℕ, ◌<◌, Bool, List, [], ◌∷◌, ◌++◌, length, Option, None, IsSome}
 use Rattle.atomic_table.specs.Table.{Me}
 use Rattle.lq_volume.specs.State.{State}
 use Rattle.lq_volume.specs.Book.{Book}
@@ -10,9 +10,9 @@ use Rattle.lq_board.specs.declared.token_views.Moment.{Moment}
 use Rattle.lq_board.specs.declared.token_views.Sitting.{Sitting}
 use Rattle.lq_board.specs.declared.token_views.Keeping.{Keeping}
 use Rattle.lq_board.specs.declared.token_views.TokenView.{TokenView}
-use Rattle.lq_board.specs.declared.token_views.TokenView.TheVariants.{Keeper, Seat, Pair, Spent}
+use Rattle.lq_board.specs.declared.token_views.TokenView.TheVariants.{Keeper, Seat, Pair}
 use Rattle.lq_board.specs.Book.{no_book, IsFullBook}
-use Rattle.lq_board.specs.Author.{no_author, no_register, leader, leader_register, with_seat, with_opening, new_author}
+use Rattle.lq_board.specs.Author.{no_author, no_register, leader, leader_register, with_seat, with_opening, new_author, with_signs, with_roll}
 use Rattle.lq_board.specs.Slot.{unused, unused_slots, slot_at, gone_out, go_out, come_back}
 
 module _ {M : Type 0} where
@@ -41,34 +41,33 @@ module _ {M : Type 0} where
 
   abbrev pub keeping_of : TokenView M → Keeping M
   keeping_of (Keeper v) = v
-  keeping_of (Seat w) = keeping no_book [] no_register
-  keeping_of (Pair a b) = keeping no_book [] no_register
-  keeping_of Spent = keeping no_book [] no_register
+  keeping_of _ = keeping no_book [] no_register
 
   abbrev pub sitting_of : TokenView M → Sitting M
-  sitting_of (Keeper v) = plain no_book no_author
   sitting_of (Seat w) = w
-  sitting_of (Pair a b) = plain no_book no_author
-  sitting_of Spent = plain no_book no_author
+  sitting_of _ = plain no_book no_author
 
   -- two seats, the first of no slot, while a call compares them
   abbrev pub first_sitting : TokenView M → Sitting M
-  first_sitting (Keeper v) = plain no_book no_author
-  first_sitting (Seat w) = plain no_book no_author
   first_sitting (Pair a b) = a
-  first_sitting Spent = plain no_book no_author
+  first_sitting _ = plain no_book no_author
 
   abbrev pub second_of : TokenView M → Sitting M
-  second_of (Keeper v) = plain no_book no_author
-  second_of (Seat w) = plain no_book no_author
   second_of (Pair a b) = b
-  second_of Spent = plain no_book no_author
+  second_of _ = plain no_book no_author
 
   abbrev pub paired : TokenView M → TokenView M → TokenView M
   paired v w = Pair (sitting_of v) (sitting_of w)
 
   abbrev pub of_no_slot : Sitting M → Sitting M
   of_no_slot w = record w { slot = 0 }
+
+  -- a seat that leads these and has gathered these changes, or that may make changes or may not
+  abbrev pub of_roll : Sitting M → List ℕ → List ℕ → Sitting M
+  of_roll w enlisted gathered = record w { author = with_roll w.author enlisted gathered }
+
+  abbrev pub of_signs : Sitting M → Bool → Sitting M
+  of_signs w signs = record w { author = with_signs w.author signs }
 
   -- the second has noted the first's moments too
   abbrev pub second_noted : TokenView M → TokenView M
@@ -82,10 +81,6 @@ module _ {M : Type 0} where
   abbrev pub second_seat : TokenView M → TokenView M
   second_seat v = Seat (second_of v)
 
-  -- what a keeper has at a moment
-  abbrev pub moment_in : Keeping M → Moment M
-  moment_in v = record { book = v.book; slots = v.slots; openings = v.register.openings }
-
   -- the keeper and the seat after a new seat of no slot is split off, which has noted this moment
   abbrev pub with_new_seat : TokenView M → TokenView M
   with_new_seat v =
@@ -93,9 +88,10 @@ module _ {M : Type 0} where
 
   abbrev pub copy_of : TokenView M → TokenView M
   copy_of v =
-      Seat (record (plain (keeping_of v).book (new_author (keeping_of v).register)) {
-        moments = moment_in (keeping_of v) ∷ [];
-      })
+      let k = keeping_of v in
+      let moment : Moment M =
+      record { book = k.book; slots = k.slots; openings = k.register.openings } in
+      Seat (record (plain k.book (new_author k.register)) { moments = moment ∷ [] })
 
   -- the keeper and the seat after the leading seat is split off
   abbrev pub led : TokenView M → TokenView M
@@ -111,15 +107,10 @@ module _ {M : Type 0} where
       (with_opening (keeping_of v).register)
 
   abbrev pub seated : ℕ → Option M → TokenView M → TokenView M
-  seated k name v =
-      Seat (record {
-        slot = k;
-        book = (keeping_of v).book;
-        asks = (slot_at (keeping_of v).slots k).asks;
-        name = name;
-        author = new_author (keeping_of v).register;
-        moments = [];
-      })
+  seated slot name v =
+      let k = keeping_of v in
+      let asks = (slot_at k.slots slot).asks in
+      Seat (record (plain k.book (new_author k.register)) { slot = slot; asks = asks; name = name })
 
   -- the keeper and the seat after the latest seat that came back is split off again, under this
   -- name
@@ -130,25 +121,15 @@ module _ {M : Type 0} where
 
   abbrev pub again_of : Option M → TokenView M → TokenView M
   again_of name v =
-      let back = (keeping_of v).back in
-      Seat (record {
-        slot = back.slot;
-        book = (keeping_of v).book;
-        asks = back.asks;
-        name = name;
-        author = back.author;
-        moments = back.moments;
-      })
+      Seat (record (keeping_of v).back { book = (keeping_of v).book; name = name })
 
   -- the keeper after a seat comes back
   abbrev pub taken : TokenView M → TokenView M → TokenView M
   taken v w =
       let back = sitting_of w in
       let slots = (keeping_of v).slots in
-      Keeper (record {
-        book = (keeping_of v).book;
+      Keeper (record (keeping_of v) {
         slots = come_back slots back.slot back.asks back.name;
-        register = (keeping_of v).register;
         back = back;
         was = slot_at slots back.slot;
       })
@@ -166,6 +147,9 @@ module _ {M : Type 0} where
     pub plain : slot ≡ 0 → (asks ≡ 0) × (name ≡ None)
 
   -- a seat that isn't spent
+  abbrev pub IsSeat : Me ℕ (TokenView M) → Sitting M → Type 0
+  IsSeat me w = me ≡ (Seat w, [])
+
   abbrev pub IsSitting : Me ℕ (TokenView M) → Type 0
   IsSitting me =
       (me ≡ (Seat (sitting_of me.0), []))

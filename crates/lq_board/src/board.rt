@@ -8,7 +8,7 @@ ghost use Rattle.lq_board.specs.Meeting.{GoesOut};
 ghost use Rattle.lq_board.specs.Slot.{unused_slots, slot_at, come_back, counted};
 ghost use Rattle.lq_board.specs.Token.{counted_board, moment_of};
 
-use crate::step_types::{Ask, Count, See};
+use crate::step_types::{Ask, Back, Check, Count, Lead, Plain, See};
 use crate::token_views::{Law, TokenView};
 use crate::tokens::{Keeper, Seat};
 use atomic_table::Table;
@@ -85,7 +85,7 @@ impl<M> Board<M> {
           register = leader_register;
         } }
     {
-        let token = self.lead_token(keeper);
+        let token = self.table.shared.split_seat::<Lead>(&mut keeper.token);
         self.free = false;
         Seat {
             token: Some(token),
@@ -93,8 +93,8 @@ impl<M> Board<M> {
         }
     }
 
-    /// A seat of no slot, with a new number, which knows the keeper's book and has noted this moment
-    /// of the keeper. It takes no memory.
+    /// A seat of no slot, with a new number, which knows the keeper's book and has noted this
+    /// moment of the keeper. It takes no memory.
     ///
     /// It may make changes just where no seat leads.
     pub fn seat(&self, keeper: &mut Keeper<M>) -> Seat<M>
@@ -115,7 +115,7 @@ impl<M> Board<M> {
         } }
     {
         Seat {
-            token: Some(self.plain_token(keeper)),
+            token: Some(self.table.shared.split_seat::<Plain>(&mut keeper.token)),
             slot: 0,
         }
     }
@@ -159,7 +159,11 @@ impl<M> Board<M> {
     {
         let Seat { token, slot: _ } = seat;
         let Some(token) = token else { unreachable!() };
-        self.back(keeper, token);
+        self.table
+            .shared
+            .join_seat::<Back>(&mut keeper.token, token);
+        // For the proof: this read tells what holds for the seat.
+        self.table.shared.load::<Check>(&mut keeper.token, 0);
     }
 
     /// How often a slot's seats have asked. The keeper then knows it. It takes no memory.

@@ -9,6 +9,7 @@ ghost use Rattle.lq_board.specs.Roll.{IsMerged, without_number};
 ghost use Rattle.lq_board.specs.Token.{moment_of};
 
 use crate::board::Board;
+use crate::step_types::{Compare, Dismiss, Enlist, Note, Part, Together};
 use crate::tokens::{Keeper, Seat};
 use lq_volume::Change;
 use std::marker::Brand;
@@ -113,11 +114,15 @@ impl<M> Board<M> {
           register = with_seat keeper.old.register;
         } }
     {
-        let first = self.plain_token(keeper);
+        let Seat { token, slot: _ } = self.seat(keeper);
+        let Some(mut first) = token else {
+            unreachable!()
+        };
         let Some(second) = seat.token.take() else {
             unreachable!()
         };
-        seat.token = Some(self.noted(first, second));
+        self.table.shared.join_seat::<Together>(&mut first, second);
+        seat.token = Some(self.table.shared.split_seat::<Note>(&mut first));
     }
 
     /// Compares two seats, for contracts alone: they are two authors. The first is of no slot.
@@ -131,15 +136,16 @@ impl<M> Board<M> {
         ensures one { one.new ≡ one.old }
         ensures two { two.new ≡ two.old }
     {
-        let Some(first) = one.token.take() else {
+        let Some(mut first) = one.token.take() else {
             unreachable!()
         };
         let Some(second) = two.token.take() else {
             unreachable!()
         };
-        let (first, second) = self.compared(first, second);
+        self.table.shared.join_seat::<Together>(&mut first, second);
+        self.table.shared.load::<Compare>(&mut first, 0);
+        two.token = Some(self.table.shared.split_seat::<Part>(&mut first));
         one.token = Some(first);
-        two.token = Some(second);
     }
 
     /// The leading seat enlists another, which made no change and may make changes from then on.
@@ -158,15 +164,16 @@ impl<M> Board<M> {
           author = with_signs other.old.author true;
         } }
     {
-        let Some(first) = head.token.take() else {
+        let Some(mut first) = head.token.take() else {
             unreachable!()
         };
         let Some(second) = other.token.take() else {
             unreachable!()
         };
-        let (first, second) = self.enlisted(first, second);
+        self.table.shared.join_seat::<Together>(&mut first, second);
+        self.table.shared.load::<Enlist>(&mut first, 0);
+        other.token = Some(self.table.shared.split_seat::<Part>(&mut first));
         head.token = Some(first);
-        other.token = Some(second);
     }
 
     /// The leading seat gathers the changes of an enlisted seat, which may then make no more.
@@ -188,14 +195,15 @@ impl<M> Board<M> {
           author = with_signs other.old.author false;
         } }
     {
-        let Some(first) = head.token.take() else {
+        let Some(mut first) = head.token.take() else {
             unreachable!()
         };
         let Some(second) = other.token.take() else {
             unreachable!()
         };
-        let (first, second) = self.dismissed(first, second);
+        self.table.shared.join_seat::<Together>(&mut first, second);
+        self.table.shared.load::<Dismiss>(&mut first, 0);
+        other.token = Some(self.table.shared.split_seat::<Part>(&mut first));
         head.token = Some(first);
-        other.token = Some(second);
     }
 }

@@ -1,62 +1,19 @@
-//! Steps on a board's words that several calls share, or that a call chooses.
-ghost use Rattle.std.specs.Prelude.{◌≡◌, ◌≢◌, ◌<◌, [], ◌∷◌, ◌++◌, length, true, false, Some};
+//! Steps on a board's words that a call chooses.
+ghost use Rattle.std.specs.Prelude.{◌≡◌, ◌<◌, [], ◌∷◌, length, true, false, Some};
 ghost use Rattle.lq_volume.specs.Book.{grown, state_of};
 ghost use Rattle.lq_volume.specs.Change.{after, IsLawful};
-ghost use Rattle.lq_board.specs.Author.{AreDisjoint, IsWhole, leader, leader_register, no_register, with_seat, with_opening, new_author, with_author, with_change, with_signs, with_roll};
+ghost use Rattle.lq_board.specs.Author.{with_opening, new_author, with_author, with_change};
 ghost use Rattle.lq_board.specs.Book.{IsFullBook};
-ghost use Rattle.lq_board.specs.Slot.{slot_at, gone_out, come_back};
-ghost use Rattle.lq_board.specs.Token.{counted_board, moment_of};
-ghost use Rattle.lq_board.specs.View.{sitting_of, plain, of_no_slot};
+ghost use Rattle.lq_board.specs.Slot.{slot_at, gone_out};
+ghost use Rattle.lq_board.specs.View.{sitting_of, plain, IsSeat};
 ghost use Rattle.lq_board.specs.Return.{GoesOutAgain};
-ghost use Rattle.lq_board.specs.Roll.{IsMerged, without_number};
-ghost use Rattle.lq_board.specs.Rule.{CameBack};
 
 use crate::board::Board;
-use crate::step_types::{
-    Add, Again, Back, Check, Chosen, Compare, Dismiss, Enlist, Lead, Note, Open, Part, Plain,
-    Together,
-};
-use crate::token_views::TokenView;
+use crate::step_types::{Add, Again, Back, Check, Chosen, Open};
 use crate::tokens::{Keeper, Token};
 use lq_volume::{Change, accepted_changes_keep_trees};
 
 impl<M> Board<M> {
-    // Splits a new seat of no slot off the keeper.
-    pub(crate) fn plain_token(&self, keeper: &mut Keeper<M>) -> Token<M>
-        requires board { keeper.old.board ≡ self.now }
-        ensures board { record { table = result.table_id; free = keeper.old.register.free }
-            ≡ keeper.old.board }
-        ensures free { keeper.old.register.free ≡ keeper.old.board.free }
-        ensures view { result.me
-            ≡ (
-              TokenView.Seat (record (plain keeper.old.book (new_author keeper.old.register)) {
-                moments = moment_of keeper.old ∷ [];
-              }),
-              [],
-            ) }
-        ensures full { IsFullBook keeper.old.book }
-        ensures keeper { keeper.new ≡ record keeper.old {
-          register = with_seat keeper.old.register;
-        } }
-    {
-        self.table.shared.split_seat::<Plain>(&mut keeper.token)
-    }
-
-    // Splits the leading seat off the keeper.
-    pub(crate) fn lead_token(&self, keeper: &mut Keeper<M>) -> Token<M>
-        requires board { keeper.old.board ≡ self.now }
-        requires first { keeper.old.register ≡ no_register }
-        ensures board { result.table_id ≡ keeper.old.board.table }
-        ensures view { result.me ≡ (TokenView.Seat (plain keeper.old.book leader), []) }
-        ensures full { IsFullBook keeper.old.book }
-        ensures keeper { keeper.new ≡ record keeper.old {
-          board = counted_board keeper.old.board;
-          register = leader_register;
-        } }
-    {
-        self.table.shared.split_seat::<Lead>(&mut keeper.token)
-    }
-
     // Splits a slot's new seat off the keeper. `slot` is for the proof: the call takes W's slot
     // from it.
     pub(crate) fn slot_token<W: Chosen<M>>(&self, keeper: &mut Keeper<M>, slot: u64) -> Token<M>
@@ -67,21 +24,14 @@ impl<M> Board<M> {
         ensures board { record { table = result.table_id; free = keeper.old.register.free }
             ≡ keeper.old.board }
         ensures free { keeper.old.register.free ≡ keeper.old.board.free }
-        ensures view { result.me ≡ (
-          TokenView.Seat (record {
-            slot = slot;
-            book = keeper.old.book;
-            asks = (slot_at keeper.old.slots slot).asks;
-            name = W.name;
-            author = new_author keeper.old.register;
-            moments = [];
-          }),
-          [],
-        ) }
+        ensures view { IsSeat result.me (
+            record (plain keeper.old.book (new_author keeper.old.register)) {
+              slot = slot;
+              asks = (slot_at keeper.old.slots slot).asks;
+              name = W.name;
+            }) }
         ensures full { IsFullBook keeper.old.book }
-        ensures keeper { keeper.new ≡ record {
-          board = keeper.old.board;
-          book = keeper.old.book;
+        ensures keeper { keeper.new ≡ record keeper.old {
           slots = gone_out keeper.old.slots slot W.name;
           register = with_opening keeper.old.register;
         } }
@@ -90,37 +40,15 @@ impl<M> Board<M> {
         self.table.shared.split_seat::<Open<W>>(&mut keeper.token)
     }
 
-    // Takes a seat back. The keeper then reads the number, which proves what holds for that seat.
-    pub(crate) fn back(&self, keeper: &mut Keeper<M>, token: Token<M>) -> u64
-        requires board { (keeper.old.board ≡ self.now) × (token.table_id ≡ self.now.table) }
-        requires view { token.me ≡ (TokenView.Seat (sitting_of token.me.0), []) }
-        requires number { 0 < (sitting_of token.me.0).author.number }
-        ensures number { result ≡ length keeper.old.book.changes }
-        ensures back { CameBack keeper.old.book (sitting_of token.me.0)
-            (slot_at keeper.old.slots (sitting_of token.me.0).slot) }
-        ensures whole { IsWhole (sitting_of token.me.0).author (length keeper.old.book.changes) }
-        ensures keeper { keeper.new ≡ record {
-          board = keeper.old.board;
-          book = keeper.old.book;
-          slots = come_back keeper.old.slots (sitting_of token.me.0).slot
-              (sitting_of token.me.0).asks (sitting_of token.me.0).name;
-          register = keeper.old.register;
-        } }
-    {
-        self.table
-            .shared
-            .join_seat::<Back>(&mut keeper.token, token);
-        self.table.shared.load::<Check>(&mut keeper.token, 0)
-    }
-
-    // As `back`, and the seat goes out again, under the name that the call chooses.
+    // Takes a seat back, which goes out again under the name that the call chooses. The number that
+    // the keeper reads in between proves what holds for that seat.
     pub(crate) fn met<W: Chosen<M>>(
         &self,
         keeper: &mut Keeper<M>,
         token: Token<M>,
     ) -> (u64, Token<M>)
         requires board { (keeper.old.board ≡ self.now) × (token.table_id ≡ self.now.table) }
-        requires view { token.me ≡ (TokenView.Seat (sitting_of token.me.0), []) }
+        requires view { IsSeat token.me (sitting_of token.me.0) }
         requires number { 0 < (sitting_of token.me.0).author.number }
         requires slot { (sitting_of token.me.0).slot < 65 }
         ensures number { result.0 ≡ length keeper.old.book.changes }
@@ -147,7 +75,7 @@ impl<M> Board<M> {
         change: &Change,
     ) -> (u64, Token<M>)
         requires board { (keeper.old.board ≡ self.now) × (token.table_id ≡ self.now.table) }
-        requires view { token.me ≡ (TokenView.Seat (sitting_of token.me.0), []) }
+        requires view { IsSeat token.me (sitting_of token.me.0) }
         requires number { 0 < (sitting_of token.me.0).author.number }
         requires slot { (sitting_of token.me.0).slot < 65 }
         requires chosen { W.change ≡ Some change.now }
@@ -177,98 +105,5 @@ impl<M> Board<M> {
             + 1;
         let again = self.table.shared.split_seat::<Again<W>>(&mut keeper.token);
         (number, again)
-    }
-
-    // Joins two seats, compares them and parts them.
-    pub(crate) fn compared(&self, one: Token<M>, two: Token<M>) -> (Token<M>, Token<M>)
-        requires board { (one.table_id ≡ self.now.table) × (two.table_id ≡ self.now.table) }
-        requires one { one.me ≡ (TokenView.Seat (sitting_of one.me.0), []) }
-        requires two { two.me ≡ (TokenView.Seat (sitting_of two.me.0), []) }
-        ensures board { (result.0.table_id ≡ one.table_id) × (result.1.table_id ≡ one.table_id) }
-        ensures one { result.0.me ≡ (TokenView.Seat (of_no_slot (sitting_of one.me.0)), []) }
-        ensures two { result.1.me ≡ (TokenView.Seat (sitting_of two.me.0), []) }
-        ensures numbers { (sitting_of one.me.0).author.number
-            ≢ (sitting_of two.me.0).author.number }
-        ensures changes { AreDisjoint (sitting_of one.me.0).author.changes
-            (sitting_of two.me.0).author.changes }
-    {
-        let mut pair = one;
-        self.table.shared.join_seat::<Together>(&mut pair, two);
-        self.table.shared.load::<Compare>(&mut pair, 0);
-        let other = self.table.shared.split_seat::<Part>(&mut pair);
-        (pair, other)
-    }
-
-    // Joins two seats and parts them. The second has then noted the first's moments too.
-    pub(crate) fn noted(&self, one: Token<M>, two: Token<M>) -> Token<M>
-        requires board { (one.table_id ≡ self.now.table) × (two.table_id ≡ self.now.table) }
-        requires one { one.me ≡ (TokenView.Seat (sitting_of one.me.0), []) }
-        requires two { two.me ≡ (TokenView.Seat (sitting_of two.me.0), []) }
-        ensures board { result.table_id ≡ one.table_id }
-        ensures two { let b = sitting_of two.me.0 in result.me ≡ (
-          TokenView.Seat (record b { moments = b.moments ++ (sitting_of one.me.0).moments }),
-          [],
-        ) }
-    {
-        let mut pair = one;
-        self.table.shared.join_seat::<Together>(&mut pair, two);
-        self.table.shared.split_seat::<Note>(&mut pair)
-    }
-
-    // Joins two seats, the first enlists the second, and parts them.
-    pub(crate) fn enlisted(&self, one: Token<M>, two: Token<M>) -> (Token<M>, Token<M>)
-        requires board { (one.table_id ≡ self.now.table) × (two.table_id ≡ self.now.table) }
-        requires one { one.me ≡ (TokenView.Seat (sitting_of one.me.0), []) }
-        requires two { two.me ≡ (TokenView.Seat (sitting_of two.me.0), []) }
-        requires leads { (sitting_of one.me.0).author.leads ≡ true }
-        requires fresh { (sitting_of two.me.0).author.changes ≡ [] }
-        ensures board { (result.0.table_id ≡ one.table_id) × (result.1.table_id ≡ one.table_id) }
-        ensures one { let a = sitting_of one.me.0 in result.0.me ≡ (
-          TokenView.Seat (record (of_no_slot a) {
-            author = with_roll a.author
-                ((sitting_of two.me.0).author.number ∷ a.author.enlisted) a.author.gathered;
-          }),
-          [],
-        ) }
-        ensures two { let b = sitting_of two.me.0 in result.1.me ≡ (
-          TokenView.Seat (record b { author = with_signs b.author true }),
-          [],
-        ) }
-    {
-        let mut pair = one;
-        self.table.shared.join_seat::<Together>(&mut pair, two);
-        self.table.shared.load::<Enlist>(&mut pair, 0);
-        let other = self.table.shared.split_seat::<Part>(&mut pair);
-        (pair, other)
-    }
-
-    // Joins two seats, the first dismisses the second, and parts them.
-    pub(crate) fn dismissed(&self, one: Token<M>, two: Token<M>) -> (Token<M>, Token<M>)
-        requires board { (one.table_id ≡ self.now.table) × (two.table_id ≡ self.now.table) }
-        requires one { one.me ≡ (TokenView.Seat (sitting_of one.me.0), []) }
-        requires two { two.me ≡ (TokenView.Seat (sitting_of two.me.0), []) }
-        requires leads { (sitting_of one.me.0).author.leads ≡ true }
-        requires signs { (sitting_of two.me.0).author.signs ≡ true }
-        ensures board { (result.0.table_id ≡ one.table_id) × (result.1.table_id ≡ one.table_id) }
-        ensures one { let a = sitting_of one.me.0 in result.0.me ≡ (
-          TokenView.Seat (record (of_no_slot a) {
-            author = with_roll a.author
-                (without_number (sitting_of two.me.0).author.number a.author.enlisted)
-                (sitting_of result.0.me.0).author.gathered;
-          }),
-          [],
-        ) }
-        ensures merged { IsMerged (sitting_of one.me.0).author.gathered
-            (sitting_of two.me.0).author.changes (sitting_of result.0.me.0).author.gathered }
-        ensures two { let b = sitting_of two.me.0 in result.1.me ≡ (
-          TokenView.Seat (record b { author = with_signs b.author false }),
-          [],
-        ) }
-    {
-        let mut pair = one;
-        self.table.shared.join_seat::<Together>(&mut pair, two);
-        self.table.shared.load::<Dismiss>(&mut pair, 0);
-        let other = self.table.shared.split_seat::<Part>(&mut pair);
-        (pair, other)
     }
 }

@@ -53,8 +53,8 @@ pub struct Register {
     pub free: bool,
 }
 
-/// The keeper at one moment: its book, what it knew of each slot, and how many seats had gone out to
-/// a slot by then.
+/// The keeper at one moment: its book, what it knew of each slot, and how many seats had gone out
+/// to a slot by then.
 pub struct Moment<M> {
     pub book: Pages,
     pub slots: LinkedList<KnownSlot<M>>,

@@ -1,0 +1,41 @@
+-- Two seats can be joined, the first dismiss the second, and both be parted.
+use Rattle.std.proofs.Common.{◌∙◌, sym, arith}
+use Rattle.lq_board.specs.View.{second_of}
+use Rattle.lq_board.proofs.PairLemmas.{pair_may, dismisses, unpairs}
+use Rattle.lq_board.proofs.TokenLemmas.{lent}
+use Rattle.lq_board.proofs.ViewLemmas.{after}
+use Rattle.lq_board.proofs.board.Board.dismiss.Goals as goal
+
+pub join_seat-requires : goal.join_seat-requires
+join_seat-requires g c =
+    let one =
+    lent (sym c.take.ensures.value ∙ c.in-Some.is) c.head.invariant.0 c.head.view_is
+    c.requires.board.0 c.self.view_is in
+    let two =
+    lent (sym c.take-2.ensures.value ∙ c.in-Some-take.is) c.other.invariant.0 c.other.view_is
+    c.requires.board.1 c.self.view_is in
+    pair_may _ _ one.0 two.0 c.self.invariant.0 one.1 two.1
+
+pub load-requires : goal.load-requires
+load-requires g c =
+    let is = sym c.take.ensures.value ∙ c.in-Some.is in
+    let are = sym c.take-2.ensures.value ∙ c.in-Some-take.is in
+    let one =
+    lent (sym c.take.ensures.value ∙ c.in-Some.is) c.head.invariant.0 c.head.view_is
+    c.requires.board.0 c.self.view_is in (
+      c.join_seat.ensures.0 ∙ one.0,
+      omega (arith, c.self.invariant.0),
+      dismisses _ _ _ _ (after one.1 c.join_seat.ensures.2)
+          (rw (← c.head.view_is, is) at c.requires.leads)
+          (rw (← c.other.view_is, are) at c.requires.signs),
+    )
+
+pub split_seat-requires : goal.split_seat-requires
+split_seat-requires g c =
+    let one =
+    lent (sym c.take.ensures.value ∙ c.in-Some.is) c.head.invariant.0 c.head.view_is
+    c.requires.board.0 c.self.view_is in (
+      c.load.ensures.0 ∙ c.join_seat.ensures.0 ∙ one.0,
+      omega (arith, c.self.invariant.0),
+      unpairs _ _ _ (λ v. (second_of v).moments) c.load.ensures.2.0,
+    )
