@@ -8,13 +8,12 @@ use Rattle.lq_update.specs.declared.mark.Cause.{Cause}
 use Rattle.lq_update.specs.declared.mark.Cause.TheVariants.{Closed, HungUp, Overrun}
 use Rattle.lq_desk_sub.specs.declared.read.Read.{Read}
 use Rattle.lq_server_slots.specs.declared.identity.Identity.{Identity}
-use Rattle.lq_server_slots.specs.declared.identity.FirstClose.{FirstClose}
-use Rattle.lq_server_slots.specs.declared.identity.FirstClose.TheVariants.{Never, Late}
+use Rattle.lq_server_slots.specs.declared.identity.FirstClose.TheVariants.{Never}
 use Rattle.lq_server_slots.specs.Marking.{IsHung, after_close, hung_mark}
 use Rattle.lq_server_slots.specs.Rule.{mark_in}
 use Rattle.lq_server_slots.specs.Opening.{name_or}
 use Rattle.lq_server_slots.specs.Reading.{ReadingHold, Gives, known}
-use Rattle.lq_server_slots.specs.Standing.{FirstCloseFits, IsOverrun, NotClosed, seen_of}
+use Rattle.lq_server_slots.specs.Standing.{FirstCloseFits, NotClosed}
 use Rattle.lq_server.specs.Closed.{IsCloseAnswer}
 use Rattle.lq_server.specs.Headline.{GoesOn, IsAnswered}
 use Rattle.lq_server.specs.Hold.{ReaderHold}
@@ -22,6 +21,7 @@ use Rattle.lq_server.specs.Laws.{HasOverrun}
 use Rattle.lq_server.specs.Syncing.{IsSynced, IsWaitingRead}
 use Rattle.lq_server.specs.declared.server.Synced.{Synced}
 use Rattle.lq_server.proofs.ParcelLemmas.{extends_self}
+use Rattle.lq_server.proofs.SyncLemmas.{OverrunAt}
 
 -- a sync goes on
 pub sync_goes_on : (old new : ReaderHold) (x : Synced) → IsSynced old new x
@@ -88,30 +88,20 @@ pub refused_late : (old new : ReaderHold) (e : Refusal) → IsCloseAnswer old ne
 refused_late old new e a never unasked =
     let t : Identity = name_or old.seat.name in
     let s = a.synced in
-    let late : FirstClose =
-    after_close t.first_close false (length a.mid.seat.book.changes) in
-    let is : late ≡ Late =
-    ap (λ (u : FirstClose). after_close u false (length a.mid.seat.book.changes)) never in
-    let fits : FirstCloseFits Late a.x.mark =
-    subst (λ (u : FirstClose). FirstCloseFits u a.x.mark) is
-    (subst (λ o. IsSomeAnd o (λ n. FirstCloseFits n.first_close a.x.mark)) a.first_close
+    let n = length a.mid.seat.book.changes in
+    let m = mark_there a.x.mark (λ k. NotClosed k.cause)
+    (subst (λ o. IsSomeAnd o (λ u. FirstCloseFits u.first_close a.x.mark))
+    (a.first_close ∙ (λ i. Some (record t { first_close = after_close (never i) false n })))
     s.first_close) in
-    let over : IfSome a.x.mark (λ k. k.cause ≡ Overrun
-    → IsOverrun t.query t.moved t.opened t.places t.backlog (seen_of t.told) new.seat.book
-    k.change) =
-    subst
-    (λ o. IsSomeAnd o (λ n. IfSome a.x.mark (λ k. k.cause ≡ Overrun
-    → IsOverrun n.query n.moved n.opened n.places n.backlog (seen_of n.told) new.seat.book
-    k.change))) a.first_close s.overrun in
-    let m = mark_there a.x.mark (λ k. NotClosed k.cause) fits in
-    let k : Mark = m.0 in
-    let at : k.cause ≡ Overrun → IsOverrun t.query t.moved t.opened t.places t.backlog
-    (seen_of t.told) new.seat.book k.change =
-    subst (λ o. IfSome o (λ k. k.cause ≡ Overrun
-    → IsOverrun t.query t.moved t.opened t.places t.backlog (seen_of t.told) new.seat.book
-    k.change)) m.1 over in
-    let not_hung : k.cause ≡ HungUp → ⊥ = λ hung.
+    let over : IfSome a.x.mark (OverrunAt t new.seat.book) =
+    subst (λ o. IsSomeAnd o (λ u. IfSome a.x.mark (OverrunAt u new.seat.book))) a.first_close
+    s.overrun in
+    let not_hung : m.0.cause ≡ HungUp → ⊥ = λ hung.
     true≢false
     (sym (s.hung (subst hung_mark (sym m.1) (subst IsHung (sym hung) tt)))
     ∙ ap (λ (r : ReaderHold). r.hang_up_asked) a.rest ∙ unasked) in
-    record { change = k.change; overrun = at (only_overrun k.cause m.2 not_hung) }
+    record {
+      change = m.0.change;
+      overrun = subst (λ o. IfSome o (OverrunAt t new.seat.book)) m.1 over
+          (only_overrun m.0.cause m.2 not_hung);
+    }
