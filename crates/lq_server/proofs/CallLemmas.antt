@@ -1,40 +1,18 @@
 -- The calls by which the changes of a book were made.
-use Rattle.std.proofs.Common.{◌≡◌, ℕ, zero, suc, ◌+◌, ◌<◌, ◌≤◌, Bool, true, false, cond, eqb, eqb-true, ne_eqb, Contains, List, [], ◌∷◌, ◌++◌, length, slice_get, Some, refl, sym, ap, ◌∙◌, subst, arith, append_assoc, length-append}
+use Rattle.std.proofs.Common.{◌≡◌, ℕ, zero, suc, ◌+◌, ◌<◌, ◌≤◌, Bool, true, false, cond, eqb, eqb-true, ne_eqb, Contains, List, [], ◌∷◌, length, slice_get, Some, refl, sym, ap, ◌∙◌, arith}
 use Rattle.std.proofs.lemmas.Bool.Decides.{nat_tests}
+use Rattle.std.proofs.lemmas.Grind.{common_steps}
 use Rattle.std.proofs.lemmas.List.Elements.{All-contains}
-use Rattle.lq_volume.specs.declared.change.Change.{Change}
+use Rattle.std.proofs.lemmas.Option.{gets}
 use Rattle.lq_volume.specs.Book.{Book}
 use Rattle.lq_board.specs.Roll.{numbers_after, times}
-use Rattle.lq_server_slots.specs.Slots.{before_of}
 use Rattle.lq_server.specs.Counted.{Call, IsCallIn, CallsMakeTheBook, numbers_answered}
-
--- what stands after a list is at its length
-get_after : (xs ys : List Change) (c : Change) → slice_get (xs ++ c ∷ ys) (length xs) ≡ Some c
-get_after [] ys c = refl
-get_after (x ∷ xs) ys c = get_after xs ys c
 
 -- the change of a call is in each book that extends the one that its seat then knew, under its
 -- number
 call_at : (book : Book) (call : Call) (n : ℕ) → IsCallIn book call → call.answer.change ≡ n + 1
     → slice_get book.changes n ≡ Some call.change
-call_at book call n is number =
-    let before = (before_of call.after).changes in
-    let place : call.after.changes ≡ before ++ call.change ∷ [] =
-    ap (λ (b : Book). b.changes) is.added.place in
-    let whole : book.changes ≡ before ++ call.change ∷ is.later.0 =
-    ap (λ (b : Book). b.changes) is.later.1 ∙ ap (λ (xs : List Change). xs ++ is.later.0) place
-    ∙ append_assoc before (call.change ∷ []) is.later.0 in
-    let long : length before ≡ n =
-    omega (
-      arith,
-      number,
-      is.added.number,
-      ap (length {A = Change}) place,
-      length-append before (call.change ∷ []),
-    ) in
-    subst (λ (k : ℕ). slice_get book.changes k ≡ Some call.change) long
-    (subst (λ (xs : List Change). slice_get xs (length before) ≡ Some call.change) (sym whole)
-    (get_after before is.later.0 call.change))
+call_at book call n is number = grind (arith, common_steps, gets)
 
 -- none of the next numbers is one before
 none_of : (m k x : ℕ) → x ≤ m → times x (numbers_after m k) ≡ 0

@@ -1,10 +1,9 @@
 -- Books that go on from others, and what is among parcels.
-use Rattle.std.proofs.Common.{◌≡◌, ◌⊎◌, Bool, true, false, true≢false, List, [], ◌∷◌, ◌++◌, Option, Some, None, refl, sym, ap, ◌∙◌, append_assoc, append-nil, inl, inr}
+use Rattle.std.proofs.Common.{◌≡◌, ◌⊎◌, Bool, true, List, [], ◌∷◌, ◌++◌, Option, Some, None, refl, sym, ap, ◌∙◌, arith, append_assoc, append-nil}
 use Rattle.std.specs.Prelude.{IsSome, is_some}
 use Rattle.lq_volume.specs.Book.{Book, Extends, grown}
 use Rattle.lq_update.specs.declared.mark.Mark.{Mark}
 use Rattle.lq_update.specs.declared.parcel.Parcel.{Parcel}
-use Rattle.lq_update.specs.declared.parcel.Parcel.TheVariants.{Update, Fin}
 use Rattle.lq_server_slots.specs.declared.delivery.Delivery.{Delivery}
 use Rattle.lq_server_slots.specs.Rule.{book_of, message_of, mark_or, messages_in, mark_in, last_book}
 use Rattle.lq_server_slots.specs.Standing.{moved_mark}
@@ -38,8 +37,7 @@ mark_over None o = o
 -- that of a parcel and of two lists
 or_over : (w : Parcel) (o p : Option Mark)
     → mark_or w (mark_over o p) ≡ mark_over (mark_or w o) p
-or_over (Update m) o p = refl
-or_over (Fin k) o p = refl
+or_over w o p = grind arith
 
 -- the mark of two lists
 pub mark_in-append : (ps qs : List Delivery)
@@ -54,34 +52,10 @@ pub last_book-snoc : (b : Book) (ps : List Delivery) (x : Delivery)
 last_book-snoc b [] x = refl
 last_book-snoc b (p ∷ ps) x = last_book-snoc (book_of p) ps x
 
--- ---- t is the mark that was read, a the one that waits in the port, m the one that was made, and b
--- says whether it was put; nothing waits after the mark
-
--- a mark is in the port where it was put and wasn't read
-pub is_some_waiting : (t a m : Option Mark) (b : Bool) → mark_over t a ≡ moved_mark b m
+-- t is the mark that was read, a the one that waits in the port, m the one that was made, and b
+-- says whether it was put; nothing waits after the mark. One waits where it was put and wasn't
+-- read, and what waits or was read is the one that was made.
+pub marks_are : (t a m : Option Mark) (b : Bool) → mark_over t a ≡ moved_mark b m
     → (b ≡ true → IsSome m) → (IsSome t → a ≡ None)
-    → is_some a ≡ is_mark_in_port b (is_some t)
-is_some_waiting None a m true is made none = ap is_some is ∙ made refl
-is_some_waiting None a m false is made none = ap is_some is
-is_some_waiting (Some k) a m true is made none = ap is_some (none refl)
-is_some_waiting (Some k) a m false is made none = ap is_some (none refl)
-
--- no mark waits, or the one that was made
-pub mark_waits : (t a m : Option Mark) (b : Bool) → mark_over t a ≡ moved_mark b m
-    → (IsSome t → a ≡ None) → (a ≡ None) ⊎ (a ≡ m)
-mark_waits None a m true is none = inr is
-mark_waits None a m false is none = inl is
-mark_waits (Some k) a m b is none = inl (none refl)
-
--- the mark that waits is the one that was made, if that waits or is none
-pub mark_is_out : (a m : Option Mark) (b : Bool) → a ≡ moved_mark b m → (a ≡ None → m ≡ None)
-    → a ≡ m
-mark_is_out a m true is none = is
-mark_is_out a m false is none = is ∙ sym (none is)
-
--- a mark that was read is the one that was made
-pub mark_was_read : (t a m : Option Mark) (b : Bool) → mark_over t a ≡ moved_mark b m → IsSome t
-    → m ≡ t
-mark_was_read (Some k) a m true is some = sym is
-mark_was_read (Some k) a m false is some = absurd (cc)
-mark_was_read None a m b is some = absurd (true≢false (sym some))
+    → (is_some a ≡ is_mark_in_port b (is_some t)) × ((a ≡ None) ⊎ (a ≡ m)) × (IsSome t → m ≡ t)
+marks_are t a m b is made none = (grind arith, grind arith, λ some. grind arith)

@@ -1,13 +1,12 @@
-use Rattle.std.proofs.Common.{◌≡◌, rules, false, true≢false, inl, inr, refl, sym, ◌∙◌, subst}
+use Rattle.std.proofs.Common.{◌≡◌, arith, rules, false, true≢false, inl, inr, refl, sym, ◌∙◌, subst}
 use Rattle.std.proofs.lemmas.Result.{IfOk-weaker, on_err_weaker}
 use mathlib.Core.List.{IsPrefix}
 use Rattle.lq_volume.specs.Book.{Book, Extends}
-use Rattle.lq_desk_sub.specs.declared.read.Read.TheVariants.{Ended}
 use Rattle.lq_server_slots.specs.Rule.{all_updates}
 use Rattle.lq_server_slots.specs.Reading.{Gives, known, received, is_marked}
 use Rattle.lq_server.specs.Hold.{ReaderHold}
 use Rattle.lq_server.specs.Syncing.{IsSynced, IsRead}
-use Rattle.lq_server.proofs.OwnLemmas.{ended_gives, hold, own_reads, received_front}
+use Rattle.lq_server.proofs.OwnLemmas.{hold, received_front}
 use Rattle.lq_server.proofs.reader.Reader.read_waiting.Goals as goal
 
 pub returns-then-is_ended : goal.returns-then-is_ended
@@ -22,12 +21,7 @@ returns-then-is_ended g c = record {
       (received_front c.self.inside.reading c.update_facts.ensures);
   known = search rules;
   refused = search rules;
-  gives = inl (
-    refl,
-    refl,
-    subst (λ (r : ReaderHold). Gives r.reading r.reading Ended) c.self.view_is
-        (ended_gives c.self.inside.reading c.update_facts.ensures (sym c.if-is_ended.ensures)),
-  );
+  gives = inl (refl, refl, grind arith);
   fails = tt;
   over = λ _. refl;
   waits = search rules;
@@ -45,7 +39,7 @@ returns g c =
     let s : IsSynced old mid x =
     subst (λ (r : ReaderHold). IsSynced old r x) (sym c.self-2.view_is) c.pump.ensures.1 in
     let w = c.read_waiting.ensures in record {
-      own = own_reads mid new w.same s.own;
+      own = grind arith;
       seat = s.seat;
       later = s.later;
       rest = λ k. hold new i.seat (s.slot k) (s.hang_up_asked k);
