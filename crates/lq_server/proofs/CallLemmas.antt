@@ -1,50 +1,18 @@
 -- The calls by which the changes of a book were made.
-use Rattle.std.proofs.Common.{◌≡◌, ◌≢◌, ℕ, zero, suc, ◌+◌, ◌<◌, ◌≤◌, Bool, true, false, cond, eqb, eqb-true, eq-eqb, ne_eqb, Contains, List, [], ◌∷◌, ◌++◌, length, slice_get, Some, refl, sym, ap, ◌∙◌, subst, arith, length-append}
+use Rattle.std.proofs.Common.{◌≡◌, ℕ, zero, suc, ◌+◌, ◌<◌, ◌≤◌, Bool, true, false, cond, eqb, eqb-true, ne_eqb, Contains, List, [], ◌∷◌, length, slice_get, Some, refl, sym, ap, ◌∙◌, arith}
+use Rattle.std.proofs.lemmas.Bool.Decides.{nat_tests}
+use Rattle.std.proofs.lemmas.Grind.{common_steps}
 use Rattle.std.proofs.lemmas.List.Elements.{All-contains}
-use Rattle.lq_volume.specs.declared.change.Change.{Change}
-use Rattle.lq_volume.specs.declared.change.Applied.{Applied}
+use Rattle.std.proofs.lemmas.Option.{gets}
 use Rattle.lq_volume.specs.Book.{Book}
 use Rattle.lq_board.specs.Roll.{numbers_after, times}
-use Rattle.lq_server_slots.specs.Slots.{before_of}
-use Rattle.lq_server.specs.Applied.{IsAdded}
 use Rattle.lq_server.specs.Counted.{Call, IsCallIn, CallsMakeTheBook, numbers_answered}
 
--- what is in a list is there when more is added at its end
-get_before : (xs ys : List Change) (i : ℕ) (c : Change) → slice_get xs i ≡ Some c
-    → slice_get (xs ++ ys) i ≡ Some c
-get_before [] ys i c h = cc
-get_before (x ∷ xs) ys zero c h = h
-get_before (x ∷ xs) ys (suc i) c h = get_before xs ys i c h
-
--- what is added at the end of a list is at its length
-get_end : (xs : List Change) (c : Change) → slice_get (xs ++ c ∷ []) (length xs) ≡ Some c
-get_end [] c = refl
-get_end (x ∷ xs) c = get_end xs c
-
--- a change that was added is in the book under its number
-added_at : (old new : Book) (a : Applied) (c : Change) (n : ℕ) → IsAdded old new a c
-    → a.change ≡ n + 1 → slice_get new.changes n ≡ Some c
-added_at old new a c n d is =
-    let before = (before_of new).changes in
-    let whole : new.changes ≡ before ++ c ∷ [] = ap (λ (b : Book). b.changes) d.place in
-    let long : length before ≡ n =
-    omega (
-      arith,
-      is,
-      d.number,
-      ap (λ (xs : List Change). length xs) whole,
-      length-append before (c ∷ []),
-    ) in
-    subst (λ (xs : List Change). slice_get xs n ≡ Some c) (sym whole)
-    (subst (λ (k : ℕ). slice_get (before ++ c ∷ []) k ≡ Some c) long (get_end before c))
-
--- and in each book that extends it
+-- the change of a call is in each book that extends the one that its seat then knew, under its
+-- number
 call_at : (book : Book) (call : Call) (n : ℕ) → IsCallIn book call → call.answer.change ≡ n + 1
     → slice_get book.changes n ≡ Some call.change
-call_at book call n is number =
-    subst (λ (b : Book). slice_get b.changes n ≡ Some call.change) (sym is.later.1)
-    (get_before call.after.changes is.later.0 n call.change
-    (added_at call.before call.after call.answer call.change n is.added number))
+call_at book call n is number = grind (arith, common_steps, gets)
 
 -- none of the next numbers is one before
 none_of : (m k x : ℕ) → x ≤ m → times x (numbers_after m k) ≡ 0
@@ -55,24 +23,16 @@ none_of m (suc k) x low =
     (ne_eqb (m + 1) x (λ e. omega (arith, e, low)))
     ∙ omega (arith, rest)
 
--- each of the next numbers comes once, by cases on whether it is the first
-once_by : (m k x : ℕ) (b : Bool) → b ≡ eqb (m + 1) x → m < x → x ≤ m + suc k
-    → (m + 1 < x → times x (numbers_after (m + 1) k) ≡ 1)
-    → cond b 1 0 + times x (numbers_after (m + 1) k) ≡ 1
-once_by m k x true is low high rest =
-    let e = eqb-true (m + 1) x (sym is) in
-    let none = none_of (m + 1) k x (omega (arith, e)) in
-    omega (arith, none)
-once_by m k x false is low high rest =
-    let no : m + 1 ≢ x = λ e. let bad : false ≡ true = is ∙ eq-eqb (m + 1) x e in cc in
-    let one = rest (omega (arith, low, no)) in
-    omega (arith, one)
+-- each comes once, if it is the first, or once after the first
+once_by : (m x rest : ℕ) → m < x → (x ≤ m + 1 → rest ≡ 0) → (m + 1 < x → rest ≡ 1)
+    → cond (eqb (m + 1) x) 1 0 + rest ≡ 1
+once_by m x rest low none one = grind (arith, nat_tests)
 
 -- each of the next numbers comes once
 once_of : (m k x : ℕ) → m < x → x ≤ m + k → times x (numbers_after m k) ≡ 1
 once_of m zero x low high = absurd (omega (arith, low, high))
 once_of m (suc k) x low high =
-    once_by m k x (eqb (m + 1) x) refl low high
+    once_by m x (times x (numbers_after (m + 1) k)) low (none_of (m + 1) k x)
     (λ more. once_of (m + 1) k x more (omega (arith, high)))
 
 -- a call that was answered this number

@@ -1,28 +1,28 @@
 -- The headline of a reader, and of the answers of its reads.
-use Rattle.std.proofs.Common.{◌≡◌, ◌↔◌, ℕ, ◌+◌, ◌≤◌, Bool, true, true≢false, List, [], ◌∷◌, ◌++◌, length, Option, Some, None, refl, sym, ap, ◌∙◌, subst, arith, add-zero, append_assoc, append-nil, length-append}
-use Rattle.std.specs.Prelude.{IfSome, IsSome, IsTrue, option_to_list, unwrap_or}
+use Rattle.std.proofs.Common.{◌≡◌, ◌⊎◌, ⊎_elim, ℕ, ◌+◌, ◌≤◌, Bool, true, true≢false, List, [], ◌∷◌, ◌++◌, length, Option, Some, None, refl, sym, ap, ◌∙◌, subst, arith, add-zero, append_assoc, append-nil, length-append}
+use Rattle.std.specs.Prelude.{IsSome}
 use Rattle.std.specs.List.{AllByRecursion}
+use Rattle.std.proofs.lemmas.Grind.{common_steps}
 use mathlib.Core.List.{IsPrefix}
 use Rattle.lq_value.specs.declared.entry.Entry.{Entry}
 use Rattle.lq_predicate.specs.Query.{Query}
 use Rattle.lq_volume.specs.declared.change.Change.{Change}
 use Rattle.lq_volume.specs.State.{State}
 use Rattle.lq_volume.specs.Change.{after}
-use Rattle.lq_volume.specs.Book.{Book, Extends, state_at, changes_between}
+use Rattle.lq_volume.specs.Book.{Extends, state_at, changes_between}
 use Rattle.lq_update.specs.declared.message.Opcode.{Opcode}
 use Rattle.lq_update.specs.declared.message.Message.{Message}
 use Rattle.lq_update.specs.declared.mark.Mark.{Mark}
 use Rattle.lq_update.specs.Diff.{diff}
-use Rattle.lq_update.specs.Updates.{numbered, step_of, updates_from, IsSettled}
-use Rattle.lq_update.specs.Fold.{folded, last_change}
+use Rattle.lq_update.specs.Updates.{numbered, step_of, updates_from}
+use Rattle.lq_update.specs.Fold.{folded}
 use Rattle.lq_update.specs.Laws.{FoldsGiveResults, WholeFoldsGiveResults}
 use Rattle.lq_desk_sub.specs.declared.read.Read.{Read}
-use Rattle.lq_desk_sub.specs.declared.read.Read.TheVariants.{Update, Fin, Empty, Ended}
+use Rattle.lq_desk_sub.specs.declared.read.Read.TheVariants.{Fin, Ended}
 use Rattle.lq_server_slots.specs.Updates.{updates}
-use Rattle.lq_server_slots.specs.Rule.{floor_of, query_of, messages_in, IsMark}
+use Rattle.lq_server_slots.specs.Rule.{query_of}
 use Rattle.lq_server_slots.specs.Reading.{ReadingHold, Gives, IsTold, known, received, mark_read}
-use Rattle.lq_server.specs.Hold.{ReaderHold}
-use Rattle.lq_server.specs.Headline.{updates_upto, result_after, AreNumbered, IsMarkAfter, EndsWhole, ReaderIsTold, IsAnswered, AreAnswers, update_in, updates_read, ReadsHaveMark, AnswersAreTold}
+use Rattle.lq_server.specs.Headline.{updates_upto, result_after, AreNumbered, IsMarkAfter, EndsWhole, IsAnswered, AreAnswers, update_in, updates_read, ReadsHaveMark, AnswersAreTold}
 use Rattle.lq_server.proofs.ParcelLemmas.{extends_trans}
 use Rattle.lq_server.proofs.OwnLemmas.{received_front}
 
@@ -37,10 +37,10 @@ numbered-are seq change (x ∷ xs) = (refl, numbered-are (seq + 1) change xs)
 -- and so are two lists of which the second goes on from the first
 numbered-append : (n : ℕ) (xs ys : List Message) → AreNumbered n xs
     → AreNumbered (n + length xs) ys → AreNumbered n (xs ++ ys)
-numbered-append n [] ys h k = subst (λ (m : ℕ). AreNumbered m ys) (add-zero n) k
+numbered-append n [] ys h k = rw add-zero at k
 numbered-append n (x ∷ xs) ys h k =
     let more : n + length (x ∷ xs) ≡ n + 1 + length xs = omega arith in
-    (h.0, numbered-append (n + 1) xs ys h.1 (subst (λ (m : ℕ). AreNumbered m ys) more k))
+    (h.0, numbered-append (n + 1) xs ys h.1 (rw more at k))
 
 -- and a front of such a list
 numbered-front : (n : ℕ) (xs ys : List Message) → AreNumbered n (xs ++ ys) → AreNumbered n xs
@@ -61,106 +61,62 @@ updates_from-numbered q mv s (c ∷ cs) seq =
 
 -- a mark is there, where the test says so
 some_there : (o : Option Mark) → IsSome o → (k : Mark) × (o ≡ Some k)
-some_there (Some k) h = (k, refl)
-some_there None h = absurd (true≢false (sym h))
+some_there o h = grind arith
 
--- a book that extends another has no fewer changes
-extends_length : (b c : Book) → Extends c b → length b.changes ≤ length c.changes
-extends_length b c e =
-    omega (arith, ap (λ (x : Book). length x.changes) e.1, length-append b.changes e.0)
+-- the book that is known has the opening's changes at least
+pub opened_told : (r : ReadingHold) → IsTold r → r.port.floor.opened ≤ length (known r).changes
+opened_told r told = grind (arith, common_steps)
 
 -- what was received is a front of the update list over the known book
-prefix_told : (r : ReadingHold) → IsTold r
+pub prefix_told : (r : ReadingHold) → IsTold r
     → IsPrefix (received r) (updates_upto r.port.floor (known r) (length (known r).changes))
 unfolding updates
 prefix_told r told = received_front r told
 
+-- its messages come each once, by their numbers
+pub once_told : (r : ReadingHold) → IsTold r → AreNumbered 1 (received r)
+once_told r told =
+    let f = r.port.floor in
+    let b = known r in
+    let front = prefix_told r told in
+    numbered-front 1 (received r) front.0
+    (subst (AreNumbered 1) (sym front.1)
+    (updates_from-numbered (query_of f) f.moved (state_at b f.opened)
+    (changes_between b f.opened (length b.changes)) 1))
+
 -- after the mark it is the whole list up to its change
-ends_whole : (r : ReadingHold) → IsTold r → EndsWhole r
+pub ends_whole : (r : ReadingHold) → IsTold r → EndsWhole r
 unfolding updates
-ends_whole r told k is =
-    let ps = r.port.taken in
-    let fits : IsMark r.port.floor (messages_in ps) (known r) k =
-    subst (λ o. IfSome o (IsMark r.port.floor (messages_in ps) (known r))) is
-    told.legal_list.mark in
-    let bare : r.hand ≡ None = told.no_hand (subst IsSome (sym is) refl) in
-    let got : received r ≡ messages_in ps =
-    sym (append-nil (received r))
-    ∙ ap (λ (o : Option Message). received r ++ option_to_list o) (sym bare) ∙ sym told.all in
-    record {
-      opened = fits.opened;
-      within = fits.within;
-      all = got ∙ fits.all;
-      seq = fits.seq ∙ ap (λ (l : List Message). length l + 1) (sym got);
-    }
-
--- behind the mark a read gives nothing but `Ended`
-only_ended : (r next : ReadingHold) (a : Read) → EndsWhole r → EndsWhole next
-    → IsSome (mark_read r) → Gives r next a → a ≡ Ended
-only_ended r next (Update m) whole after some g =
-    let k = some_there (mark_read r) some in
-    let one = (whole k.0 k.1).seq in
-    let two = (after k.0 (g.2 ∙ k.1)).seq in
-    let more : length (received next) ≡ length (received r) + 1 =
-    ap (length {A = Message}) g.0 ∙ length-append (received r) (m ∷ []) in
-    absurd (omega arith)
-only_ended r next (Fin k) whole after some g =
-    absurd (true≢false (sym (subst IsSome g.2 some)))
-only_ended r next Empty whole after some g =
-    absurd (true≢false (sym (subst IsSome g.2 some)))
-only_ended r next Ended whole after some g = refl
-
--- what is there by a test is so of it
-if_some : (o : Option Mark) (P : Mark → Type 0) → IfSome o P → (k : Mark) → o ≡ Some k → P k
-if_some (Some j) P h k is =
-    subst P (ap (λ (o : Option Mark). unwrap_or o j) is) h
-if_some None P h k is = absurd (cc)
-
--- the headline of a reader, from what its own calls say of it
-pub reader_told : (r : ReaderHold) (settled : Bool) (change : ℕ) (shown : List Entry)
-    → IsTold r.reading → ((settled ≡ true) ↔ IsSettled (received r.reading))
-    → (IsTrue settled → r.reading.result.entries
-    ≡ result_after r.reading.port.floor (known r.reading) r.reading.result.change)
-    → change ≡ r.reading.result.change
-    → change ≡ last_change r.reading.port.floor.opened (received r.reading)
-    → shown ≡ r.reading.result.entries
-    → IfSome (mark_read r.reading)
-    (λ k. shown ≡ result_after r.reading.port.floor (known r.reading) k.change)
-    → ReaderIsTold r
-reader_told r settled change shown told test whole now latest is marked =
-    let f = r.reading.port.floor in
-    let b = known r.reading in
-    let list = told.legal_list in
-    let front = prefix_told r.reading told in
-    let ends = ends_whole r.reading told in
-    let long = extends_length (floor_of f) b list.later in
-    let opening = list.opening in
-    record {
-      book = list.full;
-      opened = omega arith;
-      prefix = front;
-      once = numbered-front 1 (received r.reading) front.0
-          (subst (AreNumbered 1) (sym front.1)
-          (updates_from-numbered (query_of f) f.moved (state_at b f.opened)
-          (changes_between b f.opened (length b.changes)) 1));
-      mark = ends;
-      over = λ some next a after g. only_ended r.reading next a ends after some g;
-      settled = λ yes. whole (test.1 yes)
-          ∙ ap (λ (n : ℕ). result_after f b n) (sym now ∙ latest);
-      closed = λ k there. sym is
-          ∙ if_some (mark_read r.reading) (λ (k : Mark). shown ≡ result_after f b k.change)
-          marked k there;
-    }
-
--- ---- the answers of reads
+ends_whole r told k is = grind (arith, append-nil)
 
 -- a read that answers adds its message to what was received
 gives_one : (old new : ReadingHold) (a : Read) → Gives old new a
     → received new ≡ received old ++ update_in a
-gives_one old new (Update m) g = g.0
-gives_one old new (Fin k) g = g.0 ∙ sym (append-nil (received old))
-gives_one old new Empty g = ap received g.0 ∙ sym (append-nil (received old))
-gives_one old new Ended g = ap received g.0 ∙ sym (append-nil (received old))
+gives_one old new a g = grind (arith, append-nil)
+
+-- after the mark a read leaves it, and without a message it gives `Ended`
+after_mark : (old new : ReadingHold) (a : Read) → Gives old new a → IsSome (mark_read old)
+    → (mark_read new ≡ mark_read old) × (update_in a ≡ [] → a ≡ Ended)
+after_mark old new a g some = grind arith
+
+-- a list of no length is empty
+no_length : (xs : List Message) → length xs ≡ 0 → xs ≡ []
+no_length [] e = refl
+no_length (x ∷ xs) e = absurd (omega arith)
+
+-- and so after the whole list and its mark
+pub only_ended : (r next : ReadingHold) (a : Read) → EndsWhole r → EndsWhole next
+    → IsSome (mark_read r) → Gives r next a → a ≡ Ended
+only_ended r next a whole after some g =
+    let k = some_there (mark_read r) some in
+    let step = after_mark r next a g some in
+    let one = (whole k.0 k.1).seq in
+    let two = (after k.0 (step.0 ∙ k.1)).seq in
+    let more =
+    ap (length {A = Message}) (gives_one r next a g) ∙ length-append (received r) (update_in a) in
+    step.1 (no_length (update_in a) (omega (arith, one, two, more)))
+
+-- ---- the answers of reads
 
 -- what all answers leave: their messages were received, over a longer book, from the same port
 answers-grow : (old new : ReadingHold) (answers : List Read) → AreAnswers old answers new
@@ -181,40 +137,27 @@ answers-grow old new (a ∷ answers) h =
       rest.2 ∙ h.3.port.2 ∙ h.2.port.2,
     )
 
--- a mark that was read stays the mark
-mark-stays : (old new : ReadingHold) (a : Read) → Gives old new a → (k : Mark)
-    → mark_read old ≡ Some k → mark_read new ≡ Some k
-mark-stays old new (Update m) g k is = g.2 ∙ is
-mark-stays old new (Fin j) g k is =
-    absurd (true≢false (sym (subst IsSome g.2 (subst IsSome (sym is) refl))))
-mark-stays old new Empty g k is =
-    absurd (true≢false (sym (subst IsSome g.2 (subst IsSome (sym is) refl))))
-mark-stays old new Ended g k is = ap mark_read g.0 ∙ is
-
--- and so over all answers
+-- a mark that was read stays the mark over all answers
 marks-stay : (old new : ReadingHold) (answers : List Read) → AreAnswers old answers new
-    → (k : Mark) → mark_read old ≡ Some k → mark_read new ≡ Some k
-marks-stay old new [] h k is = h.mark ∙ is
-marks-stay old new (a ∷ answers) h k is =
-    marks-stay h.1 new answers h.4 k
-    (mark-stays h.0 h.1 a h.3.gives k (h.2.mark ∙ is))
+    → IsSome (mark_read old) → mark_read new ≡ mark_read old
+marks-stay old new [] h some = h.mark
+marks-stay old new (a ∷ answers) h some =
+    let now = subst IsSome (sym h.2.mark) some in
+    let step = (after_mark h.0 h.1 a h.3.gives now).0 in
+    marks-stay h.1 new answers h.4 (subst IsSome (sym step) now) ∙ step ∙ h.2.mark
 
 -- answers after the mark that have no message are all `Ended`
 all_ended : (old new : ReadingHold) (answers : List Read) → AreAnswers old answers new
-    → (k : Mark) → mark_read old ≡ Some k → updates_read answers ≡ []
+    → IsSome (mark_read old) → length (updates_read answers) ≡ 0
     → AllByRecursion (λ a. a ≡ Ended) answers
-all_ended old new [] h k is none = tt
-all_ended old new (Update m ∷ answers) h k is none = absurd (cc)
-all_ended old new (Fin j ∷ answers) h k is none =
-    let some = subst IsSome (sym (h.2.mark ∙ is)) refl in
-    absurd (true≢false (sym (subst IsSome h.3.gives.2 some)))
-all_ended old new (Empty ∷ answers) h k is none =
-    let some = subst IsSome (sym (h.2.mark ∙ is)) refl in
-    absurd (true≢false (sym (subst IsSome h.3.gives.2 some)))
-all_ended old new (Ended ∷ answers) h k is none = (
-  refl,
-  all_ended h.1 new answers h.4 k (mark-stays h.0 h.1 Ended h.3.gives k (h.2.mark ∙ is)) none,
-)
+all_ended old new [] h some none = tt
+all_ended old new (a ∷ answers) h some none =
+    let now = subst IsSome (sym h.2.mark) some in
+    let step = after_mark h.0 h.1 a h.3.gives now in
+    let long = length-append (update_in a) (updates_read answers) in (
+      step.1 (no_length (update_in a) (omega (arith, none, long))),
+      all_ended h.1 new answers h.4 (subst IsSome (sym step.0) now) (omega (arith, none, long)),
+    )
 
 -- the answers before one, that one, and those after it
 split : (old new : ReadingHold) (front : List Read) (a : Read) (rest : List Read)
@@ -226,20 +169,23 @@ split old new (b ∷ front) a rest h =
     let s = split h.1 new front a rest h.4 in
     (s.0, s.1, (h.0, h.1, h.2, h.3, s.2), s.3, s.4)
 
+-- a read leaves no mark, or answers it
+gives_none : (old new : ReadingHold) (a : Read) → Gives old new a → mark_read old ≡ None
+    → (mark_read new ≡ None) ⊎ ((k : Mark) × (a ≡ Fin k))
+gives_none old new a g none = grind arith
+
 -- a mark that is read is among the answers
 has_mark : (old new : ReadingHold) (answers : List Read) → AreAnswers old answers new
     → mark_read old ≡ None → IsSome (mark_read new) → ReadsHaveMark answers
 has_mark old new [] h none some =
     absurd (true≢false (sym (subst IsSome (h.mark ∙ none) some)))
-has_mark old new (Update m ∷ answers) h none some =
-    let t = has_mark h.1 new answers h.4 (h.3.gives.2 ∙ h.2.mark ∙ none) some in
-    (t.0, Update m ∷ t.1, t.2, ap (λ (l : List Read). Update m ∷ l) t.3)
-has_mark old new (Fin k ∷ answers) h none some = (k, [], answers, refl)
-has_mark old new (Empty ∷ answers) h none some =
-    let t = has_mark h.1 new answers h.4 (ap mark_read h.3.gives.0 ∙ h.2.mark ∙ none) some in
-    (t.0, Empty ∷ t.1, t.2, ap (λ (l : List Read). Empty ∷ l) t.3)
-has_mark old new (Ended ∷ answers) h none some =
-    absurd (true≢false (sym (subst IsSome (h.2.mark ∙ none) h.3.gives.2)))
+has_mark old new (a ∷ answers) h none some =
+    ⊎_elim
+    (λ still.
+    let t = has_mark h.1 new answers h.4 still some in
+    (t.0, a ∷ t.1, t.2, ap (λ (l : List Read). a ∷ l) t.3))
+    (λ k. (k.0, [], answers, ap (λ (b : Read). b ∷ answers) k.1))
+    (gives_none h.0 h.1 a h.3.gives (h.2.mark ∙ none))
 
 -- the messages of answers and of more
 updates_read-append : (front rest : List Read)
@@ -248,11 +194,6 @@ updates_read-append [] rest = refl
 updates_read-append (a ∷ front) rest =
     ap (λ (l : List Message). update_in a ++ l) (updates_read-append front rest)
     ∙ sym (append_assoc (update_in a) (updates_read front) (updates_read rest))
-
--- a list of no length is empty
-no_length : (xs : List Message) → length xs ≡ 0 → xs ≡ []
-no_length [] e = refl
-no_length (x ∷ xs) e = absurd (omega arith)
 
 module _ (first last : ReadingHold) (answers : List Read) (empty : received first ≡ [])
     (h : AreAnswers first answers last) where
@@ -270,26 +211,25 @@ module _ (first last : ReadingHold) (answers : List Read) (empty : received firs
   mark_at ends front rest k is =
       let s = split first last front (Fin k) rest
       (subst (λ (l : List Read). AreAnswers first l last) is h) in
-      let mid : ReadingHold = s.0 in
-      let next : ReadingHold = s.1 in
       let g = s.3.gives in
-      let before = answers-grow first mid front s.2 in
-      let after = answers-grow next last rest s.4 in
-      let front_is : received next ≡ updates_read front =
-      g.0 ∙ before.0 ∙ ap (λ (l : List Message). l ++ updates_read front) empty in
-      let whole : IsMarkAfter last.port.floor (known last) (received last) k =
-      ends k (marks-stay next last rest s.4 k g.3) in
-      let one : k.seq ≡ length (received next) + 1 = g.4.seq in
-      let two : k.seq ≡ length (received last) + 1 = whole.seq in
-      let long : length (received last) ≡ length (received next) + length (updates_read rest) =
-      ap (length {A = Message}) after.0
-      ∙ length-append (received next) (updates_read rest) in
-      let none : updates_read rest ≡ [] = no_length (updates_read rest) (omega arith) in
+      let before = answers-grow first s.0 front s.2 in
+      let after = answers-grow s.1 last rest s.4 in
+      let some : IsSome (mark_read s.1) = subst IsSome (sym g.3) refl in
+      let whole = ends k (marks-stay s.1 last rest s.4 some ∙ g.3) in
+      let none : length (updates_read rest) ≡ 0 =
+      omega (
+        arith,
+        g.4.seq,
+        whole.seq,
+        ap (length {A = Message}) after.0,
+        length-append (received s.1) (updates_read rest),
+      ) in
       let all : received last ≡ updates_read front =
-      after.0 ∙ ap (λ (l : List Message). received next ++ l) none
-      ∙ append-nil (received next) ∙ front_is in (
+      after.0 ∙ ap (λ (l : List Message). received s.1 ++ l) (no_length (updates_read rest) none)
+      ∙ append-nil (received s.1) ∙ g.0 ∙ before.0
+      ∙ ap (λ (l : List Message). l ++ updates_read front) empty in (
         subst (λ (l : List Message). IsMarkAfter last.port.floor (known last) l k) all whole,
-        all_ended next last rest s.4 k g.3 none,
+        all_ended s.1 last rest s.4 some none,
       )
 
 -- the law of a reader's answers
@@ -314,10 +254,7 @@ answers_told folds wholes first last answers empty none h told =
         folding = λ front rest is settled.
             let more = updates_read rest ++ told.prefix.0 in
             let split_is : updates_read front ++ more ≡ updates_upto f b (length b.changes) =
-            sym (append_assoc (updates_read front) (updates_read rest) told.prefix.0)
-            ∙ ap (λ (l : List Message). l ++ told.prefix.0)
-            (sym (updates_read-append front rest) ∙ ap updates_read (sym is) ∙ sym got)
-            ∙ told.prefix.1 in
+            grind (arith, append_assoc, updates_read-append, got, told.prefix.1) in
             folds (query_of f) f.moved b f.opened (length b.changes) (updates_read front)
             told.book.start told.book.lawful (omega arith) (omega arith) (more, split_is) settled;
         closing = λ front rest k is.

@@ -10,7 +10,7 @@ use Rattle.lq_server_slots.specs.declared.identity.Identity.{Identity}
 use Rattle.lq_server_slots.specs.declared.open.Opened.{Opened}
 use Rattle.lq_server_slots.specs.declared.slots.ServerSlots.{ServerSlots}
 use Rattle.lq_server_slots.specs.Events.{opening_refusals}
-use Rattle.lq_server_slots.specs.Opening.{IsOpened, IsOpeningTabled}
+use Rattle.lq_server_slots.specs.Opening.{IsOpened, IsOpeningAnswer, IsOpeningTabled}
 use Rattle.lq_server_slots.specs.Slots.{AreConsistent, slot_in}
 use Rattle.lq_server.specs.Hold.{ReaderHold}
 use Rattle.lq_server.specs.Own.{IsOwn}
@@ -36,6 +36,16 @@ first_opening_refusal start port backlog =
 pub record HasNoted (old new : SeatToken Identity) (under : ServerSlots) : Type 0 where
   pub moments : new.moments ≡ old.moments ++ moment_of under.keeper ∷ []
   pub counted : under.openings ≡ under.keeper.register.openings
+
+-- Over these slots an opening by this seat was answered under the lock, before it was a reader.
+pub record IsOpenedOver (under : ServerSlots) (start : State) (old new : SeatToken Identity)
+    (port backlog : ℕ) (result : Result Opened Refusal) : Type 0 where
+  pub keeps : under.keeper.book ≡ new.book
+  pub stands : AreConsistent under new.book
+  pub noted : HasNoted old new under
+  pub openings : under.openings ≤ start.limit
+  pub answered : IsOpeningAnswer under start.limit port backlog result
+  pub keeper : IfOk result (λ o. o.reading.port.floor.book.value ≡ under.keeper)
 
 -- Over these slots an opening by this seat is answered so, whether it is refused or not. They stand
 -- over the book that the seat then knows, no more were opened than the limit, and a slot that is

@@ -82,10 +82,8 @@ impl<N: Named> Server<N> {
         ensures free { N.board.free ≡ true }
     {
         let (board, locked) = base.into_parts();
-        Server {
-            state: Mutex::new(locked),
-            board,
-        }
+        let state = Mutex::new(locked);
+        Server { state, board }
     }
 
     /// A counted server over a base, and its leading seat. Another seat may make changes just while
@@ -99,11 +97,8 @@ impl<N: Named> Server<N> {
         ensures head { result.1 ≡ leading_seat N.board N.start }
     {
         let (board, locked, head) = base.into_counted();
-        let server = Server {
-            state: Mutex::new(locked),
-            board,
-        };
-        (server, head)
+        let state = Mutex::new(locked);
+        (Server { state, board }, head)
     }
 
     /// The leading seat enlists another, which made no change and may make changes from then on.

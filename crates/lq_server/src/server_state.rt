@@ -6,6 +6,7 @@ ghost use Rattle.lq_board.specs.Book.{IsFullBook};
 ghost use Rattle.lq_board.specs.Slot.{slot_at};
 ghost use Rattle.lq_board.specs.Token.{moment_of};
 ghost use Rattle.lq_server_slots.specs.Slots.{SameButKnown, AreConsistent};
+ghost use Rattle.lq_server.specs.Own.{StaysOwn};
 
 mod subscriptions;
 mod volume;
@@ -146,6 +147,7 @@ impl<N: Named> ServerState<N> {
         ensures seat { seat.new ≡ record seat.old { book = self.old.slots.keeper.book } }
         ensures known { 0 < seat.old.slot
             → seat.old.asks ≤ (slot_at self.new.slots.keeper.slots seat.old.slot).asks }
+        ensures own { StaysOwn seat.old seat.new }
         ensures later { Extends seat.new.book seat.old.book }
         ensures number { result ≡ length self.old.slots.keeper.book.changes }
         ensures seats { self.new.seats ≡ self.old.seats }
@@ -186,12 +188,7 @@ impl<N: Named> ServerState<N> {
             alloc: _,
             of: _,
         } = self;
-        let ServerSlots {
-            keeper,
-            subscriptions: _,
-            taken: _,
-            openings: _,
-        } = slots;
+        let ServerSlots { keeper, .. } = slots;
         (keeper, volume)
     }
 }

@@ -1,5 +1,5 @@
 //! Calls of a server on its subscriptions.
-ghost use Rattle.std.specs.Prelude.{◌≡◌, ◌+◌, ◌<◌, ◌≤◌, ◌^◌, [], IfOk, IfErr, IfSome, IfNone, OnOk, Err, true, false};
+ghost use Rattle.std.specs.Prelude.{◌≡◌, ◌+◌, ◌-◌, ◌<◌, ◌^◌, [], IfOk, IfErr, IfSome, IfNone, OnOk, Err, is_some, true, false};
 ghost use Rattle.lq_value.specs.declared.refusal.Refusal.TheVariants.{StillOpen};
 ghost use Rattle.lq_value.specs.Refusal.{IsRefusedBy};
 ghost use Rattle.lq_volume.specs.Book.{Extends};
@@ -18,7 +18,7 @@ use crate::reader::Reader;
 use crate::server::{Server, Synced};
 use crate::server_base::{Base, Named, Seat};
 use lq_predicate::Predicate;
-use lq_server_slots::OpenRequest;
+use lq_server_slots::{OpenRequest, Progress, Reading};
 use lq_value::Refusal;
 use std::sync::{Mutex, Wait};
 
@@ -73,10 +73,8 @@ impl<N: Named> Server<N> {
             slot: opened.slot,
             hang_up_asked: false,
         };
-        let server = Server {
-            state: Mutex::new(locked),
-            board,
-        };
+        let state = Mutex::new(locked);
+        let server = Server { state, board };
         Ok((server, Callers { head, seat, reader }))
     }
 
@@ -146,15 +144,9 @@ impl<N: Named> Server<N> {
             .state
             .lock(rt)
             .sync(rt, &self.board, &mut reader.seat, &mut reader.reading);
-        let waiting = waiting(
-            progress.waiting,
-            reader.reading.has_hand(),
-            progress.out,
-            reader.reading.is_ended(),
-        );
         Synced {
             change: progress.change,
-            waiting,
+            waiting: waiting(&progress, &reader.reading),
             held: progress.held,
             mark: progress.mark,
         }
@@ -204,29 +196,24 @@ impl<N: Named> Server<N> {
             return Err((reader, Refusal::StillOpen));
         }
         let Reader {
-            reading: _,
             seat,
-            slot: _,
             hang_up_asked,
+            ..
         } = reader;
         self.state.lock(rt).free(&self.board, seat, hang_up_asked);
         Ok(())
     }
 }
 
-// How many updates wait, in a port with this many parcels or in hand.
-//
-// `in_hand` says whether a message was taken and isn't folded yet, `out` whether the mark was put,
-// and `ended` whether the mark was read.
-fn waiting(parcels: u64, in_hand: bool, out: bool, ended: bool) -> u64
-    requires marks { bit (is_mark_in_port out ended) ≤ parcels + bit in_hand }
-    requires few { parcels < 2 ^ 63 }
-    ensures { result + bit (is_mark_in_port out ended) ≡ parcels + bit in_hand }
+// How many updates wait: the parcels in the port but the mark, and the message in hand.
+fn waiting(progress: &Progress, reading: &Reading) -> u64
+    ensures { progress.now.waiting < 2 ^ 63
+        → result ≡ progress.now.waiting + bit (is_some reading.now.hand)
+        - bit (is_mark_in_port progress.now.out (is_marked reading.now)) }
 {
-    let all = if in_hand { parcels + 1 } else { parcels };
-    if out {
-        if ended { all } else { all - 1 }
-    } else {
-        all
+    match (reading.has_hand(), progress.out && !reading.is_ended()) {
+        (true, false) => progress.waiting.saturating_add(1),
+        (false, true) => progress.waiting.saturating_sub(1),
+        _ => progress.waiting,
     }
 }

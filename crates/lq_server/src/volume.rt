@@ -78,7 +78,10 @@ impl<N: Named> Server<N> {
             found.entries.items ≡ result_of predicate.now (state_of seat.new.book)) }
         ensures refused { FailsOnlyForMemory result }
     {
-        self.state.lock(rt).fetch(&self.board, seat, predicate)
+        let mut locked = self.state.lock(rt);
+        let at = locked.meet(&self.board, seat);
+        let entries = locked.volume().fetch(predicate)?;
+        Ok(Found { at, entries })
     }
 
     /// The node at a place, after the book that the seat then knows.
@@ -103,7 +106,9 @@ impl<N: Named> Server<N> {
         ensures err { IfErr result (λ e.
             first_refusal (find_refusals (state_of seat.new.book) dir name.now) ≡ Some e) }
     {
-        self.state.lock(rt).find(&self.board, seat, dir, name)
+        let mut locked = self.state.lock(rt);
+        locked.meet(&self.board, seat);
+        locked.volume().find(dir, name)
     }
 
     /// A copy of a node's whole entry, after the book that the seat then knows.
@@ -120,6 +125,8 @@ impl<N: Named> Server<N> {
         ensures refused { IsRefusedBy result
             (first_refusal (entry_refusals (state_of seat.new.book) node)) }
     {
-        self.state.lock(rt).listing(&self.board, seat, node)
+        let mut locked = self.state.lock(rt);
+        locked.meet(&self.board, seat);
+        locked.volume().listing(node)
     }
 }

@@ -1,13 +1,13 @@
 //! Calls on the subscriptions under the lock.
-ghost use Rattle.std.specs.Prelude.{◌≡◌, ◌≢◌, ℕ, ◌+◌, ◌<◌, ◌≤◌, IfOk, OnOk, OnErr, IsSome, IsSomeAnd, None};
+ghost use Rattle.std.specs.Prelude.{◌≡◌, ◌≢◌, ℕ, ◌+◌, ◌<◌, IfOk, OnOk, OnErr, IsSome, IsSomeAnd, None};
 ghost use Rattle.lq_volume.specs.Book.{Extends};
 ghost use Rattle.lq_server_slots.specs.declared.subscription.Subscription.{Subscription as SubscriptionOf};
 ghost use Rattle.lq_server_slots.specs.declared.slots.ServerSlots.{ServerSlots as SlotsOf};
-ghost use Rattle.lq_server_slots.specs.Slots.{SameButKnown, AreConsistent, slot_in};
-ghost use Rattle.lq_server_slots.specs.Opening.{IsOpened, IsOpeningAnswer, IdentityFits, asks_after};
+ghost use Rattle.lq_server_slots.specs.Slots.{SameButKnown, slot_in};
+ghost use Rattle.lq_server_slots.specs.Opening.{IsOpened, IdentityFits, asks_after};
 ghost use Rattle.lq_server_slots.specs.Progress.{ShowsProgress};
 ghost use Rattle.lq_server.specs.Closed.{IsClosing};
-ghost use Rattle.lq_server.specs.Opened.{HasNoted};
+ghost use Rattle.lq_server.specs.Opened.{IsOpenedOver};
 
 use crate::server_base::Named;
 use crate::server_state::ServerState;
@@ -48,14 +48,9 @@ impl<N: Named> ServerState<N> {
         ensures err { OnErr result (SameButKnown self.old.slots self.new.slots) }
 
         // The first refusal that fits and no other, or the lowest free slot, by the keeper whose
-        // moment the seat has noted. It is the one that the reader's floor has.
+        // moment the seat has noted.
         ensures over { (under : SlotsOf) × SameButKnown self.old.slots under
-            × AreConsistent under under.keeper.book
-            × HasNoted seat.old seat.new under
-            × IfOk result (λ o. o.reading.port.floor.book.value ≡ under.keeper) }
-        ensures within { self.old.slots.openings ≤ N.start.limit }
-        ensures answered { IsOpeningAnswer self.old.slots N.start.limit asked.now.port
-            asked.now.backlog result }
+            × IsOpenedOver under N.start seat.old seat.new asked.now.port asked.now.backlog result }
     {
         self.note(board, seat);
         open_in(self.alloc, board, &mut self.slots, &self.volume, asked)

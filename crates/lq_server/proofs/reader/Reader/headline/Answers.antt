@@ -1,14 +1,27 @@
-use Rattle.std.proofs.Common.{subst}
-use Rattle.lq_server.specs.Headline.{ReaderIsTold}
-use Rattle.lq_server.proofs.OwnLemmas.{hold}
-use Rattle.lq_server.proofs.HeadlineLemmas.{reader_told}
+use Rattle.std.proofs.Common.{◌≡◌, sym, ap, ◌∙◌, subst}
+use Rattle.std.proofs.lemmas.Option.{MatchOption-at_some}
+use Rattle.lq_update.specs.declared.mark.Mark.{Mark}
+use Rattle.lq_server_slots.specs.Reading.{known}
+use Rattle.lq_server.specs.Headline.{ReaderIsTold, result_after}
+use Rattle.lq_server.proofs.HeadlineLemmas.{ends_whole, once_told, only_ended, opened_told, prefix_told}
 use Rattle.lq_server.proofs.reader.Reader.headline.Goals as goal
 
 pub returns : goal.returns
 returns c =
-    let i = c.self.inside in
-    subst ReaderIsTold c.self.view_is
-    (reader_told (hold i.reading i.seat i.slot i.hang_up_asked) c.is_settled.result
-    c.last_change.result c.result.result.now c.update_facts.ensures c.is_settled.ensures.received
-    c.is_settled.ensures.whole c.last_change.ensures.change c.last_change.ensures.received
-    c.result.ensures.entries c.result.ensures.marked)
+    let r = c.self.inside.reading in
+    let told = c.update_facts.ensures in
+    let ends = ends_whole r told in
+    let after = result_after r.port.floor (known r) in
+    subst ReaderIsTold c.self.view_is (record {
+      book = told.legal_list.full;
+      opened = opened_told r told;
+      prefix = prefix_told r told;
+      once = once_told r told;
+      mark = ends;
+      over = λ some next a ends_next g. only_ended r next a ends ends_next some g;
+      settled = λ yes. c.is_settled.ensures.whole (c.is_settled.ensures.received.1 yes)
+          ∙ ap after (sym c.last_change.ensures.change ∙ c.last_change.ensures.received);
+      closed = λ k there. sym c.result.ensures.entries
+          ∙ MatchOption-at_some _ (λ (k : Mark). c.result.result.now ≡ after k.change) k there
+          c.result.ensures.marked;
+    })

@@ -1,15 +1,12 @@
-use Rattle.std.proofs.Common.{◌≡◌, rules, false, true≢false, inl, refl, sym, ◌∙◌, subst}
-use Rattle.std.specs.Prelude.{IfOk, OnErr}
+use Rattle.std.proofs.Common.{◌≡◌, arith, rules, false, true≢false, inl, inr, refl, sym, ◌∙◌, subst}
+use Rattle.std.proofs.lemmas.Result.{IfOk-weaker, on_err_weaker}
 use mathlib.Core.List.{IsPrefix}
 use Rattle.lq_volume.specs.Book.{Book, Extends}
-use Rattle.lq_port.specs.End.{IsSamePort}
-use Rattle.lq_desk_sub.specs.declared.read.Read.TheVariants.{Ended}
 use Rattle.lq_server_slots.specs.Rule.{all_updates}
-use Rattle.lq_server_slots.specs.Reading.{Gives, Fails, known, received, is_marked}
+use Rattle.lq_server_slots.specs.Reading.{Gives, known, received, is_marked}
 use Rattle.lq_server.specs.Hold.{ReaderHold}
-use Rattle.lq_server.specs.Own.{IsOwn}
-use Rattle.lq_server.specs.Syncing.{IsRead, IsUnread}
-use Rattle.lq_server.proofs.OwnLemmas.{ended_gives, hold, own_reads, received_front, reads_on, unread_on}
+use Rattle.lq_server.specs.Syncing.{IsSynced, IsRead}
+use Rattle.lq_server.proofs.OwnLemmas.{hold, received_front}
 use Rattle.lq_server.proofs.reader.Reader.read_waiting.Goals as goal
 
 pub returns-then-is_ended : goal.returns-then-is_ended
@@ -24,12 +21,7 @@ returns-then-is_ended g c = record {
       (received_front c.self.inside.reading c.update_facts.ensures);
   known = search rules;
   refused = search rules;
-  gives = inl (
-    refl,
-    refl,
-    subst (λ (r : ReaderHold). Gives r.reading r.reading Ended) c.self.view_is
-        (ended_gives c.self.inside.reading c.update_facts.ensures (sym c.if-is_ended.ensures)),
-  );
+  gives = inl (refl, refl, grind arith);
   fails = tt;
   over = λ _. refl;
   waits = search rules;
@@ -41,38 +33,24 @@ returns g c =
     (sym c.if-is_ended.ensures) in
     let old = c.args.self.now in
     let new = c.read_waiting.new.self in
-    let s = c.pump.ensures.1 in
+    let i = c.self-2.inside in
+    let mid : ReaderHold = hold i.reading i.seat i.slot i.hang_up_asked in
+    let x = c.pump.ensures.0 in
+    let s : IsSynced old mid x =
+    subst (λ (r : ReaderHold). IsSynced old r x) (sym c.self-2.view_is) c.pump.ensures.1 in
     let w = c.read_waiting.ensures in record {
-      own = subst (λ (r : ReaderHold). IsOwn (record r { reading = new }))
-          (sym c.self-2.view_is)
-          (own_reads c.pump.new.reader new
-          (subst (λ (r : ReaderHold). IsSamePort r.reading.port new.port)
-          c.self-2.view_is w.same) s.own);
-      seat = subst
-          (λ (r : ReaderHold). r.seat ≡ record old.seat { book = r.seat.book; name = r.seat.name })
-          (sym c.self-2.view_is) s.seat;
-      later = search rules;
-      rest = subst (λ (r : ReaderHold). hold new r.seat r.slot r.hang_up_asked
-          ≡ hold new r.seat old.slot old.hang_up_asked) (sym c.self-2.view_is)
-          (λ k. hold new c.pump.new.reader.seat (s.slot k) (s.hang_up_asked k));
-      port = search rules;
+      own = grind arith;
+      seat = s.seat;
+      later = s.later;
+      rest = λ k. hold new i.seat (s.slot k) (s.hang_up_asked k);
+      port = (w.same.0 ∙ s.port.0, w.same.1 ∙ s.port.1, w.same.2 ∙ s.port.2);
       received = search rules;
-      known = subst (λ (b : Book). Extends (known new) b) s.known_stays
-          (subst (λ (r : ReaderHold). Extends (known new) (known r.reading))
-          c.self-2.view_is w.known);
+      known = subst (λ (b : Book). Extends (known new) b) s.known_stays w.known;
       refused = search rules;
-      gives = subst (λ (r : ReaderHold). IfOk c.read_waiting.result
-          (IsRead old (record r { reading = new }))) (sym c.self-2.view_is)
-          (reads_on old c.pump.new.reader new c.pump.ensures.0 live s
-          c.read_waiting.result
-          (subst (λ (r : ReaderHold). IfOk c.read_waiting.result (Gives r.reading new))
-          c.self-2.view_is w.gives));
-      fails = subst (λ (r : ReaderHold). OnErr c.read_waiting.result
-          (IsUnread old (record r { reading = new }))) (sym c.self-2.view_is)
-          (unread_on old c.pump.new.reader new c.pump.ensures.0 live s
-          c.read_waiting.result
-          (subst (λ (r : ReaderHold). OnErr c.read_waiting.result (Fails r.reading new))
-          c.self-2.view_is w.fails));
+      gives = IfOk-weaker c.read_waiting.result (Gives mid.reading new)
+          (IsRead old (record mid { reading = new }))
+          (λ a h. inr (live, (mid, x, s, h, refl))) w.gives;
+      fails = on_err_weaker c.read_waiting.result (λ h. (live, (mid, x, s, h, refl))) w.fails;
       over = λ some. absurd (true≢false (sym some ∙ live));
       waits = w.waits;
     }

@@ -1,18 +1,11 @@
-use Rattle.std.proofs.Common.{ℕ, ◌<◌, sym, subst}
+use Rattle.std.proofs.Common.{ℕ, sym, subst}
 use Rattle.std.specs.Prelude.{Result}
 use Rattle.lq_value.specs.declared.refusal.Refusal.{Refusal}
 use Rattle.lq_server.specs.Closed.{IsCloseAnswer}
 use Rattle.lq_server.specs.Hold.{ReaderHold}
 use Rattle.lq_server.specs.Own.{IsOwn}
-use Rattle.lq_server.proofs.OwnLemmas.{closed_answer, hold, own_fits}
+use Rattle.lq_server.proofs.OwnLemmas.{closed_answer, hold}
 use Rattle.lq_server.proofs.server.Server.close.Goals as goal
-
-pub close-closed-requires-clause-seat : goal.close-closed-requires-clause-seat
-close-closed-requires-clause-seat g c =
-    let i = c.reader.inside in
-    let old : ReaderHold = hold i.reading i.seat i.slot i.hang_up_asked in
-    let own : IsOwn old = subst IsOwn (sym c.reader.view_is) c.requires.own in
-    (subst (λ (k : ℕ). 0 < k) (sym own.slot) own.low, own_fits old own)
 
 pub returns : goal.returns
 returns g c =
