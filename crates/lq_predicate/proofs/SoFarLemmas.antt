@@ -1,7 +1,7 @@
 -- What is known while a formula is read.
-use Rattle.std.proofs.Common.{◌≡◌, ◌≤◌, ◌<◌, ◌+◌, ◌^◌, ℕ, Bool, true, false, List, [], ◌∷◌, ◌++◌, append_assoc, IsUtf8, length, Option, Some, None, refl, sym, ap, ◌∙◌, subst, arith}
-use Rattle.std.specs.Prelude.{if◌then◌else◌, IsSome, nat_le, Result, Err}
-use Rattle.std.proofs.lemmas.Bool.{lt-leb, le-leb, leb-true}
+use Rattle.std.proofs.Common.{◌≡◌, ◌≤◌, ◌<◌, ◌+◌, ◌^◌, ℕ, List, [], ◌∷◌, ◌++◌, append_assoc, IsUtf8, length, Option, Some, None, refl, sym, ap, ◌∙◌, subst, arith}
+use Rattle.std.specs.Prelude.{if◌then◌else◌, Result, Err}
+use Rattle.std.proofs.lemmas.Bool.{lt-leb, le-leb}
 use Rattle.std.proofs.lemmas.List.{append-nil}
 use Rattle.lq_predicate_formula.specs.Words.{WordIs, WordsAre}
 use Rattle.lq_predicate_formula.specs.Tokens.{HasTokens, Placed, Yields, bare}
@@ -11,7 +11,7 @@ use Rattle.lq_predicate_formula.specs.Machine.{MachineState, start, step, finish
 use Rattle.lq_predicate_formula.specs.Faults.{most_bytes, most_comparisons}
 use Rattle.lq_predicate_formula.specs.MachineReading.{after_token, fault_place, finished, machine_reading, read_tokens, word_count}
 use Rattle.lq_predicate_formula.proofs.OneReadingLemmas.{machine_reads}
-use Rattle.lq_predicate.specs.ParserView.{pattern_fault}
+use Rattle.lq_predicate.specs.Building.{pattern_fault}
 use Rattle.lq_predicate.specs.PlainPlace.{plain_place}
 use Rattle.lq_predicate.specs.Reading.{reading_of, the_reading}
 use Rattle.lq_predicate.specs.Refusals.{fault_of}
@@ -19,7 +19,8 @@ use Rattle.lq_predicate.proofs.PlaceLemmas.{fault_place-plain, fault_place-patte
 use Rattle.lq_predicate.proofs.TokenListLemmas.{the_tokens, tokens_from, tokens_of}
 use Rattle.lq_predicate.proofs.WeightLemmas.{step_weight}
 
--- a formula is read up to a place: what the whole reading is, from the state there
+-- a formula is read up to a place: what the whole reading is, from the state there, and that the
+-- words before it are of UTF-8
 pub record SoFar (text : List ℕ) (place : ℕ) (rest : List ℕ) (s : MachineState) (count : ℕ) :
     Type 0 where
   pub reads : read_tokens (length text) s count (tokens_from place rest) ≡ reading_of text
@@ -27,6 +28,9 @@ pub record SoFar (text : List ℕ) (place : ℕ) (rest : List ℕ) (s : MachineS
   pub small : weight s ≤ 64
   pub short : length text ≤ 4096
   pub room : place + length rest ≡ length text
+  pub front : List Placed
+  pub split : tokens_of text ≡ front ++ tokens_from place rest
+  pub texts : WordsAre IsUtf8 (bare front)
 
 -- the reading is the one that the machine finds
 machine_finds : (text : List ℕ) → machine_reading text (tokens_of text) ≡ reading_of text
@@ -44,6 +48,9 @@ starts text s h e = record {
   small = subst (λ x. weight x ≤ 64) (sym e) (omega arith);
   short = h;
   room = omega arith;
+  front = [];
+  split = refl;
+  texts = tt;
 }
 
 -- one token, and the others behind it
@@ -60,6 +67,12 @@ no_token : (end : ℕ) (s : MachineState) (count : ℕ) → read_tokens end s co
 unfolding read_tokens
 no_token end s count = refl
 
+-- words of UTF-8 and one more are words of UTF-8
+words-push : (ts : List Placed) (t : Placed) → WordsAre IsUtf8 (bare ts) → WordIs IsUtf8 t.token
+    → WordsAre IsUtf8 (bare (ts ++ t ∷ []))
+words-push [] t w h = (h, tt)
+words-push (u ∷ ts) t w h = (w.0, words-push ts t w.1 h)
+
 module _ (text : List ℕ) (place : ℕ) (rest : List ℕ) (s : MachineState) (count : ℕ)
     (h : SoFar text place rest s count) where
   -- where a token is next, the reading goes on from what the machine makes of it
@@ -74,8 +87,8 @@ module _ (text : List ℕ) (place : ℕ) (rest : List ℕ) (s : MachineState) (c
   pub goes_on : (t : Placed) (next : ℕ) (behind : List ℕ) (s' : MachineState) (n : ℕ)
       → tokens_from place rest ≡ t ∷ tokens_from next behind → step s t.token ≡ Some s'
       → n ≡ count + word_count t.token → n ≤ 512 → next + length behind ≡ place + length rest
-      → SoFar text next behind s' n
-  goes_on t next behind s' n e k same few room = record {
+      → WordIs IsUtf8 t.token → SoFar text next behind s' n
+  goes_on t next behind s' n e k same few room word = record {
     reads =
         let others : MachineState → Result Query ℕ =
         λ x. read_tokens (length text) x (count + word_count t.token) (tokens_from next behind) in
@@ -89,6 +102,10 @@ module _ (text : List ℕ) (place : ℕ) (rest : List ℕ) (s : MachineState) (c
     small = step_weight s t.token s' 64 k h.small;
     short = h.short;
     room = room ∙ h.room;
+    front = h.front ++ t ∷ [];
+    split = h.split ∙ ap (λ ts. h.front ++ ts) e
+        ∙ sym (append_assoc h.front (t ∷ []) (tokens_from next behind));
+    texts = words-push h.front t h.texts word;
   }
 
   -- where the machine refuses the next token, the reading has the token's fault
@@ -141,81 +158,9 @@ module _ (text : List ℕ) (place : ℕ) (rest : List ℕ) (s : MachineState) (c
       let bound = pattern_place-bound place rest t next behind s.expected k y total f in
       omega (arith, bound, h.room, h.short)
 
--- ---- a text that reads as a query
-
--- a reading without a fault passes its test
-pub passes : (b : Bool) (r : Result Query ℕ) (place : ℕ)
-    → fault_of (if b then r else Err place) ≡ None → b ≡ true
-passes true r place fine = refl
-passes false r place fine = cc
-
--- it takes its token
-taken_by : (fault : ℕ) (t : Placed) (o : Option MachineState) (n : ℕ)
-    (others : MachineState → Result Query ℕ)
-    → fault_of (after_token fault t o n others) ≡ None → IsSome o
-taken_by fault t None n others fine = cc
-taken_by fault t (Some s) n others fine = refl
-
-module _ (text : List ℕ) (place : ℕ) (rest : List ℕ) (s : MachineState) (count : ℕ)
-    (h : SoFar text place rest s count) (fine : fault_of (reading_of text) ≡ None) where
-  -- the next token can be taken
-  pub takes : (t : Placed) (ts : List Placed) → tokens_from place rest ≡ t ∷ ts
-      → IsSome (step s t.token)
-  takes t ts e = taken_by (fault_place (length text) s.expected t) t (step s t.token)
-      (count + word_count t.token)
-      (λ x. read_tokens (length text) x (count + word_count t.token) ts)
-      (sym (ap fault_of (reads_on text place rest s count h t ts e)) ∙ fine)
-
-  -- and the text reads on behind it
-  pub reads_further : (t : Placed) (next : ℕ) (behind : List ℕ) (s' : MachineState)
-      → tokens_from place rest ≡ t ∷ tokens_from next behind → step s t.token ≡ Some s'
-      → next + length behind ≡ place + length rest
-      → SoFar text next behind s' (count + word_count t.token)
-  reads_further t next behind s' e k room =
-      let n = count + word_count t.token in
-      let others : MachineState → Result Query ℕ =
-      λ x. read_tokens (length text) x n (tokens_from next behind) in
-      let on = reads_on text place rest s count h t (tokens_from next behind) e
-      ∙ ap (λ o. after_token (fault_place (length text) s.expected t) t o n others) k in
-      let few = passes (nat_le n (most_comparisons + most_comparisons)) (others s') t.place
-      (sym (ap fault_of on) ∙ fine) in
-      goes_on text place rest s count h t next behind s' n e k refl
-      (leb-true n (most_comparisons + most_comparisons) few) room
-
--- ---- the words that are read are texts
-
--- the words that were read up to a place are of UTF-8
-pub record TextsSoFar (text : List ℕ) (place : ℕ) (rest : List ℕ) : Type 0 where
-  pub front : List Placed
-  pub split : tokens_of text ≡ front ++ tokens_from place rest
-  pub texts : WordsAre IsUtf8 (bare front)
-
--- before the first token no words have been read
-pub no_texts : (text : List ℕ) → TextsSoFar text 0 text
-no_texts text = record { front = []; split = refl; texts = tt }
-
--- words of UTF-8 and one more are words of UTF-8
-words-push : (ts : List Placed) (t : Placed) → WordsAre IsUtf8 (bare ts) → WordIs IsUtf8 t.token
-    → WordsAre IsUtf8 (bare (ts ++ t ∷ []))
-words-push [] t w h = (h, tt)
-words-push (u ∷ ts) t w h = (w.0, words-push ts t w.1 h)
-
--- one token more is read, and its word is of UTF-8
-pub one_text : (text : List ℕ) (place : ℕ) (rest : List ℕ)
-    → TextsSoFar text place rest → (t : Placed) (next : ℕ) (behind : List ℕ)
-    → tokens_from place rest ≡ t ∷ tokens_from next behind → WordIs IsUtf8 t.token
-    → TextsSoFar text next behind
-one_text text place rest s t next behind e h = record {
-  front = s.front ++ t ∷ [];
-  split = s.split ∙ ap (λ ts. s.front ++ ts) e
-      ∙ sym (append_assoc s.front (t ∷ []) (tokens_from next behind));
-  texts = words-push s.front t s.texts h;
-}
-
--- where no token is left, all words of the text are of UTF-8
-pub all_texts : (text : List ℕ) (place : ℕ) (rest : List ℕ) → TextsSoFar text place rest
-    → tokens_from place rest ≡ [] → (ts : List Placed) → HasTokens 0 text ts
-    → WordsAre IsUtf8 (bare ts)
-all_texts text place rest s e ts has = subst (λ us. WordsAre IsUtf8 (bare us))
-    (sym ((the_tokens 0 text).only ts has ∙ s.split ∙ ap (λ us. s.front ++ us) e
-    ∙ append-nil s.front)) s.texts
+  -- where no token is left, all words of the text are of UTF-8
+  pub all_texts : tokens_from place rest ≡ [] → (ts : List Placed) → HasTokens 0 text ts
+      → WordsAre IsUtf8 (bare ts)
+  all_texts e ts has = subst (λ us. WordsAre IsUtf8 (bare us))
+      (sym ((the_tokens 0 text).only ts has ∙ h.split ∙ ap (λ us. h.front ++ us) e
+      ∙ append-nil h.front)) h.texts
