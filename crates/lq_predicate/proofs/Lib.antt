@@ -1,11 +1,10 @@
 -- Read in this order. Stacks: FitLemmas, StarredLemmas (a comparison's size, and a pattern that
--- finds a text's characters), StackLemmas. Reading: QuerySizeLemmas, WeightLemmas, MachineLemmas,
--- PlaceLemmas, TokenListLemmas, SoFarLemmas, LimitLemmas, ReadLemmas.
+-- finds a text's characters), StackLemmas. Reading: QuerySizeLemmas, MachineLemmas, PlaceLemmas,
+-- TokenListLemmas, SoFarLemmas, LimitLemmas, ReadLemmas.
 pub mod FitLemmas
 pub mod StarredLemmas
 pub mod StackLemmas
 pub mod QuerySizeLemmas
-pub mod WeightLemmas
 pub mod MachineLemmas
 pub mod PlaceLemmas
 pub mod TokenListLemmas

@@ -7,7 +7,7 @@ use Rattle.lq_value.specs.declared.literal.Literal.{Literal}
 use Rattle.lq_value.specs.declared.op.Op.{Op}
 use Rattle.lq_predicate_formula.specs.Capped.{capped}
 use Rattle.lq_predicate_formula.specs.Literals.{name_of, literal_of}
-use Rattle.lq_predicate_formula.specs.Machine.{Frame, Expected, operand, after_attr, after_op, after_operand, MachineState, step_at, empty_frame, completed, deeper, close, said_by, open_weight, weight}
+use Rattle.lq_predicate_formula.specs.Machine.{Frame, Expected, operand, after_attr, after_op, after_operand, MachineState, step_at, empty_frame, completed, deeper, close, said_by, open_weight}
 use Rattle.lq_predicate_formula.specs.Query.{Query, Compare, both_of}
 use Rattle.lq_predicate_formula.specs.Tokens.{Token, opens, closes, bang, ands, ors, op, word}
 use Rattle.lq_predicate.specs.Building.{HasBuilt, IsBuilt, built_expected, built_frame}
@@ -38,14 +38,17 @@ module _ {N P : Type 0} (named : List ℕ → N) (parts : List Query → P) wher
       → HasBuilt parts frames s → (a : List ℕ) × (name_of raw ≡ Some a) × (n ≡ named a)
       → Leads operand s (word raw) frames (expects.AfterAttr n)
   name_read frames s raw n h (a, e, is) = (
-    record { below = s.below; top = s.top; expected = after_attr a; room = s.room },
+    _,
     ap (option_map (λ name. record {
       below = s.below;
       top = s.top;
       expected = after_attr name;
       room = s.room;
     })) e,
-    (record { below = h.below; top = h.top; room = h.room }, ap (λ k. expects.AfterAttr k) is),
+    (
+      record { below = h.below; top = h.top; room = h.room; light = h.light },
+      ap (λ k. expects.AfterAttr k) is,
+    ),
   )
 
   -- where frames have room, the state has
@@ -59,74 +62,60 @@ module _ {N P : Type 0} (named : List ℕ → N) (parts : List Query → P) wher
       → below.items ≡ frames.below.items ++ frames.top ∷ [] → top ≡ built_frame parts empty_frame
       → Leads operand s opens (record { below = below; top = top; room = frames.room - 1 })
       expects.Operand
-  opened frames s below top h some push new = (
-    record {
-      below = s.top ∷ s.below;
-      top = empty_frame;
-      expected = operand;
-      room = frames.room - 1;
-    },
-    deeper_some s.room (frames.room - 1) _ (left_room frames s h some),
-    (
-      record {
-        below = ap reverse push ∙ reverse-append frames.below.items (frames.top ∷ [])
-            ∙ ap (λ t. t ∷ reverse frames.below.items) h.top
-            ∙ ap (λ ts. built_frame parts s.top ∷ ts) h.below;
-        top = new;
-        room = refl;
-      },
-      refl,
-    ),
-  )
+  opened frames s below top h some push new =
+      let left = left_room frames s h some in (
+        _,
+        deeper_some s.room (frames.room - 1) _ left,
+        (
+          record {
+            below = ap reverse push ∙ reverse-append frames.below.items (frames.top ∷ [])
+                ∙ ap (λ t. t ∷ reverse frames.below.items) h.top
+                ∙ ap (λ ts. built_frame parts s.top ∷ ts) h.below;
+            top = new;
+            room = refl;
+            light = let light = h.light in omega (arith, left, light);
+          },
+          refl,
+        ),
+      )
 
   -- there is a place for each frame that has room
   pub never_full : (frames : Frames P) (s : MachineState) → HasBuilt parts frames s
-      → weight s ≤ 64 → (frames.room ≡ 0 → ⊥) → array_vec_len frames.below ≡ 64 → ⊥
-  never_full frames s h light some full =
+      → (frames.room ≡ 0 → ⊥) → array_vec_len frames.below ≡ 64 → ⊥
+  never_full frames s h some full =
       let long = open_long s.below in
       let same = ap length h.below in
       let back = length-reverse frames.below.items in
       let seen : length (map (built_frame parts) s.below) ≡ length s.below = length-map _ _ in
       let room = h.room in
+      let light = h.light in
       omega (arith, light, some, full, long, same, back, seen, room)
 
   -- `!`
   pub banged : (frames : Frames P) (s : MachineState) (n : ℕ) → HasBuilt parts frames s
-      → weight s ≤ 64 → (frames.room ≡ 0 → ⊥) → n ≡ capped (frames.top.bangs + 1)
+      → (frames.room ≡ 0 → ⊥) → n ≡ capped (frames.top.bangs + 1)
       → Leads operand s bang (record {
         below = frames.below;
         top = record { or_parts = frames.top.or_parts; and_parts = frames.top.and_parts; bangs = n };
         room = frames.room - 1;
       }) expects.Operand
-  banged frames s n h light some new = (
-    record {
-      below = s.below;
-      top = record {
-        or_parts = s.top.or_parts;
-        and_parts = s.top.and_parts;
-        bangs = suc s.top.bangs;
-      };
-      expected = operand;
-      room = frames.room - 1;
-    },
-    deeper_some s.room (frames.room - 1) _ (left_room frames s h some),
-    (
-      record {
-        below = h.below;
-        top =
-            let was : frames.top.bangs ≡ s.top.bangs = ap (λ t. t.bangs) h.top in
-            let more : n ≡ suc s.top.bangs = omega (arith, was, new, light) in
-            ap (λ t. record { or_parts = t.or_parts; and_parts = t.and_parts; bangs = n }) h.top
-            ∙ ap (λ k. record {
-              or_parts = parts s.top.or_parts;
-              and_parts = parts s.top.and_parts;
-              bangs = k;
-            }) more;
-        room = refl;
-      },
-      refl,
-    ),
-  )
+  banged frames s n h some new =
+      let left = left_room frames s h some in
+      let light = h.light in
+      let was : frames.top.bangs ≡ s.top.bangs = ap (λ t. t.bangs) h.top in
+      let more : n ≡ suc s.top.bangs = omega (arith, was, new, light) in (
+        _,
+        deeper_some s.room (frames.room - 1) _ left,
+        (
+          record {
+            below = h.below;
+            top = let top = h.top in cc;
+            room = refl;
+            light = omega (arith, left, light);
+          },
+          refl,
+        ),
+      )
 
   -- ---- in a comparison
 
@@ -135,10 +124,10 @@ module _ {N P : Type 0} (named : List ℕ → N) (parts : List Query → P) wher
       → HasBuilt parts frames s → expects.AfterAttr n ≡ built_expected named p
       → Leads p s (op o) frames (expects.AfterOp n o)
   op_read (after_attr a) frames s n o h e = (
-    record { below = s.below; top = s.top; expected = after_op a o; room = s.room },
+    _,
     refl,
     (
-      record { below = h.below; top = h.top; room = h.room },
+      record { below = h.below; top = h.top; room = h.room; light = h.light },
       let same : n ≡ named a = cc in ap (λ k. expects.AfterOp k o) same,
     ),
   )
@@ -149,32 +138,31 @@ module _ {N P : Type 0} (named : List ℕ → N) (parts : List Query → P) wher
   -- what completes an operand
   abbrev Completes : {Q : Type 0} → (Query → Q) → Q → Frames P → Frames P → Expects N → Type 0
   Completes part made frames frames' next = (s : MachineState) (q : Query)
-      → HasBuilt parts frames s → made ≡ part q → s.room + s.top.bangs ≤ 64
+      → HasBuilt parts frames s → made ≡ part q
       → IsBuilt named parts frames' (completed q s.below s.top s.room) next
 
   -- a literal
   pub literal_read : {Q : Type 0} (part : Query → Q) (made : Q) (p : Expected)
       (frames frames' : Frames P) (s : MachineState) (n : N) (o : Op) (raw : List ℕ)
       (next : Expects N)
-      → HasBuilt parts frames s → weight s ≤ 64 → expects.AfterOp n o ≡ built_expected named p
+      → HasBuilt parts frames s → expects.AfterOp n o ≡ built_expected named p
       → ((a : List ℕ) → n ≡ named a → (l : Literal) × (literal_of o raw ≡ Some l)
       × (made ≡ part (Compare a o l)))
       → Completes part made frames frames' next → Leads p s (word raw) frames' next
-  literal_read part made (after_op a q) frames frames' s n o raw next h light e has done =
+  literal_read part made (after_op a q) frames frames' s n o raw next h e has done =
       let same : n ≡ named a = cc in
       let one : o ≡ q = cc in
       let l = has a same in (
-        completed (Compare a q l.0) s.below s.top s.room,
+        _,
         ap (option_map (λ literal. completed (Compare a q literal) s.below s.top s.room))
             (subst (λ k. literal_of k raw ≡ Some l.0) one l.1),
-        done s (Compare a q l.0) h (subst (λ k. made ≡ part (Compare a k l.0)) one l.2)
-            (omega (arith, light)),
+        done s (Compare a q l.0) h (subst (λ k. made ≡ part (Compare a k l.0)) one l.2),
       )
-  literal_read part made operand frames frames' s n o raw next h light e has done =
+  literal_read part made operand frames frames' s n o raw next h e has done =
       absurd (let no : ⊥ = cc in no)
-  literal_read part made (after_attr a) frames frames' s n o raw next h light e has done =
+  literal_read part made (after_attr a) frames frames' s n o raw next h e has done =
       absurd (let no : ⊥ = cc in no)
-  literal_read part made after_operand frames frames' s n o raw next h light e has done =
+  literal_read part made after_operand frames frames' s n o raw next h e has done =
       absurd (let no : ⊥ = cc in no)
 
   -- ---- after an operand
@@ -187,19 +175,14 @@ module _ {N P : Type 0} (named : List ℕ → N) (parts : List Query → P) wher
         room = frames.room;
       }) expects.Operand
   ands_read frames s h = (
-    record {
-      below = s.below;
-      top = record { or_parts = s.top.or_parts; and_parts = s.top.and_parts; bangs = 0 };
-      expected = operand;
-      room = s.room;
-    },
+    _,
     refl,
     (
       record {
         below = h.below;
-        top =
-            ap (λ t. record { or_parts = t.or_parts; and_parts = t.and_parts; bangs = 0 }) h.top;
+        top = let top = h.top in cc;
         room = h.room;
+        light = let light = h.light in omega (arith, light);
       },
       refl,
     ),
@@ -215,31 +198,31 @@ module _ {N P : Type 0} (named : List ℕ → N) (parts : List Query → P) wher
         room = frames.room;
       }) expects.Operand
   ors_read frames s or_parts and_parts h more none = (
-    record {
-      below = s.below;
-      top = record {
-        or_parts = s.top.or_parts ++ both_of s.top.and_parts ∷ [];
-        and_parts = [];
-        bangs = 0;
-      };
-      expected = operand;
-      room = s.room;
-    },
+    _,
     refl,
-    (record { below = h.below; top = cc; room = h.room }, refl),
+    (
+      record {
+        below = h.below;
+        top = cc;
+        room = h.room;
+        light = let light = h.light in omega (arith, light);
+      },
+      refl,
+    ),
   )
 
   -- `)` where a frame is below
   pub closed : {Q : Type 0} (part : Query → Q) (made : Q) (frames frames' : Frames P)
       (s : MachineState) (b : ArrayVec (Built P)) (outer : Built P) (room : ℕ) (next : Expects N)
-      → HasBuilt parts frames s → weight s ≤ 64 → frames.below.items ≡ b.items ++ outer ∷ []
+      → HasBuilt parts frames s → frames.below.items ≡ b.items ++ outer ∷ []
       → made ≡ part (said_by s.top) → room ≡ capped (frames.room + 1)
       → Completes part made (record { below = b; top = outer; room = room }) frames' next
       → Leads after_operand s closes frames' next
-  closed part made frames frames' s b outer room next h light pop e new done =
+  closed part made frames frames' s b outer room next h pop e new done =
       by s.below
       (sym (reverse-append b.items (outer ∷ [])) ∙ sym (ap reverse pop) ∙ h.below)
-      (let was = h.room in omega (arith, was, new, light)) (omega (arith, light))
+      (let was = h.room in let light = h.light in omega (arith, was, new, light))
+      (let light = h.light in omega (arith, light))
     where
       by : (fs : List Frame) → outer ∷ reverse b.items ≡ map (built_frame parts) fs
           → room ≡ suc s.room → s.room + open_weight fs ≤ 64
@@ -247,9 +230,9 @@ module _ {N P : Type 0} (named : List ℕ → N) (parts : List Query → P) wher
           × IsBuilt named parts frames' x next
       by [] is more fits = absurd (let no : ⊥ = cc in no)
       by (f ∷ fs) is more fits = (
-        completed (said_by s.top) fs f (suc s.room),
+        _,
         refl,
         done (record { below = fs; top = f; expected = operand; room = suc s.room })
-            (said_by s.top) (record { below = cc; top = cc; room = more }) e
-            (omega (arith, fits)),
+            (said_by s.top)
+            (record { below = cc; top = cc; room = more; light = omega (arith, fits) }) e,
       )

@@ -11,7 +11,7 @@ use Rattle.lq_predicate.specs.Refusals.{fault_of}
 use Rattle.lq_predicate.specs.Building.{IsWholeOf, pattern_fault, stop_in_text}
 use Rattle.lq_predicate.specs.declared.stop.Stop.{Stop}
 use Rattle.lq_predicate.specs.declared.stop.Stop.TheVariants.{Fault, Failed}
-use Rattle.lq_predicate.proofs.SoFarLemmas.{SoFar, place_fits, stops_here, stops_within}
+use Rattle.lq_predicate.proofs.SoFarLemmas.{SoFar, place_fits, stops}
 use Rattle.lq_predicate.proofs.TokenListLemmas.{tokens_from}
 
 -- the query of a reading is one that the text reads as
@@ -53,10 +53,8 @@ pub token_stops : {B E : Type 0} (part : Query → B) (text : List ℕ) (place :
     (s : MachineState) (count : ℕ) → SoFar text place rest s count → (t : Placed)
     (ts : List Placed) (stop : Stop (Option ℕ) E) → tokens_from place rest ≡ t ∷ ts
     → Refuses s t stop → IsWholeOf part text (Err (stop_in_text (length text) t stop))
-token_stops part text place rest s count h t ts (Fault None) e m =
-    stops_here text place rest s count h t ts _ e m.0 m.1 refl
-token_stops part text place rest s count h t ts (Fault (Some k)) e m =
-    stops_within text place rest s count h t ts k e m.0 m.1
+token_stops part text place rest s count h t ts (Fault k) e m =
+    stops text place rest s count h t ts k e m.0 m.1
 token_stops part text place rest s count h t ts (Failed x) e m = tt
 
 -- the text ends here, and a whole query is built or none stands there

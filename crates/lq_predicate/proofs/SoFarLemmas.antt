@@ -7,17 +7,16 @@ use Rattle.lq_predicate_formula.specs.Words.{WordIs, WordsAre}
 use Rattle.lq_predicate_formula.specs.Tokens.{HasTokens, Placed, Yields, bare}
 use Rattle.lq_predicate_formula.specs.Query.{Query}
 use Rattle.lq_predicate_formula.specs.Grammar.{nesting}
-use Rattle.lq_predicate_formula.specs.Machine.{MachineState, start, step, finished_query, weight}
+use Rattle.lq_predicate_formula.specs.Machine.{MachineState, start, step, finished_query}
 use Rattle.lq_predicate_formula.specs.Faults.{most_bytes, most_comparisons}
 use Rattle.lq_predicate_formula.specs.MachineReading.{after_token, fault_place, finished, machine_reading, read_tokens, word_count}
 use Rattle.lq_predicate_formula.proofs.OneReadingLemmas.{machine_reads}
 use Rattle.lq_predicate.specs.Building.{pattern_fault}
-use Rattle.lq_predicate.specs.PlainPlace.{plain_place}
+use Rattle.lq_predicate.specs.PlainPlace.{place_at}
 use Rattle.lq_predicate.specs.Reading.{reading_of, the_reading}
 use Rattle.lq_predicate.specs.Refusals.{fault_of}
-use Rattle.lq_predicate.proofs.PlaceLemmas.{fault_place-plain, fault_place-pattern, pattern_place-bound}
+use Rattle.lq_predicate.proofs.PlaceLemmas.{fault_place-at, pattern_place-bound}
 use Rattle.lq_predicate.proofs.TokenListLemmas.{the_tokens, tokens_from, tokens_of}
-use Rattle.lq_predicate.proofs.WeightLemmas.{step_weight}
 
 -- a formula is read up to a place: what the whole reading is, from the state there, and that the
 -- words before it are of UTF-8
@@ -25,7 +24,6 @@ pub record SoFar (text : List ℕ) (place : ℕ) (rest : List ℕ) (s : MachineS
     Type 0 where
   pub reads : read_tokens (length text) s count (tokens_from place rest) ≡ reading_of text
   pub few : count ≤ 512
-  pub small : weight s ≤ 64
   pub short : length text ≤ 4096
   pub room : place + length rest ≡ length text
   pub front : List Placed
@@ -45,7 +43,6 @@ starts text s h e = record {
       ∙ sym (ap (λ b. if b then read_tokens (length text) (start nesting) 0 (tokens_of text)
       else Err most_bytes) (le-leb (length text) most_bytes h)) ∙ machine_finds text;
   few = omega arith;
-  small = subst (λ x. weight x ≤ 64) (sym e) (omega arith);
   short = h;
   room = omega arith;
   front = [];
@@ -99,7 +96,6 @@ module _ (text : List ℕ) (place : ℕ) (rest : List ℕ) (s : MachineState) (c
         ∙ ap (λ b. if b then others s' else Err t.place) (le-leb (count + word_count t.token)
         (most_comparisons + most_comparisons) (subst (λ m. m ≤ 512) same few)));
     few = few;
-    small = step_weight s t.token s' 64 k h.small;
     short = h.short;
     room = room ∙ h.room;
     front = h.front ++ t ∷ [];
@@ -109,27 +105,16 @@ module _ (text : List ℕ) (place : ℕ) (rest : List ℕ) (s : MachineState) (c
   }
 
   -- where the machine refuses the next token, the reading has the token's fault
-  stops : (t : Placed) (ts : List Placed) (p : ℕ) → tokens_from place rest ≡ t ∷ ts
-      → step s t.token ≡ None → p ≡ fault_place (length text) s.expected t
-      → Some p ≡ fault_of (reading_of text)
-  stops t ts p e k is = ap (λ x. Some x) is ∙ sym (ap fault_of (reads_on t ts e
+  pub stops : (t : Placed) (ts : List Placed) (k : Option ℕ) → tokens_from place rest ≡ t ∷ ts
+      → step s t.token ≡ None → pattern_fault s.expected t.token ≡ k
+      → Some (place_at (length text) t t.token k) ≡ fault_of (reading_of text)
+  stops t ts k e none f =
+      ap (λ o. Some (place_at (length text) t t.token o)) (sym f)
+      ∙ ap (λ x. Some x) (sym (fault_place-at (length text) s.expected t))
+      ∙ sym (ap fault_of (reads_on t ts e
       ∙ ap (λ o. after_token (fault_place (length text) s.expected t) t o
       (count + word_count t.token)
-      (λ x. read_tokens (length text) x (count + word_count t.token) ts)) k))
-
-  -- the token can't stand here
-  pub stops_here : (t : Placed) (ts : List Placed) (p : ℕ) → tokens_from place rest ≡ t ∷ ts
-      → step s t.token ≡ None → pattern_fault s.expected t.token ≡ None
-      → p ≡ plain_place (length text) t → Some p ≡ fault_of (reading_of text)
-  stops_here t ts p e k f is =
-      stops t ts p e k (is ∙ sym (fault_place-plain (length text) s.expected t f))
-
-  -- its pattern has a fault
-  pub stops_within : (t : Placed) (ts : List Placed) (k : ℕ) → tokens_from place rest ≡ t ∷ ts
-      → step s t.token ≡ None → pattern_fault s.expected t.token ≡ Some k
-      → Some (t.raw_place + k) ≡ fault_of (reading_of text)
-  stops_within t ts k e none f =
-      stops t ts (t.raw_place + k) e none (sym (fault_place-pattern (length text) s.expected t k f))
+      (λ x. read_tokens (length text) x (count + word_count t.token) ts)) none))
 
   -- it is a word too many
   pub one_too_many : (t : Placed) (ts : List Placed) (s' : MachineState) (n : ℕ)

@@ -1,11 +1,11 @@
 -- What the code's machine has built of what the specified one has read.
-use Rattle.std.specs.Prelude.{◌≡◌, ◌+◌, ℕ, List, map, reverse, length, Option, None, Some, Result, Ok, Err, ⊤}
-use Rattle.lq_predicate_formula.specs.Machine.{Frame, Expected, operand, after_attr, after_op, after_operand, MachineState, step_at}
+use Rattle.std.specs.Prelude.{◌≡◌, ◌≤◌, ℕ, List, map, reverse, length, Option, None, Some, Result, Ok, Err, ⊤}
+use Rattle.lq_predicate_formula.specs.Machine.{Frame, Expected, operand, after_attr, after_op, after_operand, MachineState, step_at, weight}
 use Rattle.lq_predicate_formula.specs.MachineReading.{finished, pattern_fault_of_word}
 use Rattle.lq_predicate_formula.specs.Query.{Query}
 use Rattle.lq_predicate_formula.specs.Tokens.{Token, opens, closes, bang, ands, ors, op, word, lone, cut, Placed}
 use Rattle.lq_predicate.specs.Made.{IsMadeOf}
-use Rattle.lq_predicate.specs.PlainPlace.{plain_place}
+use Rattle.lq_predicate.specs.PlainPlace.{place_at}
 use Rattle.lq_predicate.specs.Reading.{reading_of}
 use Rattle.lq_predicate.specs.Refusals.{fault_of}
 use Rattle.lq_predicate.specs.declared.machine.Expected.{Expected as Expects}
@@ -32,11 +32,13 @@ module _ {P : Type 0} (parts : List Query → P) where
   built_frame f =
       record { or_parts = parts f.or_parts; and_parts = parts f.and_parts; bangs = f.bangs }
 
-  -- The frames of the state are built; the innermost one below is the last.
+  -- The frames of the state are built; the innermost one below is the last. It nests 64 deep with
+  -- its room.
   pub record HasBuilt (frames : Frames P) (s : MachineState) : Type 0 where
     pub below : reverse frames.below.items ≡ map built_frame s.below
     pub top : frames.top ≡ built_frame s.top
     pub room : frames.room ≡ s.room
+    pub light : weight s ≤ 64
 
 module _ {N : Type 0} (named : List ℕ → N) where
   abbrev pub built_expected : Expected → Expects N
@@ -57,8 +59,7 @@ module _ {N : Type 0} (named : List ℕ → N) where
 
 -- a stop at a token with its offset in the text, which ends at `end`
 abbrev pub stop_in_text : {E : Type 0} → ℕ → Placed → Stop (Option ℕ) E → Stop ℕ E
-stop_in_text end t (Fault None) = Fault (plain_place end t)
-stop_in_text end t (Fault (Some k)) = Fault (t.raw_place + k)
+stop_in_text end t (Fault k) = Fault (place_at end t t.token k)
 stop_in_text end t (Failed e) = Failed e
 
 -- a whole query is built of the text, or it has a fault here

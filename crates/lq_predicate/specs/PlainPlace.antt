@@ -1,5 +1,5 @@
--- The offset of a token's fault where no pattern has a fault: a cut text has it at the text's end.
-use Rattle.std.specs.Prelude.{ℕ}
+-- The offset of a token's fault: a cut text has it at the text's end.
+use Rattle.std.specs.Prelude.{ℕ, ◌+◌, Option, None, Some}
 use Rattle.lq_predicate_formula.specs.Tokens.{Token, opens, closes, bang, ands, ors, op, word, lone, cut, Placed}
 
 abbrev pub place_or_end : ℕ → ℕ → Token → ℕ
@@ -15,3 +15,8 @@ place_or_end end place cut = end
 
 abbrev pub plain_place : ℕ → Placed → ℕ
 plain_place end t = place_or_end end t.place t.token
+
+-- the offset of the fault of a token of this kind, which may be in its pattern
+abbrev pub place_at : ℕ → Placed → Token → Option ℕ → ℕ
+place_at end t kind None = place_or_end end t.place kind
+place_at end t kind (Some k) = t.raw_place + k

@@ -1,7 +1,7 @@
 //! Reads tokens from the left, with a stack of the formulas that are begun.
-ghost use Rattle.std.specs.Prelude.{◌≡◌, ◌≤◌, ◌+◌, IfOk, List, option_map};
+ghost use Rattle.std.specs.Prelude.{◌≡◌, IfOk, List, option_map};
 ghost use Rattle.lq_predicate_formula.specs.Grammar.{nesting};
-ghost use Rattle.lq_predicate_formula.specs.Machine.{Frame as Begun, MachineState, after_operand, completed, empty_frame, finished_query, operand, said_by, start, weight};
+ghost use Rattle.lq_predicate_formula.specs.Machine.{Frame as Begun, MachineState, after_operand, completed, empty_frame, finished_query, operand, said_by, start};
 ghost use Rattle.lq_predicate_formula.specs.Query.{Query};
 ghost use Rattle.lq_predicate_formula.specs.TokenView.{token_of};
 ghost use Rattle.lq_predicate.specs.Building.{HasBuilt, IsBuilt, IsStepAt, built_expected, built_frame};
@@ -71,7 +71,7 @@ pub(crate) fn take<B: Builder>(
     token: &Token,
 ) -> Result<Expected<B::Name>, Stop<Option<u64>, B::Error>>
     ensures { (s : MachineState) → HasBuilt B.parts frames.old s
-        → expected ≡ built_expected B.named s.expected → weight s ≤ 64
+        → expected ≡ built_expected B.named s.expected
         → IsStepAt B.named B.parts s.expected s (token_of token.now) result frames.new }
 {
     match expected {
@@ -96,7 +96,7 @@ fn at_operand<B: Builder>(
     frames: &mut Frames<B::Parts>,
     token: &Token,
 ) -> Result<Expected<B::Name>, Stop<Option<u64>, B::Error>>
-    ensures { (s : MachineState) → HasBuilt B.parts frames.old s → weight s ≤ 64
+    ensures { (s : MachineState) → HasBuilt B.parts frames.old s
         → IsStepAt B.named B.parts operand s (token_of token.now) result frames.new }
 {
     match token {
@@ -133,7 +133,7 @@ fn after_operand<B: Builder>(
     frames: &mut Frames<B::Parts>,
     token: &Token,
 ) -> Result<Expected<B::Name>, Stop<Option<u64>, B::Error>>
-    ensures { (s : MachineState) → HasBuilt B.parts frames.old s → weight s ≤ 64
+    ensures { (s : MachineState) → HasBuilt B.parts frames.old s
         → IsStepAt B.named B.parts after_operand s (token_of token.now) result frames.new }
 {
     match token {
@@ -152,7 +152,8 @@ fn after_operand<B: Builder>(
             let Some(outer) = frames.below.pop() else {
                 return Err(Stop::Fault(None));
             };
-            let part = whole(builder, mem::replace(&mut frames.top, outer))?;
+            let inner = mem::replace(&mut frames.top, outer);
+            let part = whole(builder, inner)?;
             frames.room = frames.room.saturating_add(1);
             Ok(complete(builder, frames, part)?)
         }
@@ -167,7 +168,7 @@ fn complete<B: Builder>(
     part: B::Part,
 ) -> Result<Expected<B::Name>, B::Error>
     ensures { (s : MachineState) (q : Query) → HasBuilt B.parts frames.old s → part ≡ B.part q
-        → s.room + s.top.bangs ≤ 64 → IfOk result (λ next.
+        → IfOk result (λ next.
         IsBuilt B.named B.parts frames.new (completed q s.below s.top s.room) next) }
 {
     let bangs = frames.top.bangs;

@@ -18,7 +18,7 @@ pub stop_in_text-requires : goal.stop_in_text-requires
 stop_in_text-requires g c =
     let i = c.loop-placed.invariant in
     token_fits _ _ _ _ _ i.2 (placed_of c.in-Some.placed) _ _ _ c.in-Some.ensures.some
-    c.in-Some.ensures.place (c.in-Err.ensures i.0 i.1.0 i.1.1 i.2.small)
+    c.in-Some.ensures.place (c.in-Err.ensures i.0 i.1.0 i.1.1)
 
 pub returns-in-Err-clause-whole : goal.returns-in-Err-clause-whole
 returns-in-Err-clause-whole g c =
@@ -26,13 +26,13 @@ returns-in-Err-clause-whole g c =
     let e = tokens_from-yields _ _ _ _ _ c.in-Some.ensures.some in
     rw c.stop_in_text.ensures
     (token_stops g.B.Builder.part _ _ _ _ _ i.2 (placed_of c.in-Some.placed) _ _ e
-    (c.in-Err.ensures i.0 i.1.0 i.1.1 i.2.small))
+    (c.in-Err.ensures i.0 i.1.0 i.1.1))
 
 pub returns-then-words-gt-MOST_WORDS-clause-whole : goal.returns-then-words-gt-MOST_WORDS-clause-whole
 returns-then-words-gt-MOST_WORDS-clause-whole g c =
     let i = c.loop-placed.invariant in
     let e = tokens_from-yields _ _ _ _ _ c.in-Some.ensures.some in
-    let h = c.in-Ok.ensures i.0 i.1.0 i.1.1 i.2.small in
+    let h = c.in-Ok.ensures i.0 i.1.0 i.1.1 in
     one_too_many _ _ _ _ _ i.2 (placed_of c.in-Some.placed) _ _ _ e h.1
     (ap (λ n. c.loop-placed.words + n) c.word_count-words.ensures.value)
     c.if-words-gt-MOST_WORDS.true
@@ -41,7 +41,7 @@ pub loop-placed-preserved : goal.loop-placed-preserved
 loop-placed-preserved g c =
     let i = c.loop-placed.invariant in
     let e = tokens_from-yields _ _ _ _ _ c.in-Some.ensures.some in
-    let h = c.in-Ok.ensures i.0 i.1.0 i.1.1 i.2.small in (
+    let h = c.in-Ok.ensures i.0 i.1.0 i.1.1 in (
       h.0,
       h.2,
       goes_on _ _ _ _ _ i.2 (placed_of c.in-Some.placed) _ _ _ _ e h.1
