@@ -50,9 +50,10 @@ pub(crate) trait Builder {
         ensures { (qs : List Query) → all ≡ parts qs
             → IfOk result (λ p. p ≡ part (both_of qs)) };
 
-    fn either(&self, all: Self::Parts) -> Result<Self::Part, Self::Error>
-        ensures { (qs : List Query) → all ≡ parts qs
-            → IfOk result (λ p. p ≡ part (either_of qs)) };
+    // The parts and a last one, which has its own form where it is the only part.
+    fn either(&self, before: Self::Parts, last: Self::Part) -> Result<Self::Part, Self::Error>
+        ensures { (qs : List Query) (q : Query) → before ≡ parts qs → last ≡ part q
+            → IfOk result (λ p. p ≡ part (either_of (qs ++ q ∷ []))) };
 
     // With this many `!` before it.
     fn negated(&self, inner: Self::Part, bangs: usize) -> Result<Self::Part, Self::Error>

@@ -1,5 +1,5 @@
 //! Reads tokens from the left, with a stack of the formulas that are begun.
-ghost use Rattle.std.specs.Prelude.{◌≡◌, IfOk, List, option_map};
+ghost use Rattle.std.specs.Prelude.{◌≡◌, IfOk, option_map};
 ghost use Rattle.lq_predicate_formula.specs.Grammar.{nesting};
 ghost use Rattle.lq_predicate_formula.specs.Machine.{Frame as Begun, MachineState, after_operand, completed, empty_frame, finished_query, operand, said_by, start};
 ghost use Rattle.lq_predicate_formula.specs.Query.{Query};
@@ -180,13 +180,12 @@ fn complete<B: Builder>(
 }
 
 // What a frame says, once it is whole.
-fn whole<B: Builder>(builder: &B, mut frame: Frame<B::Parts>) -> Result<B::Part, B::Error>
+fn whole<B: Builder>(builder: &B, frame: Frame<B::Parts>) -> Result<B::Part, B::Error>
     ensures { (f : Begun) → frame ≡ built_frame B.parts f
         → IfOk result (λ part. part ≡ B.part (said_by f)) }
 {
     let last = builder.both(frame.and_parts)?;
-    builder.push(&mut frame.or_parts, last)?;
-    builder.either(frame.or_parts)
+    builder.either(frame.or_parts, last)
 }
 
 // What the formula says, if it may end here.

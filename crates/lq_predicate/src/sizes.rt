@@ -76,8 +76,8 @@ impl Builder for Sizes {
         Ok(together(all))
     }
 
-    fn either(&self, all: SizeParts) -> Result<QuerySize, Infallible> {
-        Ok(together(all))
+    fn either(&self, before: SizeParts, last: QuerySize) -> Result<QuerySize, Infallible> {
+        Ok(together(with_part(before, last)))
     }
 
     fn negated(&self, inner: QuerySize, bangs: usize) -> Result<QuerySize, Infallible> {

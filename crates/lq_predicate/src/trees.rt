@@ -95,8 +95,12 @@ impl Builder for Trees {
         Ok(Tree::both(self.list(all)))
     }
 
-    fn either(&self, all: TreeParts) -> Result<Tree, AllocError> {
-        Ok(Tree::either(self.list(all)))
+    fn either(&self, before: TreeParts, last: Tree) -> Result<Tree, AllocError> {
+        let Some(mut trees) = before.trees else {
+            return Ok(last);
+        };
+        trees.push(last)?;
+        Ok(Tree::either(trees))
     }
 
     fn negated(&self, inner: Tree, bangs: usize) -> Result<Tree, AllocError> {
