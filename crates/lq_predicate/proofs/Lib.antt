@@ -1,13 +1,12 @@
 -- Read in this order. Stacks: FitLemmas, StarredLemmas (a comparison's size, and a pattern that
 -- finds a text's characters), StackLemmas. Reading: QuerySizeLemmas, MachineLemmas, PlaceLemmas,
--- TokenListLemmas, SoFarLemmas, LimitLemmas, ReadLemmas.
+-- SoFarLemmas, LimitLemmas, ReadLemmas.
 pub mod FitLemmas
 pub mod StarredLemmas
 pub mod StackLemmas
 pub mod QuerySizeLemmas
 pub mod MachineLemmas
 pub mod PlaceLemmas
-pub mod TokenListLemmas
 pub mod SoFarLemmas
 pub mod LimitLemmas
 pub mod ReadLemmas

@@ -1,13 +1,12 @@
 -- What the code's machine has built of what the specified one has read.
 use Rattle.std.specs.Prelude.{◌≡◌, ◌≤◌, ℕ, List, map, reverse, length, Option, None, Some, Result, Ok, Err, ⊤}
+use Rattle.lq_predicate_formula.specs.Faults.{IsFaulty, IsReading}
 use Rattle.lq_predicate_formula.specs.Machine.{Frame, Expected, operand, after_attr, after_op, after_operand, MachineState, step_at, weight}
 use Rattle.lq_predicate_formula.specs.MachineReading.{finished, pattern_fault_of_word}
 use Rattle.lq_predicate_formula.specs.Query.{Query}
 use Rattle.lq_predicate_formula.specs.Tokens.{Token, opens, closes, bang, ands, ors, op, word, lone, cut, Placed}
 use Rattle.lq_predicate.specs.Made.{IsMadeOf}
 use Rattle.lq_predicate.specs.PlainPlace.{place_at}
-use Rattle.lq_predicate.specs.Reading.{reading_of}
-use Rattle.lq_predicate.specs.Refusals.{fault_of}
 use Rattle.lq_predicate.specs.declared.machine.Expected.{Expected as Expects}
 use Rattle.lq_predicate.specs.declared.machine.Expected.TheVariants as expects
 use Rattle.lq_predicate.specs.declared.machine.Frame.{Frame as Built}
@@ -62,9 +61,9 @@ abbrev pub stop_in_text : {E : Type 0} → ℕ → Placed → Stop (Option ℕ) 
 stop_in_text end t (Fault k) = Fault (place_at end t t.token k)
 stop_in_text end t (Failed e) = Failed e
 
--- a whole query is built of the text, or it has a fault here
+-- a whole query is built of the text, which reads as it within the limits, or it has a fault here
 abbrev pub IsWholeOf : {B E : Type 0} → (Query → B) → List ℕ → Result B (Stop ℕ E) → Type 0
 IsWholeOf part text (Ok made) =
-    (q : Query) × (reading_of text ≡ finished (length text) (Some q)) × (made ≡ part q)
-IsWholeOf part text (Err (Fault place)) = Some place ≡ fault_of (reading_of text)
+    (q : Query) × IsReading text (finished (length text) (Some q)) × (made ≡ part q)
+IsWholeOf part text (Err (Fault place)) = IsFaulty text place
 IsWholeOf part text (Err (Failed e)) = ⊤

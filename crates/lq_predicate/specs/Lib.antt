@@ -18,5 +18,4 @@ pub mod Building
 pub mod QuerySize
 pub mod TreeParts
 pub mod PlainPlace
-pub mod Reading
 pub mod Refusals

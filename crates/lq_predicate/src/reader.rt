@@ -1,10 +1,9 @@
 //! Reads a formula.
-ghost use Rattle.std.specs.Prelude.{◌≡◌, IfOk, IfErr, IsTrue};
+ghost use Rattle.std.specs.Prelude.{IfOk, IfErr, IsTrue};
 ghost use Rattle.lq_predicate_formula.specs.Faults.{Reads};
 ghost use Rattle.lq_predicate_formula.specs.Limits.{IsProper};
 ghost use Rattle.lq_predicate_formula.specs.PredicateLimits.{is_predicate};
-ghost use Rattle.lq_predicate.specs.Reading.{reading_of};
-ghost use Rattle.lq_predicate.specs.Refusals.{IsRefusalOf, fault_of};
+ghost use Rattle.lq_predicate.specs.Refusals.{IsFaultOf, IsRefusalOf};
 
 use crate::machine::new_frames;
 use crate::predicate::Predicate;
@@ -12,7 +11,7 @@ use crate::reading::read_text;
 use crate::sizes::Sizes;
 use crate::stop::Stop;
 use crate::trees::Trees;
-use lq_predicate_formula::{Tree, read_is_good};
+use lq_predicate_formula::{Tree, one_reading, read_is_good};
 use lq_value::Refusal;
 use std::alloc::Global;
 
@@ -47,6 +46,7 @@ fn read_tree(alloc: Global, formula: &str) -> Result<Tree, Refusal>
     // Its leftmost fault is refused, or it reads and memory is wanting.
     ensures fails { IfErr result (IsRefusalOf formula.now) }
 {
+    one_reading();
     read_is_good();
     if let Some(place) = fault_place(formula) {
         return Err(Refusal::BadQuery { place });
@@ -62,7 +62,7 @@ fn read_tree(alloc: Global, formula: &str) -> Result<Tree, Refusal>
 // The byte offset of a formula's leftmost fault; none where the formula reads as a query. It takes
 // no memory.
 fn fault_place(formula: &str) -> Option<u64>
-    ensures { result ≡ fault_of (reading_of formula.now) }
+    ensures { IsFaultOf formula.now result }
 {
     if formula.len() > MOST_BYTES {
         return Some(MOST_BYTES as u64);

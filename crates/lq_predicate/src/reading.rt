@@ -14,7 +14,7 @@ ghost use Rattle.lq_predicate.specs.declared.stop.Stop.TheVariants.{Fault};
 use crate::builder::Builder;
 use crate::machine::{Expected, Frames, finish, take};
 use crate::stop::Stop;
-use lq_predicate_formula::{Cursor, Placed, Token, next_token};
+use lq_predicate_formula::{Cursor, Placed, Token, next_token, one_token_list};
 
 /// The most words: each comparison has two.
 const MOST_WORDS: usize = 512;
@@ -30,8 +30,9 @@ pub(crate) fn read_text<B: Builder>(
     requires new { HasBuilt B.parts frames.old (start nesting) }
     ensures whole { IsWholeOf B.part text.now result }
     ensures texts { OnOk result
-        ((ts : List TokenAt) → HasTokens 0 text.now ts → WordsAre IsUtf8 (bare ts)) }
+        ((ts : List TokenAt) × HasTokens 0 text.now ts × WordsAre IsUtf8 (bare ts)) }
 {
+    one_token_list();
     let mut expected = Expected::Operand;
     let mut cursor = Cursor {
         place: 0,
