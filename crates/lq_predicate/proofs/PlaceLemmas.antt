@@ -11,7 +11,7 @@ use Rattle.lq_predicate_formula.specs.Literals.{bad_place, literal_fault}
 use Rattle.lq_predicate_formula.specs.Machine.{Expected, operand, after_attr, after_op, after_operand}
 use Rattle.lq_predicate_formula.specs.MachineReading.{fault_place, fault_place_of, place_with, pattern_fault_of_word}
 use Rattle.lq_predicate.specs.Building.{pattern_fault}
-use Rattle.lq_predicate.specs.PlainPlace.{place_at}
+use Rattle.lq_predicate.specs.FaultPlace.{place_at}
 
 -- ---- the place itself
 

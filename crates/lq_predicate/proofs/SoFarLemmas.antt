@@ -12,7 +12,7 @@ use Rattle.lq_predicate_formula.specs.Faults.{IsFaulty, IsReading, most_bytes, m
 use Rattle.lq_predicate_formula.specs.MachineReading.{after_token, fault_place, finished, read_tokens, word_count}
 use Rattle.lq_predicate_formula.proofs.OneReadingLemmas.{machine_reads}
 use Rattle.lq_predicate.specs.Building.{pattern_fault}
-use Rattle.lq_predicate.specs.PlainPlace.{place_at}
+use Rattle.lq_predicate.specs.FaultPlace.{place_at}
 use Rattle.lq_predicate.proofs.PlaceLemmas.{fault_place-at, pattern_place-bound}
 
 -- a formula is read up to a place: what the whole reading is, from the state there, and that the

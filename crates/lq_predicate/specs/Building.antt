@@ -6,7 +6,7 @@ use Rattle.lq_predicate_formula.specs.MachineReading.{finished, pattern_fault_of
 use Rattle.lq_predicate_formula.specs.Query.{Query}
 use Rattle.lq_predicate_formula.specs.Tokens.{Token, opens, closes, bang, ands, ors, op, word, lone, cut, Placed}
 use Rattle.lq_predicate.specs.Made.{IsMadeOf}
-use Rattle.lq_predicate.specs.PlainPlace.{place_at}
+use Rattle.lq_predicate.specs.FaultPlace.{place_at}
 use Rattle.lq_predicate.specs.declared.machine.Expected.{Expected as Expects}
 use Rattle.lq_predicate.specs.declared.machine.Expected.TheVariants as expects
 use Rattle.lq_predicate.specs.declared.machine.Frame.{Frame as Built}

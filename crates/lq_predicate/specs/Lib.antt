@@ -17,5 +17,5 @@ pub mod Made
 pub mod Building
 pub mod QuerySize
 pub mod TreeParts
-pub mod PlainPlace
+pub mod FaultPlace
 pub mod Refusals

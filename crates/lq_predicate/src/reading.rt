@@ -8,7 +8,6 @@ ghost use Rattle.lq_predicate_formula.specs.TokenView.{placed_of, token_of};
 ghost use Rattle.lq_predicate_formula.specs.Tokens.{HasTokens, Placed as TokenAt, bare};
 ghost use Rattle.lq_predicate_formula.specs.Words.{WordsAre};
 ghost use Rattle.lq_predicate.specs.Building.{HasBuilt, IsWholeOf, stop_in_text};
-ghost use Rattle.lq_predicate.specs.PlainPlace.{plain_place};
 ghost use Rattle.lq_predicate.specs.declared.stop.Stop.TheVariants.{Fault};
 
 use crate::builder::Builder;
@@ -62,19 +61,12 @@ fn stop_in_text<E>(end: usize, placed: &Placed, stop: Stop<Option<u64>, E>) -> S
     ensures { result ≡ stop_in_text end (placed_of placed.now) stop }
 {
     match stop {
-        Stop::Fault(None) => Stop::Fault(plain_place(end, placed) as u64),
         Stop::Fault(Some(k)) => Stop::Fault(placed.raw_place as u64 + k),
+        Stop::Fault(None) => match placed.token {
+            Token::Cut => Stop::Fault(end as u64),
+            _ => Stop::Fault(placed.place as u64),
+        },
         Stop::Failed(e) => Stop::Failed(e),
-    }
-}
-
-// The offset of a token's fault, where no pattern of it has a fault.
-fn plain_place(end: usize, placed: &Placed) -> usize
-    ensures { result ≡ plain_place end (placed_of placed.now) }
-{
-    match placed.token {
-        Token::Cut => end,
-        _ => placed.place,
     }
 }
 

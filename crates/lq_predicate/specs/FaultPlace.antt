@@ -2,6 +2,7 @@
 use Rattle.std.specs.Prelude.{ℕ, ◌+◌, Option, None, Some}
 use Rattle.lq_predicate_formula.specs.Tokens.{Token, opens, closes, bang, ands, ors, op, word, lone, cut, Placed}
 
+-- where no pattern is at fault
 abbrev pub place_or_end : ℕ → ℕ → Token → ℕ
 place_or_end end place opens = place
 place_or_end end place closes = place
@@ -12,9 +13,6 @@ place_or_end end place (op o) = place
 place_or_end end place (word raw) = place
 place_or_end end place lone = place
 place_or_end end place cut = end
-
-abbrev pub plain_place : ℕ → Placed → ℕ
-plain_place end t = place_or_end end t.place t.token
 
 -- the offset of the fault of a token of this kind, which may be in its pattern
 abbrev pub place_at : ℕ → Placed → Token → Option ℕ → ℕ
