@@ -18,4 +18,5 @@ pub mod Building
 pub mod QuerySize
 pub mod TreeParts
 pub mod FaultPlace
+pub mod Reading
 pub mod Refusals
