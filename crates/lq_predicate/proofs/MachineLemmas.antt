@@ -96,7 +96,11 @@ module _ {N P : Type 0} (named : List ℕ → N) (parts : List Query → P) wher
       → (frames.room ≡ 0 → ⊥) → n ≡ capped (frames.top.bangs + 1)
       → Leads operand s bang (record {
         below = frames.below;
-        top = record { or_parts = frames.top.or_parts; and_parts = frames.top.and_parts; bangs = n };
+        top = record {
+          or_parts = frames.top.or_parts;
+          and_parts = frames.top.and_parts;
+          bangs = n;
+        };
         room = frames.room - 1;
       }) expects.Operand
   banged frames s n h some new =
@@ -171,7 +175,11 @@ module _ {N P : Type 0} (named : List ℕ → N) (parts : List Query → P) wher
   pub ands_read : (frames : Frames P) (s : MachineState) → HasBuilt parts frames s
       → Leads after_operand s ands (record {
         below = frames.below;
-        top = record { or_parts = frames.top.or_parts; and_parts = frames.top.and_parts; bangs = 0 };
+        top = record {
+          or_parts = frames.top.or_parts;
+          and_parts = frames.top.and_parts;
+          bangs = 0;
+        };
         room = frames.room;
       }) expects.Operand
   ands_read frames s h = (
