@@ -1,15 +1,12 @@
 -- Read in this order. Stacks: FitLemmas, StarredLemmas (a comparison's size, and a pattern that
--- finds a text's characters), StackLemmas. Reading: QuerySizeLemmas, WeightLemmas, ValidatorLemmas,
--- PlaceLemmas, TokenListLemmas, SoFarLemmas, LimitLemmas, ReadLemmas, ParserLemmas.
+-- finds a text's characters), StackLemmas. Reading: QuerySizeLemmas, MachineLemmas, PlaceLemmas,
+-- SoFarLemmas, LimitLemmas, ReadLemmas.
 pub mod FitLemmas
 pub mod StarredLemmas
 pub mod StackLemmas
 pub mod QuerySizeLemmas
-pub mod WeightLemmas
-pub mod ValidatorLemmas
+pub mod MachineLemmas
 pub mod PlaceLemmas
-pub mod TokenListLemmas
 pub mod SoFarLemmas
 pub mod LimitLemmas
 pub mod ReadLemmas
-pub mod ParserLemmas

@@ -1,5 +1,5 @@
 -- Where the fault of a token lies.
-use Rattle.std.proofs.Common.{◌≡◌, ◌≤◌, ◌+◌, ◌-◌, ℕ, suc, List, [], ◌∷◌, ◌++◌, length, Some, None, refl, ap, ◌∙◌, arith, inl, inr}
+use Rattle.std.proofs.Common.{◌≡◌, ◌≤◌, ◌+◌, ◌-◌, ℕ, suc, List, [], ◌∷◌, ◌++◌, length, Option, Some, None, refl, ap, ◌∙◌, arith, inl, inr}
 use Rattle.std.proofs.lemmas.List.{length-append}
 use Rattle.lq_value.specs.declared.op.Op.{Op}
 use Rattle.lq_value.specs.declared.op.Op.TheVariants.{Eq, Ne, Lt, Le, Gt, Ge}
@@ -10,46 +10,34 @@ use Rattle.lq_predicate_formula.specs.Tokens.{Token, opens, closes, bang, ands, 
 use Rattle.lq_predicate_formula.specs.Literals.{bad_place, literal_fault}
 use Rattle.lq_predicate_formula.specs.Machine.{Expected, operand, after_attr, after_op, after_operand}
 use Rattle.lq_predicate_formula.specs.MachineReading.{fault_place, fault_place_of, place_with, pattern_fault_of_word}
-use Rattle.lq_predicate.specs.ParserView.{pattern_fault}
-use Rattle.lq_predicate.specs.PlainPlace.{place_or_end, plain_place}
+use Rattle.lq_predicate.specs.Building.{pattern_fault}
+use Rattle.lq_predicate.specs.FaultPlace.{place_at}
 
 -- ---- the place itself
 
--- a token whose pattern is not bad has its fault where it stands, or at the end
-plain_by : (end : ℕ) (p : Expected) (u : Token) (t : Placed) → pattern_fault p u ≡ None
-    → fault_place_of end p u t ≡ place_or_end end t.place u
-plain_by end p opens t e = refl
-plain_by end p closes t e = refl
-plain_by end p bang t e = refl
-plain_by end p ands t e = refl
-plain_by end p ors t e = refl
-plain_by end p (op o) t e = refl
-plain_by end p (word raw) t e = ap (λ f. place_with f t) e
-plain_by end p lone t e = refl
-plain_by end p cut t e = refl
+-- a word has its fault within it where its pattern is bad, and else where it stands
+word_by : (end : ℕ) (t : Placed) (raw : List ℕ) (k : Option ℕ)
+    → place_with k t ≡ place_at end t (word raw) k
+word_by end t raw None = refl
+word_by end t raw (Some k) = refl
+
+-- a token has its fault within it where its pattern is bad, and else where it stands or at the end
+place_by : (end : ℕ) (p : Expected) (u : Token) (t : Placed)
+    → fault_place_of end p u t ≡ place_at end t u (pattern_fault p u)
+place_by end p (word raw) t = word_by end t raw (pattern_fault_of_word p raw)
+place_by end p opens t = refl
+place_by end p closes t = refl
+place_by end p bang t = refl
+place_by end p ands t = refl
+place_by end p ors t = refl
+place_by end p (op o) t = refl
+place_by end p lone t = refl
+place_by end p cut t = refl
 
 -- the same at the token's own place
-pub fault_place-plain : (end : ℕ) (p : Expected) (t : Placed) → pattern_fault p t.token ≡ None
-    → fault_place end p t ≡ plain_place end t
-fault_place-plain end p t e = plain_by end p t.token t e
-
--- a token whose pattern is bad has its fault that far within it
-pattern_by : (end : ℕ) (p : Expected) (u : Token) (t : Placed) (k : ℕ) → pattern_fault p u ≡ Some k
-    → fault_place_of end p u t ≡ t.raw_place + k
-pattern_by end p (word raw) t k e = ap (λ f. place_with f t) e
-pattern_by end p opens t k e = cc
-pattern_by end p closes t k e = cc
-pattern_by end p bang t k e = cc
-pattern_by end p ands t k e = cc
-pattern_by end p ors t k e = cc
-pattern_by end p (op o) t k e = cc
-pattern_by end p lone t k e = cc
-pattern_by end p cut t k e = cc
-
--- the same at the token's own place
-pub fault_place-pattern : (end : ℕ) (p : Expected) (t : Placed) (k : ℕ)
-    → pattern_fault p t.token ≡ Some k → fault_place end p t ≡ t.raw_place + k
-fault_place-pattern end p t k e = pattern_by end p t.token t k e
+pub fault_place-at : (end : ℕ) (p : Expected) (t : Placed)
+    → fault_place end p t ≡ place_at end t t.token (pattern_fault p t.token)
+fault_place-at end p t = place_by end p t.token t
 
 -- ---- the place of a pattern's fault is within its raw text
 

@@ -1,18 +1,35 @@
 -- How great a query is by its parts.
 use Rattle.std.proofs.Common.{◌≡◌, ◌⊎◌, inl, inr, ◌<◌, ◌+◌, max, ℕ, zero, suc, List, [], ◌∷◌, ◌++◌, length, refl, sym, ap, ◌∙◌, arith, length-append}
+use Rattle.std.specs.Prelude.{Option, None, Some, ok_or, option_map}
 use Rattle.lq_predicate_formula.specs.Canonical.{canonical, depth, deepest}
 use Rattle.lq_predicate_formula.specs.Capped.{capped}
 use Rattle.lq_predicate_formula.specs.Machine.{negate}
 use Rattle.lq_predicate_formula.specs.Query.{Query, Not, And, queries, both_of, either_of}
-use Rattle.lq_predicate.specs.Validator.{query_size, parts_of}
-use Rattle.lq_predicate.specs.declared.query_size.QuerySize.{QuerySize}
-use Rattle.lq_predicate.specs.declared.query_size.Parts.{Parts}
-use Rattle.lq_predicate.specs.declared.query_size.Parts.TheVariants.{One, More}
+use Rattle.lq_predicate.specs.QuerySize.{query_size, parts_of}
+use Rattle.lq_predicate.specs.declared.sizes.QuerySize.{QuerySize}
+use Rattle.lq_predicate.specs.declared.sizes.SizeParts.{SizeParts}
+use Rattle.lq_predicate.specs.declared.sizes.SizeParts.TheVariants.{One, More}
 use Rattle.lq_predicate_formula.specs.Laws.{JoinedTextsAdd}
+use Rattle.lq_predicate_formula.specs.Sizes.{name_bytes}
+use Rattle.lq_predicate.specs.Made.{IsMadeOf}
+use Rattle.lq_predicate.specs.declared.stop.Stop.TheVariants.{Fault}
 use Rattle.lq_predicate_formula.specs.Size.{parts_size}
 
+-- what a function maps to a value
+pub mapped : {A B : Type 0} (f : A → B) (o : Option A) (b : B) → option_map f o ≡ Some b
+    → (a : A) × (o ≡ Some a) × (b ≡ f a)
+mapped f None b e = absurd (let no : ⊥ = cc in no)
+mapped f (Some a) b e = (a, refl, cc)
+
+-- the size of a name is made of a text that is one
+pub name_made : (E : Type 0) (o : Option (List ℕ))
+    → IsMadeOf {A = List ℕ} {B = ℕ} {F = Option ℕ} {E = E} (λ name n. n ≡ name_bytes name) o None
+    (ok_or (option_map name_bytes o) (Fault None))
+name_made E None = (refl, refl)
+name_made E (Some name) = (name, refl, refl)
+
 -- an size by its depth and its size
-abbrev sized : ℕ → ℕ → QuerySize
+abbrev pub sized : ℕ → ℕ → QuerySize
 sized d b = record { depth = d; bytes = b }
 
 -- equal depths and equal sizes are equal sizes
@@ -53,7 +70,7 @@ either_alike add (q ∷ r ∷ qs) =
     sizes_are _ _ _ _ refl (ap capped (size.0 ∙ sym size.1))
 
 -- parts that are one or more have the size of their or
-pub parts_either : JoinedTextsAdd → (parts : Parts) (e : QuerySize)
+pub parts_either : JoinedTextsAdd → (parts : SizeParts) (e : QuerySize)
     → (parts ≡ One e) ⊎ (parts ≡ More e)
     → (qs : List Query) → parts ≡ parts_of qs → e ≡ query_size (either_of qs)
 parts_either add parts e (inl is) [] h = absurd (let no : ⊥ = cc in no)
@@ -68,7 +85,7 @@ parts_either add parts e (inr is) (q ∷ r ∷ qs) h =
 -- ---- one part more
 
 -- two parts have the size that is counted from both
-pub two_parts : JoinedTextsAdd → (parts : Parts) (only part : QuerySize) (d b : ℕ)
+pub two_parts : JoinedTextsAdd → (parts : SizeParts) (only part : QuerySize) (d b : ℕ)
     (qs : List Query) (q : Query)
     → parts ≡ One only → parts ≡ parts_of qs → part ≡ query_size q
     → d ≡ capped (max only.depth part.depth + 1) → b ≡ capped (capped (only.bytes + part.bytes) + 4)
@@ -125,7 +142,7 @@ more_by add qs all q whole part d b some is was new deep size =
     (omega (arith, b1, b2, push_size, before, more, size))
 
 -- one part more adds to the size of two or more
-pub more_parts : JoinedTextsAdd → (parts : Parts) (whole part : QuerySize) (d b : ℕ)
+pub more_parts : JoinedTextsAdd → (parts : SizeParts) (whole part : QuerySize) (d b : ℕ)
     (qs : List Query) (q : Query)
     → parts ≡ More whole → parts ≡ parts_of qs → part ≡ query_size q
     → d ≡ max whole.depth (capped (part.depth + 1))

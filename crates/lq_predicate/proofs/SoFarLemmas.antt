@@ -1,49 +1,45 @@
 -- What is known while a formula is read.
-use Rattle.std.proofs.Common.{◌≡◌, ◌≤◌, ◌<◌, ◌+◌, ◌^◌, ℕ, Bool, true, false, List, [], ◌∷◌, ◌++◌, append_assoc, IsUtf8, length, Option, Some, None, refl, sym, ap, ◌∙◌, subst, arith}
-use Rattle.std.specs.Prelude.{if◌then◌else◌, IsSome, nat_le, Result, Err}
-use Rattle.std.proofs.lemmas.Bool.{lt-leb, le-leb, leb-true}
+use Rattle.std.proofs.Common.{◌≡◌, ◌≤◌, ◌<◌, ◌+◌, ◌^◌, ℕ, List, [], ◌∷◌, ◌++◌, append_assoc, IsUtf8, length, Option, Some, None, refl, sym, ap, ◌∙◌, subst, arith}
+use Rattle.std.specs.Prelude.{if◌then◌else◌, Err}
+use Rattle.std.proofs.lemmas.Bool.{lt-leb, le-leb}
 use Rattle.std.proofs.lemmas.List.{append-nil}
 use Rattle.lq_predicate_formula.specs.Words.{WordIs, WordsAre}
-use Rattle.lq_predicate_formula.specs.Tokens.{HasTokens, Placed, Yields, bare}
+use Rattle.lq_predicate_formula.specs.Tokens.{HasOneTokenList, HasTokens, IsBlank, Placed, Yields, bare}
 use Rattle.lq_predicate_formula.specs.Query.{Query}
 use Rattle.lq_predicate_formula.specs.Grammar.{nesting}
-use Rattle.lq_predicate_formula.specs.Machine.{MachineState, start, step, finished_query, weight}
-use Rattle.lq_predicate_formula.specs.Faults.{most_bytes, most_comparisons}
-use Rattle.lq_predicate_formula.specs.MachineReading.{after_token, fault_place, finished, machine_reading, read_tokens, word_count}
+use Rattle.lq_predicate_formula.specs.Machine.{MachineState, start, step, finished_query}
+use Rattle.lq_predicate_formula.specs.Faults.{IsFaulty, IsReading, most_bytes, most_comparisons}
+use Rattle.lq_predicate_formula.specs.MachineReading.{after_token, fault_place, finished, read_tokens, word_count}
 use Rattle.lq_predicate_formula.proofs.OneReadingLemmas.{machine_reads}
-use Rattle.lq_predicate.specs.ParserView.{pattern_fault}
-use Rattle.lq_predicate.specs.PlainPlace.{plain_place}
-use Rattle.lq_predicate.specs.Reading.{reading_of, the_reading}
-use Rattle.lq_predicate.specs.Refusals.{fault_of}
-use Rattle.lq_predicate.proofs.PlaceLemmas.{fault_place-plain, fault_place-pattern, pattern_place-bound}
-use Rattle.lq_predicate.proofs.TokenListLemmas.{the_tokens, tokens_from, tokens_of}
-use Rattle.lq_predicate.proofs.WeightLemmas.{step_weight}
+use Rattle.lq_predicate.specs.Building.{pattern_fault}
+use Rattle.lq_predicate.specs.FaultPlace.{place_at}
+use Rattle.lq_predicate.proofs.PlaceLemmas.{fault_place-at, pattern_place-bound}
 
--- a formula is read up to a place: what the whole reading is, from the state there
+-- a formula is read up to a place: what the whole reading is, from the state there, and that the
+-- words before it are of UTF-8
 pub record SoFar (text : List ℕ) (place : ℕ) (rest : List ℕ) (s : MachineState) (count : ℕ) :
     Type 0 where
-  pub reads : read_tokens (length text) s count (tokens_from place rest) ≡ reading_of text
+  pub reads : (ts : List Placed) → HasTokens place rest ts
+      → IsReading text (read_tokens (length text) s count ts)
   pub few : count ≤ 512
-  pub small : weight s ≤ 64
   pub short : length text ≤ 4096
   pub room : place + length rest ≡ length text
-
--- the reading is the one that the machine finds
-machine_finds : (text : List ℕ) → machine_reading text (tokens_of text) ≡ reading_of text
-machine_finds text = (the_reading text).only (machine_reading text (tokens_of text))
-    (machine_reads text (tokens_of text) (the_tokens 0 text).has)
+  pub front : List Placed
+  pub has : (ts : List Placed) → HasTokens place rest ts → HasTokens 0 text (front ++ ts)
+  pub texts : WordsAre IsUtf8 (bare front)
 
 -- before the first token nothing has been read
-pub starts : (text : List ℕ) (s : MachineState) → length text ≤ 4096 → s ≡ start nesting
-    → SoFar text 0 text s 0
-starts text s h e = record {
-  reads = ap (λ x. read_tokens (length text) x 0 (tokens_of text)) e
-      ∙ sym (ap (λ b. if b then read_tokens (length text) (start nesting) 0 (tokens_of text)
-      else Err most_bytes) (le-leb (length text) most_bytes h)) ∙ machine_finds text;
+pub starts : (text : List ℕ) → length text ≤ 4096 → SoFar text 0 text (start nesting) 0
+starts text h = record {
+  reads = λ ts has. subst (IsReading text)
+      (ap (λ b. if b then read_tokens (length text) (start nesting) 0 ts else Err most_bytes)
+      (le-leb (length text) most_bytes h)) (machine_reads text ts has);
   few = omega arith;
-  small = subst (λ x. weight x ≤ 64) (sym e) (omega arith);
   short = h;
   room = omega arith;
+  front = [];
+  has = λ ts has. has;
+  texts = tt;
 }
 
 -- one token, and the others behind it
@@ -60,79 +56,14 @@ no_token : (end : ℕ) (s : MachineState) (count : ℕ) → read_tokens end s co
 unfolding read_tokens
 no_token end s count = refl
 
+-- words of UTF-8 and one more are words of UTF-8
+words-push : (ts : List Placed) (t : Placed) → WordsAre IsUtf8 (bare ts) → WordIs IsUtf8 t.token
+    → WordsAre IsUtf8 (bare (ts ++ t ∷ []))
+words-push [] t w h = (h, tt)
+words-push (u ∷ ts) t w h = (w.0, words-push ts t w.1 h)
+
 module _ (text : List ℕ) (place : ℕ) (rest : List ℕ) (s : MachineState) (count : ℕ)
     (h : SoFar text place rest s count) where
-  -- where a token is next, the reading goes on from what the machine makes of it
-  reads_on : (t : Placed) (ts : List Placed) → tokens_from place rest ≡ t ∷ ts
-      → reading_of text ≡ after_token (fault_place (length text) s.expected t) t (step s t.token)
-      (count + word_count t.token)
-      (λ s'. read_tokens (length text) s' (count + word_count t.token) ts)
-  reads_on t ts e =
-      sym h.reads ∙ ap (read_tokens (length text) s count) e ∙ one_token (length text) s count t ts
-
-  -- one token more
-  pub goes_on : (t : Placed) (next : ℕ) (behind : List ℕ) (s' : MachineState) (n : ℕ)
-      → tokens_from place rest ≡ t ∷ tokens_from next behind → step s t.token ≡ Some s'
-      → n ≡ count + word_count t.token → n ≤ 512 → next + length behind ≡ place + length rest
-      → SoFar text next behind s' n
-  goes_on t next behind s' n e k same few room = record {
-    reads =
-        let others : MachineState → Result Query ℕ =
-        λ x. read_tokens (length text) x (count + word_count t.token) (tokens_from next behind) in
-        let fault = fault_place (length text) s.expected t in
-        ap (λ m. read_tokens (length text) s' m (tokens_from next behind)) same
-        ∙ sym (reads_on t (tokens_from next behind) e
-        ∙ ap (λ o. after_token fault t o (count + word_count t.token) others) k
-        ∙ ap (λ b. if b then others s' else Err t.place) (le-leb (count + word_count t.token)
-        (most_comparisons + most_comparisons) (subst (λ m. m ≤ 512) same few)));
-    few = few;
-    small = step_weight s t.token s' 64 k h.small;
-    short = h.short;
-    room = room ∙ h.room;
-  }
-
-  -- where the machine refuses the next token, the reading has the token's fault
-  stops : (t : Placed) (ts : List Placed) (p : ℕ) → tokens_from place rest ≡ t ∷ ts
-      → step s t.token ≡ None → p ≡ fault_place (length text) s.expected t
-      → Some p ≡ fault_of (reading_of text)
-  stops t ts p e k is = ap (λ x. Some x) is ∙ sym (ap fault_of (reads_on t ts e
-      ∙ ap (λ o. after_token (fault_place (length text) s.expected t) t o
-      (count + word_count t.token)
-      (λ x. read_tokens (length text) x (count + word_count t.token) ts)) k))
-
-  -- the token can't stand here
-  pub stops_here : (t : Placed) (ts : List Placed) (p : ℕ) → tokens_from place rest ≡ t ∷ ts
-      → step s t.token ≡ None → pattern_fault s.expected t.token ≡ None
-      → p ≡ plain_place (length text) t → Some p ≡ fault_of (reading_of text)
-  stops_here t ts p e k f is =
-      stops t ts p e k (is ∙ sym (fault_place-plain (length text) s.expected t f))
-
-  -- its pattern has a fault
-  pub stops_within : (t : Placed) (ts : List Placed) (k : ℕ) → tokens_from place rest ≡ t ∷ ts
-      → step s t.token ≡ None → pattern_fault s.expected t.token ≡ Some k
-      → Some (t.raw_place + k) ≡ fault_of (reading_of text)
-  stops_within t ts k e none f =
-      stops t ts (t.raw_place + k) e none (sym (fault_place-pattern (length text) s.expected t k f))
-
-  -- it is a word too many
-  pub one_too_many : (t : Placed) (ts : List Placed) (s' : MachineState) (n : ℕ)
-      → tokens_from place rest ≡ t ∷ ts → step s t.token ≡ Some s' → n ≡ count + word_count t.token
-      → 512 < n → Some t.place ≡ fault_of (reading_of text)
-  one_too_many t ts s' n e k same many =
-      let others : MachineState → Result Query ℕ =
-      λ x. read_tokens (length text) x (count + word_count t.token) ts in
-      sym (ap fault_of (reads_on t ts e ∙ ap (λ o.
-      after_token (fault_place (length text) s.expected t) t o (count + word_count t.token)
-      others) k
-      ∙ ap (λ b. if b then others s' else Err t.place) (lt-leb (count + word_count t.token)
-      (most_comparisons + most_comparisons) (subst (λ m. 512 < m) same many))))
-
-  -- the text ends here
-  pub ends : (o : Option Query) → tokens_from place rest ≡ [] → finished_query s ≡ o
-      → reading_of text ≡ finished (length text) o
-  ends o e k = sym h.reads ∙ ap (read_tokens (length text) s count) e
-      ∙ no_token (length text) s count ∙ ap (finished (length text)) k
-
   -- the place of a pattern's fault is a number of 64 bits
   pub place_fits : (t : Placed) (next : ℕ) (behind : List ℕ) (k : ℕ)
       → Yields place rest t next behind → next + length behind ≡ place + length rest
@@ -141,81 +72,70 @@ module _ (text : List ℕ) (place : ℕ) (rest : List ℕ) (s : MachineState) (c
       let bound = pattern_place-bound place rest t next behind s.expected k y total f in
       omega (arith, bound, h.room, h.short)
 
--- ---- a text that reads as a query
+  -- the text ends here
+  pub ends : (o : Option Query) → IsBlank rest → finished_query s ≡ o
+      → IsReading text (finished (length text) o)
+  ends o blank k = subst (IsReading text)
+      (no_token (length text) s count ∙ ap (finished (length text)) k) (h.reads [] blank)
 
--- a reading without a fault passes its test
-pub passes : (b : Bool) (r : Result Query ℕ) (place : ℕ)
-    → fault_of (if b then r else Err place) ≡ None → b ≡ true
-passes true r place fine = refl
-passes false r place fine = cc
+  -- all words of the text are of UTF-8
+  pub all_texts : IsBlank rest
+      → (ts : List Placed) × HasTokens 0 text ts × WordsAre IsUtf8 (bare ts)
+  all_texts blank = (
+    h.front ++ [],
+    h.has [] blank,
+    subst (λ ts. WordsAre IsUtf8 (bare ts)) (sym (append-nil h.front)) h.texts,
+  )
 
--- it takes its token
-taken_by : (fault : ℕ) (t : Placed) (o : Option MachineState) (n : ℕ)
-    (others : MachineState → Result Query ℕ)
-    → fault_of (after_token fault t o n others) ≡ None → IsSome o
-taken_by fault t None n others fine = cc
-taken_by fault t (Some s) n others fine = refl
+  module _ (t : Placed) (next : ℕ) (behind : List ℕ) (y : Yields place rest t next behind) where
+    -- the reading goes on from what the machine makes of the next token
+    reads_on : (o : Option MachineState) → step s t.token ≡ o → (ts : List Placed)
+        → HasTokens next behind ts
+        → IsReading text (after_token (fault_place (length text) s.expected t) t o
+        (count + word_count t.token)
+        (λ s'. read_tokens (length text) s' (count + word_count t.token) ts))
+    reads_on o k ts has = subst (IsReading text)
+        (one_token (length text) s count t ts
+        ∙ ap (λ o. after_token (fault_place (length text) s.expected t) t o
+        (count + word_count t.token)
+        (λ s'. read_tokens (length text) s' (count + word_count t.token) ts)) k)
+        (h.reads (t ∷ ts) (next, behind, y, has))
 
-module _ (text : List ℕ) (place : ℕ) (rest : List ℕ) (s : MachineState) (count : ℕ)
-    (h : SoFar text place rest s count) (fine : fault_of (reading_of text) ≡ None) where
-  -- the next token can be taken
-  pub takes : (t : Placed) (ts : List Placed) → tokens_from place rest ≡ t ∷ ts
-      → IsSome (step s t.token)
-  takes t ts e = taken_by (fault_place (length text) s.expected t) t (step s t.token)
-      (count + word_count t.token)
-      (λ x. read_tokens (length text) x (count + word_count t.token) ts)
-      (sym (ap fault_of (reads_on text place rest s count h t ts e)) ∙ fine)
+    -- one token more
+    pub goes_on : (s' : MachineState) (n : ℕ) → step s t.token ≡ Some s'
+        → n ≡ count + word_count t.token → n ≤ 512 → next + length behind ≡ place + length rest
+        → WordIs IsUtf8 t.token → SoFar text next behind s' n
+    goes_on s' n k same few room word = record {
+      reads = λ ts has. subst
+          (λ m. IsReading text (read_tokens (length text) s' m ts)) (sym same)
+          (subst (λ b. IsReading text
+          (if b then read_tokens (length text) s' (count + word_count t.token) ts
+          else Err t.place)) (le-leb (count + word_count t.token)
+          (most_comparisons + most_comparisons) (subst (λ m. m ≤ 512) same few))
+          (reads_on (Some s') k ts has));
+      few = few;
+      short = h.short;
+      room = room ∙ h.room;
+      front = h.front ++ t ∷ [];
+      has = λ ts has. subst (HasTokens 0 text) (sym (append_assoc h.front (t ∷ []) ts))
+          (h.has (t ∷ ts) (next, behind, y, has));
+      texts = words-push h.front t h.texts word;
+    }
 
-  -- and the text reads on behind it
-  pub reads_further : (t : Placed) (next : ℕ) (behind : List ℕ) (s' : MachineState)
-      → tokens_from place rest ≡ t ∷ tokens_from next behind → step s t.token ≡ Some s'
-      → next + length behind ≡ place + length rest
-      → SoFar text next behind s' (count + word_count t.token)
-  reads_further t next behind s' e k room =
-      let n = count + word_count t.token in
-      let others : MachineState → Result Query ℕ =
-      λ x. read_tokens (length text) x n (tokens_from next behind) in
-      let on = reads_on text place rest s count h t (tokens_from next behind) e
-      ∙ ap (λ o. after_token (fault_place (length text) s.expected t) t o n others) k in
-      let few = passes (nat_le n (most_comparisons + most_comparisons)) (others s') t.place
-      (sym (ap fault_of on) ∙ fine) in
-      goes_on text place rest s count h t next behind s' n e k refl
-      (leb-true n (most_comparisons + most_comparisons) few) room
+    module _ (others : HasOneTokenList next behind) where
+      -- where the machine refuses the token, the text has the token's fault
+      pub stops : (k : Option ℕ) → step s t.token ≡ None → pattern_fault s.expected t.token ≡ k
+          → IsFaulty text (place_at (length text) t t.token k)
+      stops k none f = subst (IsFaulty text)
+          (fault_place-at (length text) s.expected t
+          ∙ ap (place_at (length text) t t.token) f)
+          (reads_on None none others.tokens others.has)
 
--- ---- the words that are read are texts
-
--- the words that were read up to a place are of UTF-8
-pub record TextsSoFar (text : List ℕ) (place : ℕ) (rest : List ℕ) : Type 0 where
-  pub front : List Placed
-  pub split : tokens_of text ≡ front ++ tokens_from place rest
-  pub texts : WordsAre IsUtf8 (bare front)
-
--- before the first token no words have been read
-pub no_texts : (text : List ℕ) → TextsSoFar text 0 text
-no_texts text = record { front = []; split = refl; texts = tt }
-
--- words of UTF-8 and one more are words of UTF-8
-words-push : (ts : List Placed) (t : Placed) → WordsAre IsUtf8 (bare ts) → WordIs IsUtf8 t.token
-    → WordsAre IsUtf8 (bare (ts ++ t ∷ []))
-words-push [] t w h = (h, tt)
-words-push (u ∷ ts) t w h = (w.0, words-push ts t w.1 h)
-
--- one token more is read, and its word is of UTF-8
-pub one_text : (text : List ℕ) (place : ℕ) (rest : List ℕ)
-    → TextsSoFar text place rest → (t : Placed) (next : ℕ) (behind : List ℕ)
-    → tokens_from place rest ≡ t ∷ tokens_from next behind → WordIs IsUtf8 t.token
-    → TextsSoFar text next behind
-one_text text place rest s t next behind e h = record {
-  front = s.front ++ t ∷ [];
-  split = s.split ∙ ap (λ ts. s.front ++ ts) e
-      ∙ sym (append_assoc s.front (t ∷ []) (tokens_from next behind));
-  texts = words-push s.front t s.texts h;
-}
-
--- where no token is left, all words of the text are of UTF-8
-pub all_texts : (text : List ℕ) (place : ℕ) (rest : List ℕ) → TextsSoFar text place rest
-    → tokens_from place rest ≡ [] → (ts : List Placed) → HasTokens 0 text ts
-    → WordsAre IsUtf8 (bare ts)
-all_texts text place rest s e ts has = subst (λ us. WordsAre IsUtf8 (bare us))
-    (sym ((the_tokens 0 text).only ts has ∙ s.split ∙ ap (λ us. s.front ++ us) e
-    ∙ append-nil s.front)) s.texts
+      -- it is a word too many
+      pub one_too_many : (s' : MachineState) (n : ℕ) → step s t.token ≡ Some s'
+          → n ≡ count + word_count t.token → 512 < n → IsFaulty text t.place
+      one_too_many s' n k same many = subst (λ b. IsReading text
+          (if b then read_tokens (length text) s' (count + word_count t.token) others.tokens
+          else Err t.place)) (lt-leb (count + word_count t.token)
+          (most_comparisons + most_comparisons) (subst (λ m. 512 < m) same many))
+          (reads_on (Some s') k others.tokens others.has)

@@ -13,8 +13,10 @@ pub use Rattle.lq_predicate_formula.specs.Names
 pub use Rattle.lq_predicate_formula.specs.Needs
 pub use Rattle.lq_predicate_formula.specs.Span
 pub use Rattle.lq_predicate_formula.specs.Laws
-pub mod ParserView
-pub mod PlainPlace
+pub mod Made
+pub mod Building
+pub mod QuerySize
+pub mod TreeParts
+pub mod FaultPlace
 pub mod Reading
 pub mod Refusals
-pub mod Validator

@@ -5,29 +5,31 @@
 //! and a row as what it shows under each attribute's name (its `PredicateLimits` and `Truth`). They
 //! see a stack as its items and the number of pushes accepted (`specs/Stacked`; `specs/Stack` says
 //! what each push gives, and when it doesn't fit). A formula is read twice: first without memory,
-//! which finds its leftmost fault if it has one, and then to build the tree; `specs/ParserView` and
-//! `specs/Validator` say which state of the specified machine the code is in. Nothing here waits,
-//! and `holds` takes no memory. Begin with `predicate`, then `truth`, `reader` and `stack`.
+//! which finds its leftmost fault if it has one, and then to build the tree, by one `machine` with
+//! two builders; `specs/Building` says what it has built of the specified machine's state. Nothing
+//! here waits, and `holds` takes no memory. Begin with `predicate`, then `truth`, `reader` and
+//! `stack`.
 #![tactic(auto)]
 
 mod attributes;
+mod builder;
 mod canonical;
-mod expected;
-mod fault_place;
 mod literal_source;
+mod machine;
 mod operand;
-mod parser;
 mod predicate;
-mod query_size;
 mod reader;
+mod reading;
+mod sizes;
 mod spans;
 mod stack;
 mod stack_comparison;
 mod stack_fitting;
 mod stack_item;
 mod stack_op;
+mod stop;
+mod trees;
 mod truth;
-mod validator;
 
 pub use attributes::{names, needs_attribute};
 pub use canonical::write;

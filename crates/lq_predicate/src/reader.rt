@@ -1,21 +1,25 @@
 //! Reads a formula.
-ghost use Rattle.std.specs.Prelude.{◌≡◌, List, None, IfOk, IfErr, IsTrue, OnOk};
-ghost use Rattle.std.specs.Str.{IsUtf8};
+ghost use Rattle.std.specs.Prelude.{IfOk, IfErr, IsTrue};
 ghost use Rattle.lq_predicate_formula.specs.Faults.{Reads};
 ghost use Rattle.lq_predicate_formula.specs.Limits.{IsProper};
 ghost use Rattle.lq_predicate_formula.specs.PredicateLimits.{is_predicate};
-ghost use Rattle.lq_predicate_formula.specs.Tokens.{HasTokens, Placed, bare};
-ghost use Rattle.lq_predicate_formula.specs.Words.{WordsAre};
-ghost use Rattle.lq_value.specs.Refusal.{FailsOnlyForMemory};
-ghost use Rattle.lq_predicate.specs.Reading.{reading_of};
-ghost use Rattle.lq_predicate.specs.Refusals.{IsRefusalOf, fault_of};
+ghost use Rattle.lq_predicate.specs.Refusals.{IsFaultOf, IsRefusalOf};
 
-use crate::fault_place::fault_place;
-use crate::parser::{end_of, new_parser, read_token};
+use crate::machine::new_frames;
 use crate::predicate::Predicate;
-use lq_predicate_formula::{Cursor, Tree, next_token, read_is_good};
+use crate::reading::read_text;
+use crate::sizes::Sizes;
+use crate::stop::Stop;
+use crate::trees::Trees;
+use lq_predicate_formula::{Tree, one_reading, read_is_good};
 use lq_value::Refusal;
 use std::alloc::Global;
+
+/// The most bytes of a formula, and of a predicate's canonical text.
+const MOST_BYTES: usize = 4096;
+
+/// How deep a predicate may be.
+const MOST_DEPTH: usize = 64;
 
 /// The predicate that a formula writes, with BQuery's operators.
 ///
@@ -42,31 +46,34 @@ fn read_tree(alloc: Global, formula: &str) -> Result<Tree, Refusal>
     // Its leftmost fault is refused, or it reads and memory is wanting.
     ensures fails { IfErr result (IsRefusalOf formula.now) }
 {
+    one_reading();
     read_is_good();
     if let Some(place) = fault_place(formula) {
         return Err(Refusal::BadQuery { place });
     }
-    let tree = build(alloc, formula)?;
-    Ok(tree)
+    // The formula has no fault, so only memory can be wanting.
+    let mut frames = new_frames::<Trees>();
+    match read_text(&Trees { alloc }, &mut frames, formula) {
+        Ok(tree) => Ok(tree),
+        Err(_) => Err(Refusal::NoMemory),
+    }
 }
 
-// The query of a text that reads as one.
-fn build(alloc: Global, text: &str) -> Result<Tree, Refusal>
-    requires { fault_of (reading_of text.now) ≡ None }
-    ensures value { IfOk result (λ tree. Reads text.now tree) }
-    ensures texts { OnOk result
-        ((ts : List Placed) → HasTokens 0 text.now ts → WordsAre IsUtf8 (bare ts)) }
-    ensures refused { FailsOnlyForMemory result }
+// The byte offset of a formula's leftmost fault; none where the formula reads as a query. It takes
+// no memory.
+fn fault_place(formula: &str) -> Option<u64>
+    ensures { IsFaultOf formula.now result }
 {
-    let mut parser = new_parser(alloc);
-    let mut cursor = Cursor {
-        place: 0,
-        rest: text,
-    };
-    while let Some((placed, behind)) = next_token(cursor) {
-        parser = read_token(alloc, parser, &placed.token)?;
-        cursor = behind;
+    if formula.len() > MOST_BYTES {
+        return Some(MOST_BYTES as u64);
     }
-    let tree = end_of(parser)?;
-    Ok(tree)
+    let mut frames = new_frames::<Sizes>();
+    let whole = match read_text(&Sizes, &mut frames, formula) {
+        Ok(size) => size,
+        Err(Stop::Fault(place)) => return Some(place),
+    };
+    if whole.depth > MOST_DEPTH || whole.bytes > MOST_BYTES {
+        return Some(formula.len() as u64);
+    }
+    None
 }
