@@ -1,30 +1,26 @@
 -- Each event leaves a fair world fair.
-use Rattle.std.proofs.Common.{◌≡◌, ℕ, zero, suc, ◌-◌, ◌≤◌, ◌<◌, List, [], ◌∷◌, refl, ap, take, drop, length, sym, subst, arith, Some, None, Option, inl, inr, Bool, true, false}
-use Rattle.std.specs.Prelude.{slice_get, ◌==◌, ◌&&◌, not, nat_le, if◌then◌else◌, replicate}
-use Rattle.std.specs.Option.{option_flatten, option_map}
+use Rattle.std.proofs.Common.{◌≡◌, ℕ, zero, suc, ◌-◌, ◌≤◌, ◌<◌, [], ◌∷◌, refl, ap, take, drop, length, sym, subst, arith, Some, None, Option, inl, inr, Bool, true, false}
+use Rattle.std.specs.Prelude.{◌&&◌, not, nat_le, replicate}
+use Rattle.std.specs.Option.{option_map}
 use Rattle.std.specs.List.{AllByRecursion}
-use Rattle.std.proofs.lemmas.Bool.Decides.{nat_tests}
-use Rattle.std.proofs.lemmas.Bool.{and_parts}
-use Rattle.lq_value.specs.declared.refusal.Refusal.{Refusal}
+use Rattle.std.proofs.lemmas.Bool.{and_parts, leb-false, leb-true}
 use Rattle.lq_value.specs.declared.refusal.Refusal.TheVariants.{BadPort, BadBacklog, NoSlot, Exhausted}
 use Rattle.lq_value.specs.Refusal.{first_refusal}
 use Rattle.lq_predicate.specs.Query.{Query}
 use Rattle.lq_volume.specs.declared.change.Change.{Change as Change_}
-use Rattle.lq_volume.specs.Change.{refused as refused_by}
 use Rattle.lq_volume.specs.Book.{Book, grown, number_of, state_of, state_at}
 use Rattle.lq_update.specs.Updates.{updates_of, updates_from}
 use Rattle.lq_update.specs.Laws.{UpdatesJoin}
-use Rattle.lq_desk_world.specs.World.{World, Subscribed, subscribed_at, taken_before_free, after_change}
+use Rattle.lq_desk_world.specs.World.{World, Subscribed, taken_before_free, after_change}
 use Rattle.lq_desk_world.specs.declared.event.Event.{Event}
-use Rattle.lq_desk_world.specs.declared.event.Event.TheVariants.{Change, Open, Put, Take, HangUp, Notice, Close, Finish}
-use Rattle.lq_desk_world.specs.Events.{Answer, changing, opening, opened_now, open_refusal, putting, reading, hanging_up, noticing, closing, finishing, finishing_if, at_slot, outcome}
+use Rattle.lq_desk_world.specs.declared.event.Act.{Act}
+use Rattle.lq_desk_world.specs.Events.{Answer, acting, opened_now, open_refusal, outcome}
 use Rattle.lq_desk_world.specs.Runs.{Step}
 use Rattle.lq_desk_world.specs.Fair.{IsFair, IsFairSlot, IsFairWorld}
 use Rattle.lq_desk_world.specs.Laws.{RunsKeepWorldsFair}
-use Rattle.lq_desk_world.specs.World.{is_over}
 use Rattle.lq_desk_world.proofs.ListLemmas.{all-get, all-set, all-map}
-use Rattle.lq_desk_world.proofs.SubLemmas.{Leaves, keeps-change}
-use Rattle.lq_desk_world.proofs.TakenLemmas.{putting-leaves, reading-leaves, hanging_up-leaves, noticing-leaves, closing-leaves}
+use Rattle.lq_desk_world.proofs.SubLemmas.{keeps-change}
+use Rattle.lq_desk_world.proofs.StepLemmas.{acting-passes, step-cases}
 
 -- slots that are all free are fair
 free_slots : (b : Book) (n : ℕ) → AllByRecursion (IsFairSlot b) (replicate n None)
@@ -51,14 +47,6 @@ not-false : (a : Bool) → not a ≡ false → a ≡ true
 not-false true h = refl
 not-false false h = absurd (let no : ⊥ = cc in no)
 
--- a test of ≤ that answers true says so
-le-true : (m n : ℕ) → nat_le m n ≡ true → m ≤ n
-le-true m n h = grind (arith, nat_tests)
-
--- a test of ≤ that answers false says that the first is larger
-le-false : (m n : ℕ) → nat_le m n ≡ false → n < m
-le-false m n h = grind (arith, nat_tests)
-
 -- what an opening asks of a world, a port and a backlog
 pub record MayOpen (w : World) (port backlog : ℕ) : Type 0 where
   pub places : 1 ≤ port
@@ -75,10 +63,10 @@ may_open w port backlog none =
     (nat_le (state_of w.book).limit w.openings) none in
     let ports = and_parts (nat_le 1 port) (nat_le port 1024) (not-false _ rows.0) in
     record {
-      places = le-true 1 port ports.0;
-      most = le-true port 1024 ports.1;
-      within = le-true backlog 65536 (not-false _ rows.1);
-      free = le-false _ _ rows.2;
+      places = leb-true 1 port ports.0;
+      most = leb-true port 1024 ports.1;
+      within = leb-true backlog 65536 (not-false _ rows.1);
+      free = leb-false _ _ rows.2;
     }
 
 -- a subscription that has just opened is fair
@@ -97,41 +85,13 @@ opened-fair w q port backlog moved may = record {
   held = λ live. omega (arith, ap length (nothing_told q moved w.book (number_of w.book)));
 }
 
--- what is in a slot is at its place
-pub slot-found : (w : World) (slot : ℕ) (s : Subscribed) → subscribed_at w slot ≡ Some s
-    → slice_get w.slots (slot - 1) ≡ Some (Some s)
-slot-found w slot s is = by (slot == 0) (slice_get w.slots (slot - 1)) is
-  where
-    by : (x : Bool) (o : Option (Option Subscribed))
-        → (if x then None else option_flatten o) ≡ Some s
-        → o ≡ Some (Some s)
-    by true o is = absurd (let no : ⊥ = cc in no)
-    by false None is = absurd (let no : ⊥ = cc in no)
-    by false (Some None) is = absurd (let no : ⊥ = cc in no)
-    by false (Some (Some t)) is = cc
-
--- what an event leaves of a subscription is fair
-left-fair : (b : Book) (s : Subscribed) (reads : List Answer) (o : Option Subscribed)
-    → Leaves b s reads o
-    → IsFairSlot b o
-left-fair b s reads o l = subst (λ (p : Option Subscribed). IsFairSlot b p)
-    (sym l.is) l.does.keeps.fair
-
--- an event in one slot leaves a fair world fair, if it leaves that slot fair
-at_slot-fair : (w : World) (slot : ℕ) (event : Subscribed → Answer × Option Subscribed)
-    → ((s : Subscribed) → IsFair w.book s → IsFairSlot w.book (event s).1) → IsFairWorld w
-    → (o : Option Subscribed) → subscribed_at w slot ≡ o → IsFairWorld (at_slot w slot o event).1
-at_slot-fair w slot event keeps h None is = h
-at_slot-fair w slot event keeps h (Some s) is = all-set (IsFairSlot w.book) w.slots (slot - 1) _ h
-    (keeps s (all-get (IsFairSlot w.book) w.slots (slot - 1) (Some s) h (slot-found w slot s is)))
-
--- a subscription that finishes leaves its slot free, one that is refused as it was
-finishing-fair : (b : Book) (s : Subscribed) → IsFair b s → IsFairSlot b (finishing b s).1
-finishing-fair b s h = by (is_over b s)
-  where
-    by : (x : Bool) → IsFairSlot b (finishing_if s x).1
-    by true = tt
-    by false = h
+-- an act leaves a fair slot fair
+acting-fair : (b : Book) (s : Subscribed) (a : Act) → IsFair b s → IsFairSlot b (acting b a s).1
+acting-fair b s a h = elim (acting-passes b s 1 a h) [
+  | inl gone ↦ subst (λ (o : Option Subscribed). IsFairSlot b o) (sym gone.2) tt
+  | inr left ↦ subst (λ (o : Option Subscribed). IsFairSlot b o) (sym left.1.is)
+      left.1.does.keeps.fair
+]
 
 module _ (join : UpdatesJoin) where
   -- a change leaves each slot fair
@@ -140,44 +100,20 @@ module _ (join : UpdatesJoin) where
   changed-fair b c None h = tt
   changed-fair b c (Some s) h = (keeps-change join b c s h).fair
 
-  -- a change, accepted or refused, leaves a fair world fair
-  changing-fair : (w : World) (c : Change_) (r : Option Refusal) → IsFairWorld w
-      → IsFairWorld (changing w c r).1
-  changing-fair w c (Some e) h = h
-  changing-fair w c None h = all-map (IsFairSlot w.book) (IsFairSlot (grown w.book (c ∷ [])))
-      (option_map (after_change w.book c)) w.slots (changed-fair w.book c) h
-
-  -- an opening, accepted or refused, leaves a fair world fair
-  opening-fair : (w : World) (s : Subscribed) (r : Option Refusal)
-      → (r ≡ None → IsFair w.book s) → IsFairWorld w → IsFairWorld (opening w s r).1
-  opening-fair w s (Some e) fair h = h
-  opening-fair w s None fair h = all-set (IsFairSlot w.book) w.slots _ (Some s) h (fair refl)
-
-  -- each event leaves a fair world fair
-  pub outcome-fair : (w : World) (e : Event) → IsFairWorld w → IsFairWorld (outcome w e).1
-  outcome-fair w (Change c) h = changing-fair w c (refused_by (state_of w.book) c) h
-  outcome-fair w (Open q port backlog moved) h =
-      opening-fair w (opened_now w q port backlog moved) (open_refusal w port backlog)
-      (λ none. opened-fair w q port backlog moved (may_open w port backlog none)) h
-  outcome-fair w (Put k) h = at_slot-fair w k (putting w.book)
-      (λ s f. left-fair w.book s _ _ (putting-leaves w.book s f)) h (subscribed_at w k) refl
-  outcome-fair w (Take k) h = at_slot-fair w k (reading w.book)
-      (λ s f. left-fair w.book s _ _ (reading-leaves w.book s f)) h (subscribed_at w k) refl
-  outcome-fair w (HangUp k) h = at_slot-fair w k hanging_up
-      (λ s f. left-fair w.book s _ _ (hanging_up-leaves w.book s f)) h (subscribed_at w k) refl
-  outcome-fair w (Notice k) h = at_slot-fair w k (noticing w.book)
-      (λ s f. left-fair w.book s _ _ (noticing-leaves w.book s f)) h (subscribed_at w k) refl
-  outcome-fair w (Close k) h = at_slot-fair w k (closing w.book)
-      (λ s f. left-fair w.book s _ _ (closing-leaves w.book s f)) h (subscribed_at w k) refl
-  outcome-fair w (Finish k) h =
-      at_slot-fair w k (finishing w.book) (finishing-fair w.book) h (subscribed_at w k) refl
-
   -- each step leaves a fair world fair
   step-fair : (w : World) (e : Event) (a : Answer) (v : World) → IsFairWorld w → Step w e a v
       → IsFairWorld v
-  step-fair w e a v h (inl done) =
-      subst (λ (u : World). IsFairWorld u) (sym done.1) (outcome-fair w e h)
-  step-fair w e a v h (inr ran) = subst (λ (u : World). IsFairWorld u) (sym ran.2) h
+  step-fair w e a v h = step-cases w (λ e a v. IsFairWorld v) (λ e r none. h)
+      (λ c none. all-map (IsFairSlot w.book) (IsFairSlot (grown w.book (c ∷ [])))
+      (option_map (after_change w.book c)) w.slots (changed-fair w.book c) h)
+      (λ q port backlog moved none. all-set (IsFairSlot w.book) w.slots _ _ h
+      (opened-fair w q port backlog moved (may_open w port backlog none)))
+      (λ i x s at. all-set (IsFairSlot w.book) w.slots i _ h
+      (acting-fair w.book s x (all-get (IsFairSlot w.book) w.slots i (Some s) h at))) e a v
+
+  -- each event leaves a fair world fair
+  pub outcome-fair : (w : World) (e : Event) → IsFairWorld w → IsFairWorld (outcome w e).1
+  outcome-fair w e h = step-fair w e _ _ h (inl (refl, refl))
 
   -- a run leaves a fair world fair
   pub run-fair : RunsKeepWorldsFair

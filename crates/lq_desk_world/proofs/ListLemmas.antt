@@ -51,6 +51,21 @@ slice_get-map f [] i x h = cc
 slice_get-map f (y ∷ xs) zero x h = cc
 slice_get-map f (y ∷ xs) (suc i) x h = slice_get-map f xs i x h
 
+-- a map leaves a list in which a member is set to one that it maps the same
+pub map-set_same : {A B : Type 0} (f : A → B) (xs : List A) (i : ℕ) (x y : A)
+    → slice_get xs i ≡ Some x → f y ≡ f x → map f (slice_set xs i y) ≡ map f xs
+map-set_same f [] i x y h same = refl
+map-set_same f (z ∷ xs) zero x y h same = cc
+map-set_same f (z ∷ xs) (suc i) x y h same =
+    ap (λ zs. f z ∷ zs) (map-set_same f xs i x y h same)
+
+-- a place that is set to what stands there leaves the list
+pub slice_set-same : {A : Type 0} (xs : List A) (i : ℕ) (x : A) → slice_get xs i ≡ Some x
+    → slice_set xs i x ≡ xs
+slice_set-same [] i x h = refl
+slice_set-same (y ∷ xs) zero x h = cc
+slice_set-same (y ∷ xs) (suc i) x h = ap (λ ys. y ∷ ys) (slice_set-same xs i x h)
+
 -- a front that is longer by one has the member at that place more
 take-suc_more : {A : Type 0} (xs : List A) (i : ℕ) (x : A) → slice_get xs i ≡ Some x
     → (take (suc i) xs ≡ take i xs ++ x ∷ []) × (suc i ≤ length xs)

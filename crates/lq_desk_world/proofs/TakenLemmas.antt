@@ -1,5 +1,5 @@
 -- What was read of a subscription.
-use Rattle.std.proofs.Common.{◌≡◌, ℕ, zero, suc, ◌+◌, ◌-◌, ◌≤◌, List, [], ◌∷◌, ◌++◌, refl, ap, take, length, ◌∙◌, sym, arith, append-nil, length-drop, Some, None, Option, Bool, true, false}
+use Rattle.std.proofs.Common.{◌≡◌, ℕ, zero, suc, ◌+◌, ◌-◌, ◌≤◌, List, [], ◌∷◌, ◌++◌, refl, ap, take, length, ◌∙◌, sym, arith, append-nil, Some, None, Option, Bool, true, false}
 use Rattle.std.specs.Prelude.{slice_get, ◌&&◌, nat_lt, if◌then◌else◌}
 use Rattle.std.proofs.lemmas.Bool.{and_parts, ltb-true}
 use Rattle.std.proofs.lemmas.List.{take-append-le}
@@ -14,7 +14,7 @@ use Rattle.lq_desk_world.specs.Events.{Took, Ended, Empty, putting_if, putting, 
 use Rattle.lq_desk_world.specs.Fair.{IsFair}
 use Rattle.lq_desk_world.specs.Headline.{parcels_in}
 use Rattle.lq_desk_world.proofs.ListLemmas.{take-one_more}
-use Rattle.lq_desk_world.proofs.SubLemmas.{Keeps, Leaves, Reads, keeps-end, keeps-same, keeps-self, live-none, over-from, over-true, parcels}
+use Rattle.lq_desk_world.proofs.SubLemmas.{Keeps, Leaves, Reads, keeps-counts, keeps-end, keeps-self, live-none, over-from, over-true, parcels}
 
 -- ---- what was read
 
@@ -43,7 +43,7 @@ pub reads-self : (b : Book) (s : Subscribed) → IsFair b s → Reads b s b s []
 reads-self b s h = reads-nothing b s b s (taken_within b s h) refl (keeps-self b s h)
 
 -- an event that reads nothing and keeps what was told leaves the reads
-leaves : (b : Book) (s : Subscribed) (t : Subscribed) → IsFair b s → t.taken ≡ s.taken
+pub leaves : (b : Book) (s : Subscribed) (t : Subscribed) → IsFair b s → t.taken ≡ s.taken
     → Keeps b s b t
     → Leaves b s [] (Some t)
 leaves b s t h taken k =
@@ -59,42 +59,15 @@ putting-leaves b s h = by (can_put b s) refl
         and_parts (nat_lt (s.put - s.taken) s.port) (nat_lt s.put (length (whole b s))) is in
         let room = ltb-true _ _ tests.0 in
         let there = ltb-true _ _ tests.1 in
-        leaves b s (one_more_put s) h refl (keeps-same b s (one_more_put s)
-        (record { query = refl; moved = refl; opened = refl }) refl refl (record {
-          begun = h.begun;
-          places = h.places;
-          most = h.most;
-          backlog = h.backlog;
-          opened = h.opened;
-          covered = h.covered;
-          taken = omega (arith, h.taken);
-          put = omega (arith, there);
-          port = omega (arith, room, h.taken);
-          held = λ live. omega (
-            arith,
-            h.held live,
-            length-drop s.put (updates_due b s),
-            length-drop (s.put + 1) (updates_due b s),
-          );
-        }))
+        leaves b s (one_more_put s) h refl
+        (keeps-counts b s s.hang_up_asked (s.put + 1) s.taken h (omega arith)
+        (omega (arith, h.taken)) (omega (arith, there)) (omega (arith, room, h.taken)))
     by false is = leaves b s s h refl (keeps-self b s h)
 
 -- a hang-up leaves the reads of a fair subscription
 pub hanging_up-leaves : (b : Book) (s : Subscribed) → IsFair b s → Leaves b s [] (hanging_up s).1
 hanging_up-leaves b s h = leaves b s (with_hang_up_asked s) h refl
-    (keeps-same b s (with_hang_up_asked s)
-    (record { query = refl; moved = refl; opened = refl }) refl refl (record {
-      begun = h.begun;
-      places = h.places;
-      most = h.most;
-      backlog = h.backlog;
-      opened = h.opened;
-      covered = h.covered;
-      taken = h.taken;
-      put = h.put;
-      port = h.port;
-      held = h.held;
-    }))
+    (keeps-counts b s true s.put s.taken h (omega arith) h.taken h.put h.port)
 
 -- noticing a hang-up leaves the reads of a fair subscription
 pub noticing-leaves : (b : Book) (s : Subscribed) → IsFair b s → Leaves b s [] (noticing b s).1
@@ -171,19 +144,8 @@ reading-leaves b s h = by (first_in_port b s) refl
           sub = one_more_taken s;
           is = refl;
           does = record {
-            keeps = keeps-same b s (one_more_taken s)
-                (record { query = refl; moved = refl; opened = refl }) refl refl (record {
-                  begun = h.begun;
-                  places = h.places;
-                  most = h.most;
-                  backlog = h.backlog;
-                  opened = h.opened;
-                  covered = h.covered;
-                  taken = omega (arith, there);
-                  put = h.put;
-                  port = omega (arith, h.port);
-                  held = h.held;
-                });
+            keeps = keeps-counts b s s.hang_up_asked s.put (s.taken + 1) h (omega arith)
+                (omega (arith, there)) h.put (omega (arith, h.port));
             front = sym more.0;
             over = λ o. absurd (omega (arith, o.2, more.1));
             marked = λ m same.

@@ -1,0 +1,151 @@
+-- A step by its cases: it is refused, a change, an opening, or an act at a taken slot.
+use Rattle.std.proofs.Common.{◌≡◌, ◌≢◌, ℕ, ◌+◌, ◌-◌, [], ◌∷◌, refl, ap, ◌∙◌, sym, subst, arith, Some, None, Option, inl, inr, Bool, true, false}
+use Rattle.std.specs.Prelude.{slice_get, ◌⊎◌, ◌==◌, if◌then◌else◌}
+use Rattle.std.specs.Option.{option_flatten}
+use Rattle.std.proofs.lemmas.Bool.Decides.{nat_tests}
+use Rattle.lq_value.specs.declared.refusal.Refusal.{Refusal}
+use Rattle.lq_value.specs.declared.refusal.Refusal.TheVariants.{NoMemory, NotOpen}
+use Rattle.lq_predicate.specs.Query.{Query}
+use Rattle.lq_volume.specs.declared.change.Change.{Change as Change_}
+use Rattle.lq_volume.specs.Change.{refused as refused_by}
+use Rattle.lq_volume.specs.Book.{Book, state_of}
+use Rattle.lq_desk_world.specs.World.{World, Subscribed, is_over, subscribed_at, with_slot}
+use Rattle.lq_desk_world.specs.declared.event.Event.{Event}
+use Rattle.lq_desk_world.specs.declared.event.Event.TheVariants.{Change, Open, Put, Take, HangUp, Notice, Close, Finish}
+use Rattle.lq_desk_world.specs.declared.event.Act.{Act}
+use Rattle.lq_desk_world.specs.declared.event.Act.TheVariants as act
+use Rattle.lq_desk_world.specs.Events.{Answer, Finished, Refused, acting, at_slot, changing, event_at, finishing_if, open_refusal, opened_now, opening, outcome, reading}
+use Rattle.lq_desk_world.specs.Runs.{Step}
+use Rattle.lq_desk_world.specs.Fair.{IsFair}
+use Rattle.lq_desk_world.specs.Headline.{read_by, frees}
+use Rattle.lq_desk_world.proofs.SubLemmas.{IsOver, Leaves, keeps-self, over-from}
+use Rattle.lq_desk_world.proofs.TakenLemmas.{closing-leaves, hanging_up-leaves, leaves, noticing-leaves, putting-leaves, reading-leaves}
+
+-- ---- slots
+
+-- the subscription in slot k is at index k - 1
+pub slot-index : (w : World) (k : ℕ) (s : Subscribed) → subscribed_at w k ≡ Some s
+    → (i : ℕ) × (k ≡ i + 1) × (slice_get w.slots i ≡ Some (Some s))
+slot-index w k s is = by (k == 0) (slice_get w.slots (k - 1)) refl refl is
+  where
+    by : (x : Bool) (o : Option (Option Subscribed)) → (k == 0) ≡ x → slice_get w.slots (k - 1) ≡ o
+        → (if x then None else option_flatten o) ≡ Some s
+        → (i : ℕ) × (k ≡ i + 1) × (slice_get w.slots i ≡ Some (Some s))
+    by false (Some (Some t)) some at is = (k - 1, grind (arith, nat_tests), cc)
+    by x o some at is = absurd (let no : ⊥ = cc in no)
+
+-- what is at index i is in slot i + 1
+pub at-index : (w : World) (i : ℕ)
+    → subscribed_at w (i + 1) ≡ option_flatten (slice_get w.slots i)
+at-index w i =
+    let some : (i + 1 == 0) ≡ false = grind (arith, nat_tests) in
+    let place : i + 1 - 1 ≡ i = omega arith in
+    ap (λ x. if x then None else option_flatten (slice_get w.slots (i + 1 - 1))) some
+    ∙ ap (λ j. option_flatten (slice_get w.slots j)) place
+
+-- ---- an act at a slot
+
+-- an act at another slot reads nothing here, and does not free this one
+pub act-apart : (slot k : ℕ) (a : Act) (x : Answer) → k ≢ slot
+    → (frees slot (event_at k a) x ≡ false) × (read_by slot (event_at k a) x ≡ [])
+act-apart slot k act.Take x other =
+    let e : (k == slot) ≡ false = grind (arith, nat_tests) in
+    (refl, ap (λ y. if y then x ∷ [] else []) e)
+act-apart slot k act.Finish Finished other = (grind (arith, nat_tests), refl)
+act-apart slot k a x other = (refl, refl)
+
+-- an act at its slot frees that, all of which was taken, or leaves it there, with what it read
+abbrev pub ActPasses : Book → Subscribed → ℕ → Act → Answer → Option Subscribed → Type 0
+ActPasses b s slot a x o =
+    ((frees slot (event_at slot a) x ≡ true) × (a ≡ act.Finish) × (o ≡ None) × IsOver b s)
+    ⊎ ((frees slot (event_at slot a) x ≡ false) × Leaves b s (read_by slot (event_at slot a) x) o)
+
+pub acting-passes : (b : Book) (s : Subscribed) (slot : ℕ) (a : Act) → IsFair b s
+    → ActPasses b s slot a (acting b a s).0 (acting b a s).1
+acting-passes b s slot act.Put h = inr (refl, putting-leaves b s h)
+acting-passes b s slot act.Take h =
+    let own : (slot == slot) ≡ true = grind (arith, nat_tests) in
+    inr (
+      refl,
+      subst (λ x. Leaves b s (if x then (reading b s).0 ∷ [] else []) (reading b s).1)
+          (sym own) (reading-leaves b s h),
+    )
+acting-passes b s slot act.HangUp h = inr (refl, hanging_up-leaves b s h)
+acting-passes b s slot act.Notice h = inr (refl, noticing-leaves b s h)
+acting-passes b s slot act.Close h = inr (refl, closing-leaves b s h)
+acting-passes b s slot act.Finish h = by (is_over b s) refl
+  where
+    by : (x : Bool) → is_over b s ≡ x
+        → ActPasses b s slot act.Finish (finishing_if s x).0 (finishing_if s x).1
+    by true is = inl (grind (arith, nat_tests), refl, refl, over-from b s is)
+    by false is = inr (refl, leaves b s s h refl (keeps-self b s h))
+
+-- ---- the cases
+
+-- an answer of a refusal frees no slot
+pub frees-refused : (slot : ℕ) (e : Event) (r : Refusal) → frees slot e (Refused r) ≡ false
+frees-refused slot (Finish k) r = refl
+frees-refused slot e r = refl
+
+-- an event that is refused reads nothing in a taken slot
+abbrev pub ReadsNothing : World → Event → Refusal → Type 0
+ReadsNothing w e r = (i : ℕ) (s : Subscribed) → slice_get w.slots i ≡ Some (Some s)
+    → read_by (i + 1) e (Refused r) ≡ []
+
+module _ (w : World) (P : Event → Answer → World → Type 0)
+    (refused : (e : Event) (r : Refusal) → ReadsNothing w e r → P e (Refused r) w)
+    (changed : (c : Change_) → refused_by (state_of w.book) c ≡ None
+    → P (Change c) (changing w c None).0 (changing w c None).1)
+    (opened : (q : Query) (port backlog : ℕ) (moved : Bool) → open_refusal w port backlog ≡ None
+    → P (Open q port backlog moved) (opening w (opened_now w q port backlog moved) None).0
+    (opening w (opened_now w q port backlog moved) None).1)
+    (acted : (i : ℕ) (a : Act) (s : Subscribed) → slice_get w.slots i ≡ Some (Some s)
+    → P (event_at (i + 1) a) (acting w.book a s).0 (with_slot w i (acting w.book a s).1)) where
+  by_change : (c : Change_) (r : Option Refusal) → refused_by (state_of w.book) c ≡ r
+      → P (Change c) (changing w c r).0 (changing w c r).1
+  by_change c (Some e) is = refused (Change c) e (λ i s at. refl)
+  by_change c None is = changed c is
+
+  by_opening : (q : Query) (port backlog : ℕ) (moved : Bool) (r : Option Refusal)
+      → open_refusal w port backlog ≡ r
+      → P (Open q port backlog moved) (opening w (opened_now w q port backlog moved) r).0
+      (opening w (opened_now w q port backlog moved) r).1
+  by_opening q port backlog moved (Some e) is =
+      refused (Open q port backlog moved) e (λ i s at. refl)
+  by_opening q port backlog moved None is = opened q port backlog moved is
+
+  by_act : (k : ℕ) (a : Act) (o : Option Subscribed) → subscribed_at w k ≡ o
+      → P (event_at k a) (at_slot w k o (acting w.book a)).0 (at_slot w k o (acting w.book a)).1
+  by_act k a None is = refused (event_at k a) NotOpen (λ i s at. (act-apart (i + 1) k a _ (λ own.
+      let here : subscribed_at w k ≡ Some s =
+      ap (subscribed_at w) own ∙ (at-index w i ∙ ap option_flatten at) in
+      let no : ⊥ = cc in
+      no)).1)
+  by_act k a (Some s) is = let found = slot-index w k s is in by found.0 found.1 found.2
+    where
+      by : (i : ℕ) → k ≡ i + 1 → slice_get w.slots i ≡ Some (Some s)
+          → P (event_at k a) (acting w.book a s).0 (with_slot w (k - 1) (acting w.book a s).1)
+      by i own at =
+          let place : k - 1 ≡ i = omega (arith, own) in
+          rw (place, own) (acted i a s at)
+
+  -- what holds in each case holds of each event
+  pub outcome-cases : (e : Event) → P e (outcome w e).0 (outcome w e).1
+  outcome-cases (Change c) = by_change c (refused_by (state_of w.book) c) refl
+  outcome-cases (Open q port backlog moved) =
+      by_opening q port backlog moved (open_refusal w port backlog) refl
+  outcome-cases (Put k) = by_act k act.Put (subscribed_at w k) refl
+  outcome-cases (Take k) = by_act k act.Take (subscribed_at w k) refl
+  outcome-cases (HangUp k) = by_act k act.HangUp (subscribed_at w k) refl
+  outcome-cases (Notice k) = by_act k act.Notice (subscribed_at w k) refl
+  outcome-cases (Close k) = by_act k act.Close (subscribed_at w k) refl
+  outcome-cases (Finish k) = by_act k act.Finish (subscribed_at w k) refl
+
+  -- what holds in each case holds of each step
+  pub step-cases : (e : Event) (a : Answer) (v : World) → Step w e a v → P e a v
+  step-cases e a v (inl done) = rw (done.0, done.1) (outcome-cases e)
+  step-cases (Change c) a v (inr ran) =
+      rw (ran.1, ran.2) (refused (Change c) NoMemory (λ i s at. refl))
+  step-cases (Open q port backlog moved) a v (inr ran) =
+      rw (ran.1, ran.2) (refused (Open q port backlog moved) NoMemory (λ i s at. refl))
+  step-cases e a v (inr ran) = absurd ran.0
