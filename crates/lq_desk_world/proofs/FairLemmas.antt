@@ -1,8 +1,7 @@
 -- Each event leaves a fair world fair.
-use Rattle.std.proofs.Common.{◌≡◌, ℕ, zero, suc, ◌-◌, ◌≤◌, ◌<◌, [], ◌∷◌, refl, ap, take, drop, length, sym, subst, arith, Some, None, Option, inl, inr, Bool, true, false}
-use Rattle.std.specs.Prelude.{◌&&◌, not, nat_le, replicate}
+use Rattle.std.proofs.Common.{◌≡◌, ℕ, ◌-◌, ◌≤◌, ◌<◌, [], ◌∷◌, refl, ap, take, drop, length, sym, subst, arith, Some, None, Option, inl, inr, Bool, true, false}
+use Rattle.std.specs.Prelude.{◌&&◌, not, nat_le}
 use Rattle.std.specs.Option.{option_map}
-use Rattle.std.specs.List.{AllByRecursion}
 use Rattle.std.proofs.lemmas.Bool.{and_parts, leb-false, leb-true}
 use Rattle.lq_value.specs.declared.refusal.Refusal.TheVariants.{BadPort, BadBacklog, NoSlot, Exhausted}
 use Rattle.lq_value.specs.Refusal.{first_refusal}
@@ -22,11 +21,6 @@ use Rattle.lq_desk_world.proofs.ListLemmas.{all-get, all-set, all-map}
 use Rattle.lq_desk_world.proofs.SubLemmas.{keeps-change}
 use Rattle.lq_desk_world.proofs.StepLemmas.{acting-passes, step-cases}
 
--- slots that are all free are fair
-free_slots : (b : Book) (n : ℕ) → AllByRecursion (IsFairSlot b) (replicate n None)
-free_slots b zero = tt
-free_slots b (suc n) = (tt, free_slots b n)
-
 -- a subscription that is opened
 nothing_told : (q : Query) (moved : Bool) (b : Book) (n : ℕ) → updates_of q moved b n n ≡ []
 nothing_told q moved b n =
@@ -37,10 +31,8 @@ nothing_told q moved b n =
 no_row : (a b c d : Bool)
     → first_refusal ((a, BadPort) ∷ (b, BadBacklog) ∷ (c, NoSlot) ∷ (d, Exhausted) ∷ []) ≡ None
     → (a ≡ false) × (b ≡ false) × (c ≡ false)
-no_row true b c d h = absurd (let no : ⊥ = cc in no)
-no_row false true c d h = absurd (let no : ⊥ = cc in no)
-no_row false false true d h = absurd (let no : ⊥ = cc in no)
 no_row false false false d h = (refl, refl, refl)
+no_row a b c d h = absurd (let no : ⊥ = cc in no)
 
 -- what is not false is true
 not-false : (a : Bool) → not a ≡ false → a ≡ true
@@ -118,7 +110,6 @@ module _ (join : UpdatesJoin) where
   -- a run leaves a fair world fair
   pub run-fair : RunsKeepWorldsFair
   run-fair w end [] [] h run = subst (λ (u : World). IsFairWorld u) (sym run) h
-  run-fair w end [] (a ∷ answers) h run = absurd run
-  run-fair w end (e ∷ events) [] h run = absurd run
   run-fair w end (e ∷ events) (a ∷ answers) h run =
       run-fair run.0 end events answers (step-fair w e a run.0 h run.1) run.2
+  run-fair w end events answers h run = absurd run

@@ -1,6 +1,7 @@
 -- What the readers of a run are told, by its events and answers alone.
 use Rattle.std.proofs.Common.{◌≡◌, ℕ, zero, suc, ◌+◌, ◌-◌, ◌≤◌, List, [], ◌∷◌, ◌++◌, refl, ap, take, length, ◌∙◌, sym, subst, arith, append_assoc, length-append, Bool, drop}
-use Rattle.std.proofs.lemmas.List.{take-append-le, take_all, take-append-drop}
+use Rattle.std.proofs.lemmas.List.{take-append-drop}
+use Rattle.std.proofs.Math.Seq.{take-append_seam}
 use Rattle.lq_value.specs.declared.entry.Entry.{Entry}
 use Rattle.lq_predicate.specs.Query.{Query}
 use Rattle.lq_volume.specs.Result.{result_of}
@@ -25,7 +26,7 @@ use Rattle.lq_desk_world.proofs.RunLemmas.{Ran, parcels_in-append, updates_among
 use Rattle.std.specs.List.{AllByRecursion}
 use Rattle.lq_update.specs.declared.mark.Mark.{Mark}
 use Rattle.lq_update.specs.declared.parcel.Parcel.TheVariants.{Fin}
-use Rattle.lq_desk_world.proofs.SubLemmas.{IsSame, IsEnded}
+use Rattle.lq_desk_world.proofs.SubLemmas.{updates_to, IsEnded}
 use Rattle.lq_desk_world.proofs.OpeningLemmas.{opened-ran, run_parts}
 
 -- ---- the parts of a run
@@ -35,31 +36,28 @@ accepted-append : (before events : List Event) (befores answers : List Answer)
     → length before ≡ length befores → accepted (before ++ events) (befores ++ answers)
     ≡ accepted before befores ++ accepted events answers
 accepted-append [] events [] answers same = refl
-accepted-append [] events (a ∷ befores) answers same = absurd (omega arith)
-accepted-append (e ∷ before) events [] answers same = absurd (omega arith)
 accepted-append (e ∷ before) events (a ∷ befores) answers same =
     ap (λ cs. accepted_by e a ++ cs) (accepted-append before events befores answers (omega arith))
     ∙ sym (append_assoc (accepted_by e a) (accepted before befores) (accepted events answers))
+accepted-append before events befores answers same = absurd (omega arith)
 
 -- a run has one answer for each event
 run-count : (w : World) (events : List Event) (answers : List Answer) (end : World)
     → Run w events answers end → length events ≡ length answers
 run-count w [] [] end run = refl
-run-count w [] (a ∷ answers) end run = absurd run
-run-count w (e ∷ events) [] end run = absurd run
 run-count w (e ∷ events) (a ∷ answers) end run =
     omega (arith, run-count run.0 events answers end run.2)
+run-count w events answers end run = absurd run
 
 -- the first events of a run are a run
 run-take : (k : ℕ) (w : World) (events : List Event) (answers : List Answer) (end : World)
     → Run w events answers end → (mid : World) × Run w (take k events) (take k answers) mid
 run-take zero w events answers end run = (w, refl)
 run-take (suc k) w [] [] end run = (w, refl)
-run-take (suc k) w [] (a ∷ answers) end run = absurd run
-run-take (suc k) w (e ∷ events) [] end run = absurd run
 run-take (suc k) w (e ∷ events) (a ∷ answers) end run =
     let rest = run-take k run.0 events answers end run.2 in
     (rest.0, (run.0, run.1, rest.1))
+run-take k w events answers end run = absurd run
 
 -- ---- the reads of a subscription from its opening on
 
@@ -74,29 +72,31 @@ pub record AreTold (b : Book) (q : Query) (moved : Bool) (at : ℕ)
       × AllByRecursion IsEnded rest
   pub ended : (front rest : List Answer) → reads ≡ front ++ Ended ∷ rest → HasMark front
 
--- what a subscription reads over a run, from its first read, is what the book tells
-pub ran-reads : UpdatesGrow → (b : Book) (s : Subscribed) (end : World) (i : ℕ)
-    (reads : List Answer) (freed : Bool) → s.taken ≡ 0 → Ran b s end i reads freed
-    → AreTold end.book s.query s.moved s.opened reads
-ran-reads grow b s end i reads freed none ran =
+-- what a subscription reads over a run, from its first read, is what a book tells that has the
+-- number and the updates of the run's last book
+ran-reads : UpdatesGrow → (b : Book) (s : Subscribed) (end : World) (i : ℕ) (reads : List Answer)
+    (freed : Bool) (book : Book) → s.taken ≡ 0 → Ran b s end i reads freed
+    → number_of end.book ≡ number_of book → ((n : ℕ) → updates_to end.book s n ≡ updates_to book s n)
+    → AreTold book s.query s.moved s.opened reads
+ran-reads grow b s end i reads freed book none ran number lists =
     let t = ran.sub in
     let d = end.book in
-    let us = updates_of s.query s.moved d s.opened (covered d t) in
-    let list : updates_due d t ≡ us = alike d t s (covered d t) ran.same in
+    let us = updates_to d s (covered d t) in
+    let list : updates_due d t ≡ us =
+    ap (λ l. updates_of l.0 l.1 d l.2 (covered d t)) ran.same in
     let given : parcels_in reads ≡ take t.taken (whole d t) =
     ap (λ n. take n (whole b s) ++ parcels_in reads) (sym none) ∙ ran.front in
     let all : updates_in reads ≡ take t.taken us = ap updates_among given
     ∙ (updates_among-take (updates_due d t) t.taken (length (updates_due d t)) t.end
     ∙ ap (take t.taken) list) in
-    let last : covered d t + (number_of d - covered d t) ≡ number_of d =
-    omega (arith, ran.fair.covered) in
-    let longer : IsPrefix us (updates_of s.query s.moved d s.opened (number_of d)) =
-    subst (λ (n : ℕ). IsPrefix us (updates_of s.query s.moved d s.opened n)) last
+    let last : covered d t + (number_of d - covered d t) ≡ number_of book =
+    omega (arith, ran.fair.covered, number) in
+    let longer : IsPrefix us (updates_to book s (number_of book)) =
+    subst (λ (ms : List Message). IsPrefix us ms) (lists _ ∙ ap (updates_to book s) last)
     (updates-prefix grow s.query s.moved d s.opened (covered d t) (number_of d - covered d t)) in
     record {
-      prefix = subst (λ (ms : List Message).
-          IsPrefix ms (updates_of s.query s.moved d s.opened (number_of d))) (sym all)
-          (prefix-more _ us _ (prefix-take t.taken us) longer);
+      prefix = subst (λ (ms : List Message). IsPrefix ms (updates_to book s (number_of book)))
+          (sym all) (prefix-more _ us _ (prefix-take t.taken us) longer);
       mark = λ front rest m is.
           let parts : parcels_in front ++ Fin m
           ∷ (parcels_in rest ++ drop t.taken (whole d t)) ≡ whole d t =
@@ -110,34 +110,17 @@ ran-reads grow b s end i reads freed none ran =
           let to : covered d t ≡ m.change = ap (covered_by d) place.1.1
           ∙ sym (ap (λ (n : Mark). n.change) place.1.2) in (
             omega (arith, ran.fair.opened, ap (λ l. l.2) ran.same, to),
-            omega (arith, ran.fair.covered, to),
-            place.0 ∙ (list ∙ ap (updates_of s.query s.moved d s.opened) to),
+            omega (arith, ran.fair.covered, to, number),
+            place.0 ∙ (list ∙ (ap (updates_to d s) to ∙ lists m.change)),
             ap (λ (n : Mark). n.seq) place.1.2
                 ∙ ap (λ (ms : List Message). length ms + 1) (sym place.0),
             ran.marked front rest m is,
           );
-      ended = λ front rest is. let h = ran.shown front rest is in
+      ended = λ front rest is.
+          let h = ran.shown front rest is in
           has-mark front h.0 h.1
           (ap (λ n. take n (whole b s) ++ parcels_in front) (sym none) ∙ h.2);
     }
-  where
-    alike : (d : Book) (t s : Subscribed) (n : ℕ) → IsSame s t
-        → updates_of t.query t.moved d t.opened n ≡ updates_of s.query s.moved d s.opened n
-    alike d t s n same = ap (λ l. updates_of l.0 l.1 d l.2 n) same
-
--- ---- reads over another book with the same lists
-
--- books with the same number and the same updates tell the same
-told_over : (b d : Book) (q : Query) (moved : Bool) (at : ℕ) (reads : List Answer)
-    → number_of b ≡ number_of d → ((n : ℕ) → updates_of q moved b at n ≡ updates_of q moved d at n)
-    → AreTold b q moved at reads → AreTold d q moved at reads
-told_over b d q moved at reads number lists r = record {
-  prefix = subst (λ (ms : List Message). IsPrefix (updates_in reads) ms)
-      (lists (number_of b) ∙ ap (updates_of q moved d at) number) r.prefix;
-  mark = λ front rest m is. let h = r.mark front rest m is in
-      (h.0, omega (arith, h.1, number), h.2 ∙ lists m.change, h.3, h.4);
-  ended = r.ended;
-}
 
 -- ---- folding
 
@@ -181,8 +164,7 @@ state-after : (s : State) (early late : List Change_) (n : ℕ) → n ≡ s.numb
 state-after s early late n is =
     let k : n - s.number ≡ length early = omega (arith, is) in
     ap (λ i. after_all s (take i (early ++ late))) k
-    ∙ ap (after_all s) (take-append-le (length early) early late (omega arith)
-    ∙ take_all (length early) early (omega arith))
+    ∙ ap (after_all s) (take-append_seam early late)
 
 module _ (join : UpdatesJoin) (grow : UpdatesGrow) (count : ChangesCount) (fold : FoldsGiveResults)
     (fold_all : WholeFoldsGiveResults) where
@@ -197,9 +179,6 @@ module _ (join : UpdatesJoin) (grow : UpdatesGrow) (count : ChangesCount) (fold 
       (subst (λ (xs : List Answer). Run w events xs end) told run)) in
       let mid = parts.0 in
       let opened = opened-ran join mid q port backlog moved slot at first after afters end parts.2 in
-      let told_of : AreTold end.book q moved at (reads_of slot after afters) =
-      subst (λ (n : ℕ). AreTold end.book q moved n (reads_of slot after afters)) (sym opened.2)
-      (ran-reads grow mid.book _ end opened.0 _ _ refl opened.4) in
       let start = state_of w.book in
       let early = accepted before befores in
       let late = accepted after afters in
@@ -224,13 +203,20 @@ module _ (join : UpdatesJoin) (grow : UpdatesGrow) (count : ChangesCount) (fold 
       let state : state_of mid.book ≡ state_at b at =
       then ∙ (sym (state-after start early late at at_number)
       ∙ ap (λ ds. state_at (record { start = start; changes = ds }) at) (sym both)) in
+      let lists : (n : ℕ) → updates_of q moved end.book (number_of mid.book) n
+      ≡ updates_of q moved b (number_of mid.book) n =
+      λ n. ap (λ d. updates_of q moved d (number_of mid.book) n) all
+      ∙ updates_of-rebased count q moved w.book cs (number_of mid.book) n
+      (omega (arith, past, opened.2)) in
+      let told_of : AreTold b q moved at (reads_of slot after afters) =
+      subst (λ (n : ℕ). AreTold b q moved n (reads_of slot after afters)) (sym opened.2)
+      (ran-reads grow mid.book _ end opened.0 _ _ b refl opened.4 number lists) in
       let opening : IsOpening (run_book start before befores) q at first =
       record { number = at_number; entries = opened.3 ∙ ap (result_of q) then } in (
         opening,
         told-reads fold fold_all b q moved at first _ (run-lawful w end events answers run)
             (omega (arith, at_number)) within (opened.3 ∙ ap (result_of q) state)
-            (told_over end.book b q moved at _ number (λ n. ap (λ d. updates_of q moved d at n) all
-            ∙ updates_of-rebased count q moved w.book cs at n past) told_of),
+            told_of,
       )
 
   -- the headline of a run, from any world whose book leads to the state

@@ -30,11 +30,10 @@ pub run_parts : (w : World) (before events : List Event)
     → length before ≡ length befores → Run w (before ++ events) (befores ++ answers) end
     → (mid : World) × Run w before befores mid × Run mid events answers end
 run_parts w [] events [] answers end same run = (w, refl, run)
-run_parts w [] events (a ∷ befores) answers end same run = absurd (omega arith)
-run_parts w (e ∷ before) events [] answers end same run = absurd (omega arith)
 run_parts w (e ∷ before) events (a ∷ befores) answers end same run =
     let rest = run_parts run.0 before events befores answers end (omega arith) run.2 in
     (rest.0, (run.0, run.1, rest.1), rest.2)
+run_parts w before events befores answers end same run = absurd (omega arith)
 
 -- ---- an opening that was answered as one
 

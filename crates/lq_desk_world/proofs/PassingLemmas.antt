@@ -1,7 +1,7 @@
 -- How a list is passed on, and what a refusal leaves.
-use Rattle.std.proofs.Common.{◌≡◌, ℕ, zero, suc, ◌-◌, ◌≤◌, List, [], ◌∷◌, ◌++◌, refl, ap, take, drop, length, ◌∙◌, sym, arith, append_assoc, Some, None, Option, Bool, true, false}
+use Rattle.std.proofs.Common.{◌≡◌, ℕ, zero, suc, ◌-◌, List, [], ◌∷◌, ◌++◌, refl, ap, take, drop, length, ◌∙◌, sym, arith, append_assoc, Some, None, Option}
 use Rattle.std.specs.Prelude.{◌&&◌}
-use Rattle.std.proofs.lemmas.List.{take-append-drop}
+use Rattle.std.proofs.lemmas.List.{length-take, take-append-le, take-append-drop}
 use Rattle.lq_value.specs.declared.refusal.Refusal.{Refusal}
 use Rattle.lq_volume.specs.Book.{Book}
 use Rattle.lq_update.specs.declared.message.Message.{Message}
@@ -11,18 +11,11 @@ use Rattle.lq_desk_world.specs.declared.event.Act.{Act}
 use Rattle.lq_desk_world.specs.declared.event.Act.TheVariants as act
 use Rattle.lq_desk_world.specs.Events.{Answer, Refused, acting, putting_if, reading_if, noticing_if, closing_if, finishing_if}
 use Rattle.lq_desk_world.specs.Laws.{ListsArePassedOn, RefusalsLeaveWorlds}
-use Rattle.lq_desk_world.proofs.ListLemmas.{slice_set-same}
+use Rattle.lq_desk_world.proofs.ListLemmas.{each_bool, slice_set-same}
 use Rattle.lq_desk_world.proofs.SubLemmas.{parcels}
 use Rattle.lq_desk_world.proofs.StepLemmas.{outcome-cases}
 
 -- ---- the parts of a list
-
--- the shorter front of a longer front is one of the list
-take-of_take : {A : Type 0} (m n : ℕ) (xs : List A) → m ≤ n → take m (take n xs) ≡ take m xs
-take-of_take zero n xs h = refl
-take-of_take (suc m) zero xs h = absurd (omega arith)
-take-of_take (suc m) (suc n) [] h = refl
-take-of_take (suc m) (suc n) (x ∷ xs) h = ap (λ ys. x ∷ ys) (take-of_take m n xs (omega arith))
 
 -- what is past a place of two lists, one behind the other
 drop-both : (us : List Message) (ms : List Parcel) (n : ℕ)
@@ -43,9 +36,13 @@ to_come-is b s = sym (drop-both (updates_due b s) (mark_behind (length (updates_
 pub lists-passed : ListsArePassedOn
 lists-passed b s h =
     let xs = whole b s in
+    let front : take s.taken xs ≡ take s.taken (take s.put xs) =
+    ap (take s.taken) (sym (take-append-drop s.put xs))
+    ∙ take-append-le s.taken (take s.put xs) (drop s.put xs)
+    (omega (arith, length-take s.put xs, h.taken, h.put)) in
     ap (λ ps. take s.taken xs ++ (in_port b s ++ ps)) (to_come-is b s)
     ∙ (sym (append_assoc (take s.taken xs) (in_port b s) (drop s.put xs))
-    ∙ (ap (λ ps. (ps ++ in_port b s) ++ drop s.put xs) (sym (take-of_take s.taken s.put xs h.taken))
+    ∙ (ap (λ ps. (ps ++ in_port b s) ++ drop s.put xs) front
     ∙ (ap (λ ps. ps ++ drop s.put xs) (take-append-drop s.taken (take s.put xs))
     ∙ take-append-drop s.put xs)))
 
@@ -58,32 +55,20 @@ LeavesRefused s r left = left.0 ≡ Refused r → left.1 ≡ Some s
 -- an act that is refused leaves its subscription
 acting-refused : (b : Book) (s : Subscribed) (r : Refusal) (a : Act)
     → LeavesRefused s r (acting b a s)
-acting-refused b s r act.Put = by (can_put b s)
-  where
-    by : (x : Bool) → LeavesRefused s r (putting_if s x)
-    by true is = cc
-    by false is = refl
+acting-refused b s r act.Put =
+    each_bool (λ x. LeavesRefused s r (putting_if s x)) (λ is. cc) (λ is. refl) (can_put b s)
 acting-refused b s r act.Take = by (first_in_port b s)
   where
     by : (o : Option Parcel) → LeavesRefused s r (reading_if b s o)
     by None is = refl
     by (Some p) is = cc
 acting-refused b s r act.HangUp = λ is. cc
-acting-refused b s r act.Notice = by (is_live s && s.hang_up_asked)
-  where
-    by : (x : Bool) → LeavesRefused s r (noticing_if b s x)
-    by true is = cc
-    by false is = refl
-acting-refused b s r act.Close = by (is_live s)
-  where
-    by : (x : Bool) → LeavesRefused s r (closing_if b s x)
-    by true is = cc
-    by false is = refl
-acting-refused b s r act.Finish = by (is_over b s)
-  where
-    by : (x : Bool) → LeavesRefused s r (finishing_if s x)
-    by true is = cc
-    by false is = refl
+acting-refused b s r act.Notice = each_bool (λ x. LeavesRefused s r (noticing_if b s x))
+    (λ is. cc) (λ is. refl) (is_live s && s.hang_up_asked)
+acting-refused b s r act.Close =
+    each_bool (λ x. LeavesRefused s r (closing_if b s x)) (λ is. cc) (λ is. refl) (is_live s)
+acting-refused b s r act.Finish =
+    each_bool (λ x. LeavesRefused s r (finishing_if s x)) (λ is. cc) (λ is. refl) (is_over b s)
 
 -- each event that is refused leaves the world
 pub refusals-leave : RefusalsLeaveWorlds

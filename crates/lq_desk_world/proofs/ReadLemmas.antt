@@ -3,6 +3,7 @@ use Rattle.std.proofs.Common.{◌≡◌, ◌≢◌, ℕ, suc, ◌+◌, List, [],
 use Rattle.std.specs.Prelude.{slice_get, ◌⊎◌}
 use Rattle.std.specs.Option.{option_map}
 use Rattle.std.proofs.lemmas.Bool.{cases_eq}
+use Rattle.std.proofs.lemmas.Option.{slice_get-map}
 use Rattle.lq_value.specs.declared.refusal.Refusal.{Refusal}
 use Rattle.lq_volume.specs.declared.change.Change.{Change as Change_}
 use Rattle.lq_volume.specs.State.{State}
@@ -18,7 +19,7 @@ use Rattle.lq_desk_world.specs.Events.{Answer, Refused, acting, event_at}
 use Rattle.lq_desk_world.specs.Runs.{Step, Run}
 use Rattle.lq_desk_world.specs.Fair.{IsFair}
 use Rattle.lq_desk_world.specs.Headline.{read_by, frees, accepted_by, accepted}
-use Rattle.lq_desk_world.proofs.ListLemmas.{slice_get-map, slice_get-set_here, slice_get-set_other}
+use Rattle.lq_desk_world.proofs.ListLemmas.{slice_get-set_here, slice_get-set_other}
 use Rattle.lq_desk_world.proofs.WorldLemmas.{after_all-append}
 use Rattle.lq_desk_world.proofs.SubLemmas.{IsOver, Reads, after_change-taken, keeps-change}
 use Rattle.lq_desk_world.proofs.TakenLemmas.{reads-nothing, reads-self, taken_within}
@@ -60,13 +61,12 @@ step-adds w = step-cases w (λ e a v. Adds w (accepted_by e a) v.book)
 pub run-book : (w : World) (events : List Event) (answers : List Answer) (end : World)
     → Run w events answers end → end.book ≡ grown w.book (accepted events answers)
 run-book w [] [] end run = ap (λ (v : World). v.book) run ∙ same_book w.book
-run-book w [] (a ∷ answers) end run = absurd run
-run-book w (e ∷ events) [] end run = absurd run
 run-book w (e ∷ events) (a ∷ answers) end run =
     run-book run.0 events answers end run.2
     ∙ (ap (λ b. grown b (accepted events answers)) (step-adds w e a run.0 run.1).0
     ∙ ap (λ cs. record { start = w.book.start; changes = cs })
     (append_assoc w.book.changes (accepted_by e a) (accepted events answers)))
+run-book w events answers end run = absurd run
 
 -- lawful changes and then others, lawful from where those lead, are lawful together
 are-lawful-append : (s : State) (cs ds : List Change_)
@@ -78,8 +78,6 @@ are-lawful-append s (c ∷ cs) ds h g = (h.0, are-lawful-append (after s c) cs d
 pub run-lawful : (w end : World) (events : List Event) (answers : List Answer)
     → Run w events answers end → AreLawful (state_of w.book) (accepted events answers)
 run-lawful w end [] [] run = tt
-run-lawful w end [] (a ∷ answers) run = absurd run
-run-lawful w end (e ∷ events) [] run = absurd run
 run-lawful w end (e ∷ events) (a ∷ answers) run =
     let adds = step-adds w e a run.0 run.1 in
     let there : state_of run.0.book ≡ after_all (state_of w.book) (accepted_by e a) =
@@ -87,6 +85,7 @@ run-lawful w end (e ∷ events) (a ∷ answers) run =
     are-lawful-append (state_of w.book) (accepted_by e a) (accepted events answers) adds.1
     (subst (λ (s : State). AreLawful s (accepted events answers)) there
     (run-lawful run.0 end events answers run.2))
+run-lawful w end events answers run = absurd run
 
 -- ---- one event
 
@@ -154,7 +153,8 @@ module _ (join : UpdatesJoin) where
         refl,
         record {
           sub = after_change w.book c s;
-          here = slice_get-map (option_map (after_change w.book c)) w.slots i (Some s) h.here;
+          here = slice_get-map (option_map (after_change w.book c)) w.slots i
+              ∙ ap (option_map (option_map (after_change w.book c))) h.here;
           does = reads-nothing w.book s (grown w.book (c ∷ [])) (after_change w.book c s)
               (taken_within w.book s h.fair) (after_change-taken w.book c s)
               (keeps-change join w.book c s h.fair);

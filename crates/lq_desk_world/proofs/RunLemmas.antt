@@ -20,7 +20,7 @@ use Rattle.lq_desk_world.specs.Runs.{Run}
 use Rattle.lq_desk_world.specs.Fair.{IsFair}
 use Rattle.lq_desk_world.specs.Headline.{frees, read_by, reads_of, parcel_in, parcels_in, updates_among, accepted, HasMark}
 use Rattle.lq_desk_world.specs.PassedOn.{is_freed}
-use Rattle.lq_desk_world.proofs.ListLemmas.{all-append}
+use Rattle.lq_desk_world.proofs.ListLemmas.{each_bool, all-append}
 use Rattle.lq_desk_world.proofs.SubLemmas.{parcels, IsSame, IsOver, IsEnded, Reads, keeps-ended}
 use Rattle.lq_desk_world.proofs.TakenLemmas.{reads-nothing, reads-self, taken_within}
 use Rattle.lq_desk_world.proofs.ReadLemmas.{Stands, Passes, run-book, step-goes}
@@ -88,11 +88,8 @@ over-marked b s o =
 
 -- one event answers one read at most
 read_short : (slot : ℕ) (e : Event) (a : Answer) → length (read_by slot e a) ≤ 1
-read_short slot (Take k) a = by (k == slot)
-  where
-    by : (x : Bool) → length (if x then a ∷ [] else []) ≤ 1
-    by true = omega arith
-    by false = omega arith
+read_short slot (Take k) a = each_bool (λ x. length (if x then a ∷ [] else []) ≤ 1)
+    (omega arith) (omega arith) (k == slot)
 read_short slot e a = omega arith
 
 -- a member of one read at most, and of more reads, is that one or stands among those
@@ -148,8 +145,6 @@ module _ (join : UpdatesJoin) where
   run-ran w i s [] [] end h run = subst (λ (v : World). Ran w.book s v i [] false) (sym run)
       (ran-nothing w.book s w i s false (reads-self w.book s h.fair) (λ free. h.here)
       (λ no. absurd (let never : ⊥ = cc in never)))
-  run-ran w i s [] (a ∷ answers) end h run = absurd run
-  run-ran w i s (e ∷ events) [] end h run = absurd run
   run-ran w i s (e ∷ events) (a ∷ answers) end h run =
       by (λ t stands. run-ran run.0 i t events answers end stands run.2)
       (step-goes join w i s e a run.0 h run.1)
@@ -176,6 +171,7 @@ module _ (join : UpdatesJoin) where
           subst RanIf (sym goes.0) (ran-more w.book run.0.book s g.sub end i _ _ _
           (read_short (i + 1) e a) g.does
           (onward g.sub (record { here = g.here; fair = g.does.keeps.fair })))
+  run-ran w i s events answers end h run = absurd run
 
 -- ---- from parcels to updates
 

@@ -20,6 +20,7 @@ use Rattle.lq_desk_world.specs.World.{Subscribed, Ending, covered_by, covered, u
 use Rattle.lq_desk_world.specs.Events.{Answer, Took, Ended}
 use Rattle.lq_desk_world.specs.Fair.{IsFair}
 use Rattle.lq_desk_world.specs.Headline.{parcels_in}
+use Rattle.lq_desk_world.proofs.ListLemmas.{each_bool}
 use Rattle.lq_desk_world.proofs.WorldLemmas.{updates_of-stays, updates_of-change}
 
 -- what a subscription keeps from its opening on
@@ -305,8 +306,5 @@ module _ (join : UpdatesJoin) where
 -- a change leaves how much was taken
 pub after_change-taken : (b : Book) (c : Change_) (s : Subscribed)
     → (after_change b c s).taken ≡ s.taken
-after_change-taken b c s = by (is_live s && change_overruns b c s)
-  where
-    by : (x : Bool) → (overrun_if b s x).taken ≡ s.taken
-    by true = refl
-    by false = refl
+after_change-taken b c s = each_bool (λ x. (overrun_if b s x).taken ≡ s.taken) refl refl
+    (is_live s && change_overruns b c s)

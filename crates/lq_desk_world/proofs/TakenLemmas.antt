@@ -10,9 +10,8 @@ use Rattle.lq_update.specs.declared.mark.Cause.TheVariants.{HungUp, Closed}
 use Rattle.lq_update.specs.declared.parcel.Parcel.{Parcel}
 use Rattle.lq_update.specs.declared.parcel.Parcel.TheVariants.{Fin}
 use Rattle.lq_desk_world.specs.World.{Subscribed, Ending, updates_due, mark_behind, whole, is_live, is_over, with_end, with_hang_up_asked, one_more_put, one_more_taken, can_put, first_in_port}
-use Rattle.lq_desk_world.specs.Events.{Took, Ended, Empty, putting_if, putting, reading_if, reading, hanging_up, noticing_if, noticing, closing_if, closing}
+use Rattle.lq_desk_world.specs.Events.{Ended, Empty, putting_if, putting, reading_if, reading, hanging_up, noticing_if, noticing, closing_if, closing}
 use Rattle.lq_desk_world.specs.Fair.{IsFair}
-use Rattle.lq_desk_world.specs.Headline.{parcels_in}
 use Rattle.lq_desk_world.proofs.ListLemmas.{take-one_more}
 use Rattle.lq_desk_world.proofs.SubLemmas.{Keeps, Leaves, Reads, keeps-counts, keeps-end, keeps-self, live-none, over-from, over-true, parcels}
 
@@ -110,32 +109,25 @@ pub reading-leaves : (b : Book) (s : Subscribed) → IsFair b s
     → Leaves b s ((reading b s).0 ∷ []) (reading b s).1
 reading-leaves b s h = by (first_in_port b s) refl
   where
-    none_given : (x : Bool) → [] ≡ parcels_in ((if x then Ended else Empty) ∷ [])
-    none_given true = refl
-    none_given false = refl
-
-    is_ended : (x : Bool) → (if x then Ended else Empty) ∷ [] ≡ Ended ∷ [] → x ≡ true
-    is_ended true is = refl
-    is_ended false is = absurd (let no : ⊥ = cc in no)
-
-    no_mark : (x : Bool) (m : Mark) → (if x then Ended else Empty) ∷ [] ≡ Took (Fin m) ∷ [] → ⊥
-    no_mark true m is = cc
-    no_mark false m is = cc
+    idle : (x : Bool) → is_over b s ≡ x → Reads b s b s ((if x then Ended else Empty) ∷ [])
+    idle true is = record {
+      keeps = keeps-self b s h;
+      front = append-nil _;
+      over = λ o. (o, (refl, tt));
+      marked = λ m no. absurd (let never : ⊥ = cc in never);
+      shown = λ same. over-from b s is;
+    }
+    idle false is = record {
+      keeps = keeps-self b s h;
+      front = append-nil _;
+      over = λ o. absurd (let is_not = over-true b s o in let never : ⊥ = cc in never);
+      marked = λ m no. absurd (let never : ⊥ = cc in never);
+      shown = λ no. absurd (let never : ⊥ = cc in never);
+    }
 
     by : (o : Option Parcel) → first_in_port b s ≡ o
         → Leaves b s ((reading_if b s o).0 ∷ []) (reading_if b s o).1
-    by None is = record {
-      sub = s;
-      is = refl;
-      does = record {
-        keeps = keeps-self b s h;
-        front = ap (λ ps. take s.taken (whole b s) ++ ps) (sym (none_given (is_over b s)))
-            ∙ append-nil _;
-        over = λ o. (o, (ap (λ x. if x then Ended else Empty) (over-true b s o), tt));
-        marked = λ m is. absurd (no_mark (is_over b s) m is);
-        shown = λ is. over-from b s (is_ended (is_over b s) is);
-      };
-    }
+    by None is = record { sub = s; is = refl; does = idle (is_over b s) refl }
     by (Some p) is =
         let at = in_port (nat_lt s.taken s.put) (slice_get (whole b s) s.taken) p is in
         let there = ltb-true s.taken s.put at.0 in
@@ -150,9 +142,8 @@ reading-leaves b s h = by (first_in_port b s) refl
             over = λ o. absurd (omega (arith, o.2, more.1));
             marked = λ m same.
                 let mark : p ≡ Fin m = cc in
-                let last = mark-last (updates_due b s) (length (updates_due b s)) s.taken s.end m
-                (at.1 ∙ ap (λ q. Some q) mark) in
-                (last.0, last.1, last.2);
+                mark-last (updates_due b s) (length (updates_due b s)) s.taken s.end m
+                (at.1 ∙ ap (λ q. Some q) mark);
             shown = λ no. absurd (let never : ⊥ = cc in never);
           };
         }

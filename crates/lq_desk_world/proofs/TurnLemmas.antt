@@ -4,6 +4,7 @@ use Rattle.std.specs.Prelude.{◌⊎◌, slice_get, ◌==◌, if◌then◌else�
 use Rattle.std.specs.List.{AllByRecursion}
 use Rattle.std.specs.Option.{option_flatten, option_map}
 use Rattle.std.proofs.lemmas.Bool.{and_parts, cases_eq, ltb-true}
+use Rattle.std.proofs.lemmas.Option.{slice_get-map}
 use Rattle.std.proofs.lemmas.Bool.Decides.{nat_tests}
 use Rattle.lq_value.specs.declared.refusal.Refusal.{Refusal}
 use Rattle.lq_volume.specs.declared.change.Change.{Change as Change_}
@@ -18,7 +19,7 @@ use Rattle.lq_desk_world.specs.Events.{Answer, Moved, Refused, acting, answer, a
 use Rattle.lq_desk_world.specs.Turns.{after_events, at_each, notices, one_notice, places_at, places_in, ports_of, puts, turn_of, turn_outcome}
 use Rattle.lq_desk_world.specs.Fair.{IsFairSlot, IsFairWorld}
 use Rattle.lq_desk_world.specs.Laws.{EachUntilStill, IsStill, PutsThenStill, PutsUntilStill, TurnsFillPorts, TurnsPutUntilStill}
-use Rattle.lq_desk_world.proofs.ListLemmas.{all-get, map-set_same, slice_get-map, slice_get-set_here, slice_get-set_other, slice_set-same}
+use Rattle.lq_desk_world.proofs.ListLemmas.{all-get, each_bool, map-set_same, slice_get-set_here, slice_get-set_other, slice_set-same}
 use Rattle.lq_desk_world.proofs.SubLemmas.{keeps-change}
 use Rattle.lq_desk_world.proofs.StepLemmas.{ReadsNothing, acting-passes, at-index, outcome-cases, slot-index}
 use Rattle.lq_desk_world.proofs.FairLemmas.{outcome-fair}
@@ -173,12 +174,10 @@ gap-places (o ∷ slots) (suc i) = gap-places slots i
 
 -- so has the port of each slot
 room : (w : World) (k : ℕ) → gap_at w k ≤ places_at (ports_of w) k
-room w k = by (k == 0)
-  where
-    by : (x : Bool) → gap_in (if x then None else option_flatten (slice_get w.slots (k - 1)))
-        ≤ (if x then 0 else places_in (option_flatten (slice_get (ports_of w) (k - 1))))
-    by true = omega arith
-    by false = gap-places w.slots (k - 1)
+room w k = each_bool
+    (λ x. gap_in (if x then None else option_flatten (slice_get w.slots (k - 1)))
+    ≤ (if x then 0 else places_in (option_flatten (slice_get (ports_of w) (k - 1)))))
+    (omega arith) (gap-places w.slots (k - 1)) (k == 0)
 
 -- an event that opens and frees no slot
 abbrev Stays : Event → Type 0
@@ -340,6 +339,6 @@ module _ (join : UpdatesJoin) where
                 omega (arith, found.1),
                 s.port,
                 ap (λ ps. slice_get ps found.0) (sym same)
-                    ∙ slice_get-map (option_map (λ (t : Subscribed). t.port)) u.slots found.0 (Some s)
-                    found.2,
+                    ∙ (slice_get-map (option_map (λ (t : Subscribed). t.port)) u.slots found.0
+                    ∙ ap (option_map (option_map (λ (t : Subscribed). t.port))) found.2),
               )
