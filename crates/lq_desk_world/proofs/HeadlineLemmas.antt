@@ -22,7 +22,7 @@ use Rattle.lq_desk_world.specs.Runs.{Run}
 use Rattle.lq_desk_world.specs.Headline.{reads_of, parcels_in, updates_among, updates_in, accepted_by, accepted, run_book, IsOpening, AreReads, OpeningsAreTold, ReadersAreTold, HasMark}
 use Rattle.lq_desk_world.proofs.WorldLemmas.{after_all-append, number-all, updates_of-rebased}
 use Rattle.lq_desk_world.proofs.ReadLemmas.{run-book, run-lawful}
-use Rattle.lq_desk_world.proofs.RunLemmas.{Ran, parcels_in-append, updates_among-append, has-mark, mark-place, prefix-more, prefix-take, updates-prefix, updates_among-take}
+use Rattle.lq_desk_world.proofs.RunLemmas.{Ran, parcels_in-append, updates_among-append, has-mark, mark-place, prefix-more, updates-prefix, updates_among-take}
 use Rattle.std.specs.List.{AllByRecursion}
 use Rattle.lq_update.specs.declared.mark.Mark.{Mark}
 use Rattle.lq_update.specs.declared.parcel.Parcel.TheVariants.{Fin}
@@ -76,7 +76,8 @@ pub record AreTold (b : Book) (q : Query) (moved : Bool) (at : ℕ)
 -- number and the updates of the run's last book
 ran-reads : UpdatesGrow → (b : Book) (s : Subscribed) (end : World) (i : ℕ) (reads : List Answer)
     (freed : Bool) (book : Book) → s.taken ≡ 0 → Ran b s end i reads freed
-    → number_of end.book ≡ number_of book → ((n : ℕ) → updates_to end.book s n ≡ updates_to book s n)
+    → number_of end.book ≡ number_of book
+    → ((n : ℕ) → updates_to end.book s n ≡ updates_to book s n)
     → AreTold book s.query s.moved s.opened reads
 ran-reads grow b s end i reads freed book none ran number lists =
     let t = ran.sub in
@@ -96,7 +97,7 @@ ran-reads grow b s end i reads freed book none ran number lists =
     (updates-prefix grow s.query s.moved d s.opened (covered d t) (number_of d - covered d t)) in
     record {
       prefix = subst (λ (ms : List Message). IsPrefix ms (updates_to book s (number_of book)))
-          (sym all) (prefix-more _ us _ (prefix-take t.taken us) longer);
+          (sym all) (prefix-more _ us _ (drop t.taken us, take-append-drop t.taken us) longer);
       mark = λ front rest m is.
           let parts : parcels_in front ++ Fin m
           ∷ (parcels_in rest ++ drop t.taken (whole d t)) ≡ whole d t =
@@ -178,7 +179,8 @@ module _ (join : UpdatesJoin) (grow : UpdatesGrow) (count : ChangesCount) (fold 
       (subst (λ (es : List Event). Run w es (befores ++ Opened slot at first ∷ afters) end) is
       (subst (λ (xs : List Answer). Run w events xs end) told run)) in
       let mid = parts.0 in
-      let opened = opened-ran join mid q port backlog moved slot at first after afters end parts.2 in
+      let opened = opened-ran join mid q port backlog moved slot at first after afters end
+      parts.2 in
       let start = state_of w.book in
       let early = accepted before befores in
       let late = accepted after afters in

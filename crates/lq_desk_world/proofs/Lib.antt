@@ -1,7 +1,7 @@
 -- Read in this order: ListLemmas; WorldLemmas (updates), SubLemmas and TakenLemmas (one event, one
--- subscription), StepLemmas (the cases of a step), FairLemmas (what each step keeps); PassingLemmas
--- (lists, refusals); TurnLemmas; ReadLemmas, RunLemmas, OpeningLemmas and HeadlineLemmas (whole
--- runs). Example has scenarios.
+-- subscription), StepLemmas (the cases of a step, refusals), FairLemmas (what each step keeps);
+-- TurnLemmas; ReadLemmas, RunLemmas, OpeningLemmas and HeadlineLemmas (whole runs). Example has
+-- scenarios.
 pub mod ListLemmas
 pub mod WorldLemmas
 pub mod SubLemmas
@@ -13,5 +13,4 @@ pub mod ReadLemmas
 pub mod RunLemmas
 pub mod OpeningLemmas
 pub mod HeadlineLemmas
-pub mod PassingLemmas
 pub mod TurnLemmas

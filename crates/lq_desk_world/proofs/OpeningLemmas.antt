@@ -11,16 +11,16 @@ use Rattle.lq_desk_world.specs.World.{World, Subscribed, taken_before_free, whol
 use Rattle.lq_desk_world.specs.declared.event.Event.{Event}
 use Rattle.lq_desk_world.specs.declared.event.Event.TheVariants.{Open}
 use Rattle.lq_desk_world.specs.Events.{Answer, Opened, opening, opened_now, open_refusal, with_sub}
-use Rattle.lq_desk_world.specs.Runs.{Step, Run}
+use Rattle.lq_desk_world.specs.Runs.{Run}
 use Rattle.lq_desk_world.specs.Headline.{reads_of, parcels_in}
 use Rattle.lq_desk_world.specs.PassedOn.{is_freed}
 use Rattle.lq_desk_world.proofs.ListLemmas.{slice_get-set_here}
-use Rattle.lq_desk_world.proofs.FairLemmas.{MayOpen, may_open, opened-fair}
+use Rattle.lq_desk_world.proofs.FairLemmas.{may_open, opened-fair}
 use Rattle.lq_desk_world.proofs.ReadLemmas.{Stands}
 use Rattle.lq_desk_world.proofs.RunLemmas.{Ran, run-ran}
 use Rattle.lq_desk_world.proofs.SubLemmas.{over-true}
 use Rattle.lq_desk_world.specs.Laws.{ReadsArePassedOn}
-use Rattle.lq_desk_world.proofs.PassingLemmas.{lists-passed}
+use Rattle.lq_desk_world.proofs.TakenLemmas.{lists-passed}
 use Rattle.std.specs.Option.{option_flatten}
 use Rattle.lq_desk_world.proofs.StepLemmas.{at-index}
 
@@ -37,60 +37,49 @@ run_parts w before events befores answers end same run = absurd (omega arith)
 
 -- ---- an opening that was answered as one
 
--- the slot, the number and the result of an opening, and the world that it leaves
-record IsOpened (w : World) (s : Subscribed) (slot at : ℕ) (first : List Entry)
-    (v : World) : Type 0 where
-  slot_is : slot ≡ taken_before_free w.slots + 1
-  may : MayOpen w s.port s.backlog
-  at_is : at ≡ number_of w.book
-  first_is : first ≡ result_of s.query (state_of w.book)
-  world : v ≡ with_sub w s
-
--- a step that answers an opened slot has opened there
-step_opened : (w : World) (q : Query) (port backlog : ℕ) (moved : Bool) (slot at : ℕ)
-    (first : List Entry) (v : World)
-    → Step w (Open q port backlog moved) (Opened slot at first) v
-    → IsOpened w (opened_now w q port backlog moved) slot at first v
-step_opened w q port backlog moved slot at first v (inr ran) =
-    absurd (let e = ran.1 in let no : ⊥ = cc in no)
-step_opened w q port backlog moved slot at first v (inl done) =
-    by (open_refusal w port backlog) (may_open w port backlog) done.0 done.1
-  where
-    s : Subscribed
-    s = opened_now w q port backlog moved
-
-    by : (r : Option Refusal) → (r ≡ None → MayOpen w port backlog)
-        → Opened slot at first ≡ (opening w s r).0 → v ≡ (opening w s r).1
-        → IsOpened w s slot at first v
-    by (Some e) may told is = absurd (let no : ⊥ = cc in no)
-    by None may told is =
-        record { slot_is = cc; may = may refl; at_is = cc; first_is = cc; world = is }
+-- its slot, its number and its result, and what was read from then on
+abbrev pub RanFrom : World → Subscribed → ℕ → ℕ → List Entry → List Event → List Answer → World
+    → Type 0
+RanFrom w s slot at first events answers end = (i : ℕ) × (slot ≡ i + 1) × (at ≡ number_of w.book)
+    × (first ≡ result_of s.query (state_of w.book))
+    × Ran w.book s end i (reads_of slot events answers) (is_freed slot events answers)
 
 -- what comes of a subscription from its opening on
 pub opened-ran : UpdatesJoin → (w : World) (q : Query) (port backlog : ℕ) (moved : Bool)
     (slot at : ℕ) (first : List Entry) (events : List Event) (answers : List Answer) (end : World)
     → Run w (Open q port backlog moved ∷ events) (Opened slot at first ∷ answers) end
-    → (i : ℕ) × (slot ≡ i + 1) × (at ≡ number_of w.book) × (first ≡ result_of q (state_of w.book))
-    × Ran w.book (opened_now w q port backlog moved) end i (reads_of slot events answers)
-    (is_freed slot events answers)
-opened-ran join w q port backlog moved slot at first events answers end run =
-    let s = opened_now w q port backlog moved in
-    let is = step_opened w q port backlog moved slot at first run.0 run.1 in
-    let i = taken_before_free w.slots in
-    let goes : Run (with_sub w s) events answers end =
-    subst (λ (u : World). Run u events answers end) is.world run.2 in
-    let stands : Stands (with_sub w s) i s = record {
-      here = slice_get-set_here w.slots i _ (Some s) (slice_get-get_or w.slots i None is.may.free);
-      fair = opened-fair w q port backlog moved is.may;
-    } in
-    let ran = run-ran join (with_sub w s) i s events answers end stands goes in (
-      i,
-      is.slot_is,
-      is.at_is,
-      is.first_is,
-      subst (λ (k : ℕ). Ran w.book s end i (reads_of k events answers)
-          (is_freed k events answers)) (sym is.slot_is) ran,
-    )
+    → RanFrom w (opened_now w q port backlog moved) slot at first events answers end
+opened-ran join w q port backlog moved slot at first events answers end (v, inr ran, run) =
+    absurd (let e = ran.1 in let no : ⊥ = cc in no)
+opened-ran join w q port backlog moved slot at first events answers end (v, inl done, run) =
+    by (open_refusal w port backlog) refl done.0 done.1
+  where
+    s : Subscribed
+    s = opened_now w q port backlog moved
+
+    i : ℕ
+    i = taken_before_free w.slots
+
+    by : (r : Option Refusal) → open_refusal w port backlog ≡ r
+        → Opened slot at first ≡ (opening w s r).0 → v ≡ (opening w s r).1
+        → RanFrom w s slot at first events answers end
+    by (Some e) none told is = absurd (let no : ⊥ = cc in no)
+    by None none told is =
+        let may = may_open w port backlog none in
+        let stands : Stands (with_sub w s) i s = record {
+          here = slice_get-set_here w.slots i _ (Some s) (slice_get-get_or w.slots i None may.free);
+          fair = opened-fair w q port backlog moved may;
+        } in
+        let slot_is : slot ≡ i + 1 = cc in (
+          i,
+          slot_is,
+          cc,
+          cc,
+          subst (λ (k : ℕ). Ran w.book s end i (reads_of k events answers)
+              (is_freed k events answers)) (sym slot_is)
+              (run-ran join (with_sub w s) i s events answers end stands
+              (subst (λ (u : World). Run u events answers end) is run)),
+        )
 
 -- the list of each subscription that a run opens is passed on
 pub reads-passed : UpdatesJoin → ReadsArePassedOn

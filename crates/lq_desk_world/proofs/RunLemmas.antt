@@ -1,8 +1,8 @@
 -- What the reads of a subscription are answered over a run from its opening on.
-use Rattle.std.proofs.Common.{◌≡◌, ℕ, zero, suc, ◌+◌, ◌≤◌, List, [], ◌∷◌, ◌++◌, refl, ap, take, drop, length, ◌∙◌, sym, subst, arith, append_assoc, append-nil, Some, None, Option, inl, inr, Bool, true, false}
+use Rattle.std.proofs.Common.{◌≡◌, ℕ, zero, suc, ◌+◌, ◌≤◌, List, [], ◌∷◌, ◌++◌, refl, ap, take, length, ◌∙◌, sym, subst, arith, append_assoc, append-nil, Some, None, Option, inl, inr, Bool, true, false}
 use Rattle.std.specs.Prelude.{◌⊎◌, ◌==◌, ◌||◌, slice_get, if◌then◌else◌}
 use Rattle.std.specs.List.{AllByRecursion}
-use Rattle.std.proofs.lemmas.List.{take-append-drop, take_all}
+use Rattle.std.proofs.lemmas.List.{take_all}
 use Rattle.lq_predicate.specs.Query.{Query}
 use Rattle.lq_volume.specs.Book.{Book, grown}
 use Rattle.lq_update.specs.declared.message.Message.{Message}
@@ -208,6 +208,10 @@ mark-place (u ∷ us) k o (x ∷ xs) ys m is =
     let rest = mark-place us k o xs ys m others in
     (ap (λ p. updates_among (p ∷ xs)) first ∙ ap (λ ms. u ∷ ms) rest.0, rest.1)
 
+-- what has the mark has it with one answer more before
+has-more : (x : Answer) (reads : List Answer) → HasMark reads → HasMark (x ∷ reads)
+has-more x reads h = (h.0, x ∷ h.1, h.2, ap (λ zs. x ∷ zs) h.3)
+
 -- a mark that answers gave is among them
 pub has-mark : (reads : List Answer) (m : Mark) (front : List Parcel)
     → parcels_in reads ≡ front ++ Fin m ∷ [] → HasMark reads
@@ -215,34 +219,22 @@ has-mark [] m front is = absurd (no_place front [] (Fin m) is)
 has-mark (Took p ∷ reads) m [] is =
     let first : p ≡ Fin m = cc in
     (m, [], reads, ap (λ q. Took q ∷ reads) first)
-has-mark (Took p ∷ reads) m (f ∷ front) is =
-    let h = has-mark reads m front cc in
-    (h.0, Took p ∷ h.1, h.2, ap (λ zs. Took p ∷ zs) h.3)
-has-mark (x ∷ reads) m front is =
-    let h = has-mark reads m front is in
-    (h.0, x ∷ h.1, h.2, ap (λ zs. x ∷ zs) h.3)
+has-mark (Took p ∷ reads) m (f ∷ front) is = has-more (Took p) reads (has-mark reads m front cc)
+has-mark (x ∷ reads) m front is = has-more x reads (has-mark reads m front is)
 
 -- ---- prefixes
-
--- a list begins with itself
-prefix-self : (xs : List Message) → IsPrefix xs xs
-prefix-self xs = ([], append-nil xs)
 
 -- what a beginning begins with, the list begins with
 pub prefix-more : (xs ys zs : List Message) → IsPrefix xs ys → IsPrefix ys zs → IsPrefix xs zs
 prefix-more xs ys zs p q =
     (p.0 ++ q.0, sym (append_assoc xs p.0 q.0) ∙ (ap (λ us. us ++ q.0) p.1 ∙ q.1))
 
--- a list begins with each of its fronts
-pub prefix-take : (n : ℕ) (xs : List Message) → IsPrefix (take n xs) xs
-prefix-take n xs = (drop n xs, take-append-drop n xs)
-
 -- the updates up to one change are a beginning of those up to a later one
 pub updates-prefix : UpdatesGrow → (q : Query) (moved : Bool) (b : Book) (m n k : ℕ)
     → IsPrefix (updates_of q moved b m n) (updates_of q moved b m (n + k))
 updates-prefix grow q moved b m n zero =
-    subst (λ (l : ℕ). IsPrefix (updates_of q moved b m n) (updates_of q moved b m l))
-    (let e : n ≡ n + 0 = omega arith in e) (prefix-self _)
+    let e : n ≡ n + 0 = omega arith in
+    ([], append-nil _ ∙ ap (updates_of q moved b m) e)
 updates-prefix grow q moved b m n (suc k) =
     subst (λ (l : ℕ). IsPrefix (updates_of q moved b m n) (updates_of q moved b m l))
     (let e : n + k + 1 ≡ n + suc k = omega arith in e)

@@ -1,6 +1,6 @@
 -- A step by its cases: it is refused, a change, an opening, or an act at a taken slot.
 use Rattle.std.proofs.Common.{◌≡◌, ◌≢◌, ℕ, ◌+◌, ◌-◌, [], ◌∷◌, refl, ap, ◌∙◌, sym, subst, arith, Some, None, Option, inl, inr, Bool, true, false}
-use Rattle.std.specs.Prelude.{slice_get, ◌⊎◌, ◌==◌, if◌then◌else◌}
+use Rattle.std.specs.Prelude.{slice_get, ◌⊎◌, ◌==◌, if◌then◌else◌, ◌&&◌}
 use Rattle.std.specs.Option.{option_flatten}
 use Rattle.std.proofs.lemmas.Bool.Decides.{nat_tests}
 use Rattle.lq_value.specs.declared.refusal.Refusal.{Refusal}
@@ -9,17 +9,20 @@ use Rattle.lq_predicate.specs.Query.{Query}
 use Rattle.lq_volume.specs.declared.change.Change.{Change as Change_}
 use Rattle.lq_volume.specs.Change.{refused as refused_by}
 use Rattle.lq_volume.specs.Book.{Book, state_of}
-use Rattle.lq_desk_world.specs.World.{World, Subscribed, is_over, subscribed_at, with_slot}
+use Rattle.lq_desk_world.specs.World.{World, Subscribed, is_over, subscribed_at, with_slot, is_live, can_put, first_in_port}
 use Rattle.lq_desk_world.specs.declared.event.Event.{Event}
 use Rattle.lq_desk_world.specs.declared.event.Event.TheVariants.{Change, Open, Put, Take, HangUp, Notice, Close, Finish}
 use Rattle.lq_desk_world.specs.declared.event.Act.{Act}
 use Rattle.lq_desk_world.specs.declared.event.Act.TheVariants as act
-use Rattle.lq_desk_world.specs.Events.{Answer, Finished, Refused, acting, at_slot, changing, event_at, finishing_if, open_refusal, opened_now, opening, outcome, reading}
+use Rattle.lq_desk_world.specs.Events.{Answer, Finished, Refused, acting, at_slot, changing, event_at, finishing_if, open_refusal, opened_now, opening, outcome, reading, putting_if, reading_if, noticing_if, closing_if}
 use Rattle.lq_desk_world.specs.Runs.{Step}
 use Rattle.lq_desk_world.specs.Fair.{IsFair}
 use Rattle.lq_desk_world.specs.Headline.{read_by, frees}
 use Rattle.lq_desk_world.proofs.SubLemmas.{IsOver, Leaves, keeps-self, over-from}
 use Rattle.lq_desk_world.proofs.TakenLemmas.{closing-leaves, hanging_up-leaves, leaves, noticing-leaves, putting-leaves, reading-leaves}
+use Rattle.lq_update.specs.declared.parcel.Parcel.{Parcel}
+use Rattle.lq_desk_world.specs.Laws.{RefusalsLeaveWorlds}
+use Rattle.lq_desk_world.proofs.ListLemmas.{each_bool, slice_set-same}
 
 -- ---- slots
 
@@ -149,3 +152,34 @@ module _ (w : World) (P : Event → Answer → World → Type 0)
   step-cases (Open q port backlog moved) a v (inr ran) =
       rw (ran.1, ran.2) (refused (Open q port backlog moved) NoMemory (λ i s at. refl))
   step-cases e a v (inr ran) = absurd ran.0
+
+-- ---- a refusal
+
+-- what an act answers and leaves of its subscription: it is left, if the act is refused
+abbrev LeavesRefused : Subscribed → Refusal → Answer × Option Subscribed → Type 0
+LeavesRefused s r left = left.0 ≡ Refused r → left.1 ≡ Some s
+
+-- an act that is refused leaves its subscription
+acting-refused : (b : Book) (s : Subscribed) (r : Refusal) (a : Act)
+    → LeavesRefused s r (acting b a s)
+acting-refused b s r act.Put =
+    each_bool (λ x. LeavesRefused s r (putting_if s x)) (λ is. cc) (λ is. refl) (can_put b s)
+acting-refused b s r act.Take = by (first_in_port b s)
+  where
+    by : (o : Option Parcel) → LeavesRefused s r (reading_if b s o)
+    by None is = refl
+    by (Some p) is = cc
+acting-refused b s r act.HangUp = λ is. cc
+acting-refused b s r act.Notice = each_bool (λ x. LeavesRefused s r (noticing_if b s x))
+    (λ is. cc) (λ is. refl) (is_live s && s.hang_up_asked)
+acting-refused b s r act.Close =
+    each_bool (λ x. LeavesRefused s r (closing_if b s x)) (λ is. cc) (λ is. refl) (is_live s)
+acting-refused b s r act.Finish =
+    each_bool (λ x. LeavesRefused s r (finishing_if s x)) (λ is. cc) (λ is. refl) (is_over b s)
+
+-- each event that is refused leaves the world
+pub refusals-leave : RefusalsLeaveWorlds
+refusals-leave w e r = outcome-cases w (λ e a v. a ≡ Refused r → v ≡ w) (λ e q none is. refl)
+    (λ c none is. cc) (λ q port backlog moved none is. cc)
+    (λ i a s at is. ap (with_slot w i) (acting-refused w.book s r a is)
+    ∙ ap (λ slots. record w { slots = slots }) (slice_set-same w.slots i (Some s) at)) e

@@ -78,12 +78,9 @@ live-none (Some e) h = absurd (let no : ⊥ = cc in no)
 
 -- one that is over passes the test
 pub over-true : (b : Book) (s : Subscribed) → IsOver b s → is_over b s ≡ true
-over-true b s h = by s.end (s.taken) (length (whole b s)) h.0 h.1 h.2
-  where
-    by : (o : Option Ending) (m n : ℕ) (e : Ending) → o ≡ Some e → m ≡ n
-        → (if is_none o then false else m == n) ≡ true
-    by None m n e is eq = absurd (let no : ⊥ = cc in no)
-    by (Some d) m n e is eq = grind (arith, nat_tests)
+over-true b s h =
+    let test : (s.taken == length (whole b s)) ≡ true = grind (arith, nat_tests, h.2) in
+    ap (λ o. if is_none o then false else s.taken == length (whole b s)) h.1 ∙ test
 
 -- one that passes the test is over
 pub over-from : (b : Book) (s : Subscribed) → is_over b s ≡ true → IsOver b s

@@ -1,19 +1,21 @@
--- What was read of a subscription.
-use Rattle.std.proofs.Common.{◌≡◌, ℕ, zero, suc, ◌+◌, ◌-◌, ◌≤◌, List, [], ◌∷◌, ◌++◌, refl, ap, take, length, ◌∙◌, sym, arith, append-nil, Some, None, Option, Bool, true, false}
+-- What was read of a subscription, and how its list is passed on.
+use Rattle.std.proofs.Common.{◌≡◌, ℕ, zero, suc, ◌+◌, ◌-◌, ◌≤◌, List, [], ◌∷◌, ◌++◌, refl, ap, take, length, ◌∙◌, sym, arith, append-nil, Some, None, Option, Bool, true, false, drop, append_assoc}
 use Rattle.std.specs.Prelude.{slice_get, ◌&&◌, nat_lt, if◌then◌else◌}
 use Rattle.std.proofs.lemmas.Bool.{and_parts, ltb-true}
-use Rattle.std.proofs.lemmas.List.{take-append-le}
+use Rattle.std.proofs.lemmas.List.{take-append-le, length-take, take-append-drop}
 use Rattle.lq_volume.specs.Book.{Book, number_of}
 use Rattle.lq_update.specs.declared.message.Message.{Message}
 use Rattle.lq_update.specs.declared.mark.Mark.{Mark}
 use Rattle.lq_update.specs.declared.mark.Cause.TheVariants.{HungUp, Closed}
 use Rattle.lq_update.specs.declared.parcel.Parcel.{Parcel}
 use Rattle.lq_update.specs.declared.parcel.Parcel.TheVariants.{Fin}
-use Rattle.lq_desk_world.specs.World.{Subscribed, Ending, updates_due, mark_behind, whole, is_live, is_over, with_end, with_hang_up_asked, one_more_put, one_more_taken, can_put, first_in_port}
+use Rattle.lq_desk_world.specs.World.{Subscribed, Ending, updates_due, mark_behind, whole, is_live, is_over, with_end, with_hang_up_asked, one_more_put, one_more_taken, can_put, first_in_port, in_port, to_come}
 use Rattle.lq_desk_world.specs.Events.{Ended, Empty, putting_if, putting, reading_if, reading, hanging_up, noticing_if, noticing, closing_if, closing}
 use Rattle.lq_desk_world.specs.Fair.{IsFair}
 use Rattle.lq_desk_world.proofs.ListLemmas.{take-one_more}
 use Rattle.lq_desk_world.proofs.SubLemmas.{Keeps, Leaves, Reads, keeps-counts, keeps-end, keeps-self, live-none, over-from, over-true, parcels}
+use Rattle.lq_desk_world.specs.declared.event.Act.TheVariants as act
+use Rattle.lq_desk_world.specs.Laws.{ListsArePassedOn}
 
 -- ---- what was read
 
@@ -99,10 +101,10 @@ mark-last (u ∷ us) n (suc i) o m at =
     (rest.0, rest.1, omega (arith, rest.2))
 
 -- a parcel that is in the port is there, and it is this one
-in_port : (x : Bool) (o : Option Parcel) (p : Parcel) → (if x then o else None) ≡ Some p
+first-given : (x : Bool) (o : Option Parcel) (p : Parcel) → (if x then o else None) ≡ Some p
     → (x ≡ true) × (o ≡ Some p)
-in_port true o p is = (refl, is)
-in_port false o p is = absurd (let no : ⊥ = cc in no)
+first-given true o p is = (refl, is)
+first-given false o p is = absurd (let no : ⊥ = cc in no)
 
 -- a read gives the reads of a fair subscription its answer
 pub reading-leaves : (b : Book) (s : Subscribed) → IsFair b s
@@ -129,7 +131,7 @@ reading-leaves b s h = by (first_in_port b s) refl
         → Leaves b s ((reading_if b s o).0 ∷ []) (reading_if b s o).1
     by None is = record { sub = s; is = refl; does = idle (is_over b s) refl }
     by (Some p) is =
-        let at = in_port (nat_lt s.taken s.put) (slice_get (whole b s) s.taken) p is in
+        let at = first-given (nat_lt s.taken s.put) (slice_get (whole b s) s.taken) p is in
         let there = ltb-true s.taken s.put at.0 in
         let more = take-one_more (whole b s) s.taken p at.1 in
         record {
@@ -147,3 +149,34 @@ reading-leaves b s h = by (first_in_port b s) refl
             shown = λ no. absurd (let never : ⊥ = cc in never);
           };
         }
+
+-- ---- the parts of its list
+
+-- what is past a place of two lists, one behind the other
+drop-both : (us : List Message) (ms : List Parcel) (n : ℕ)
+    → drop n (parcels us ++ ms) ≡ parcels (drop n us) ++ drop (n - length us) ms
+drop-both us ms zero =
+    ap (λ k. parcels us ++ drop k ms) (let e : 0 ≡ 0 - length us = omega arith in e)
+drop-both [] ms (suc n) =
+    ap (λ k. drop k ms) (let e : suc n ≡ suc n - length {A = Message} [] = omega arith in e)
+drop-both (u ∷ us) ms (suc n) = drop-both us ms n ∙ ap (λ k. parcels (drop n us) ++ drop k ms)
+    (let e : n - length us ≡ suc n - length (u ∷ us) = omega arith in e)
+
+-- what is to come is the whole list without what was put
+pub to_come-is : (b : Book) (s : Subscribed) → to_come b s ≡ drop s.put (whole b s)
+to_come-is b s = sym (drop-both (updates_due b s) (mark_behind (length (updates_due b s)) s.end)
+    s.put)
+
+-- a list is passed on whole: taken, in the port, and to come
+pub lists-passed : ListsArePassedOn
+lists-passed b s h =
+    let xs = whole b s in
+    let front : take s.taken xs ≡ take s.taken (take s.put xs) =
+    ap (take s.taken) (sym (take-append-drop s.put xs))
+    ∙ take-append-le s.taken (take s.put xs) (drop s.put xs)
+    (omega (arith, length-take s.put xs, h.taken, h.put)) in
+    ap (λ ps. take s.taken xs ++ (in_port b s ++ ps)) (to_come-is b s)
+    ∙ (sym (append_assoc (take s.taken xs) (in_port b s) (drop s.put xs))
+    ∙ (ap (λ ps. (ps ++ in_port b s) ++ drop s.put xs) front
+    ∙ (ap (λ ps. ps ++ drop s.put xs) (take-append-drop s.taken (take s.put xs))
+    ∙ take-append-drop s.put xs)))

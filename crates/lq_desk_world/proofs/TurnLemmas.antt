@@ -165,7 +165,8 @@ each-still (Some q ∷ ports) n w v k h (inr (suc i, is, p, at)) =
 -- ---- ports
 
 -- a port has room for no more parcels than its places
-gap-places : (slots : List (Option Subscribed)) (i : ℕ) → gap_in (option_flatten (slice_get slots i))
+gap-places : (slots : List (Option Subscribed)) (i : ℕ)
+    → gap_in (option_flatten (slice_get slots i))
     ≤ places_in (option_flatten (slice_get (map (option_map (λ s. s.port)) slots) i))
 gap-places [] i = omega arith
 gap-places (None ∷ slots) zero = omega arith
@@ -178,6 +179,26 @@ room w k = each_bool
     (λ x. gap_in (if x then None else option_flatten (slice_get w.slots (k - 1)))
     ≤ (if x then 0 else places_in (option_flatten (slice_get (ports_of w) (k - 1)))))
     (omega arith) (gap-places w.slots (k - 1)) (k == 0)
+
+-- a slot is still, as it is free, or among those with a port
+still-or-among : (w : World) (k : ℕ) → IsStill w k ⊎ IsAmong k 1 (ports_of w)
+still-or-among w k = by (subscribed_at w k) refl
+  where
+    by : (o : Option Subscribed) → subscribed_at w k ≡ o → IsStill w k ⊎ IsAmong k 1 (ports_of w)
+    by None at = inl (λ is.
+        let e : (at_slot w k None (putting w.book)).0 ≡ Moved true =
+        ap (λ o. (at_slot w k o (putting w.book)).0) (sym at) ∙ is in
+        let no : ⊥ = cc in
+        no)
+    by (Some s) at =
+        let found = slot-index w k s at in
+        inr (
+          found.0,
+          omega (arith, found.1),
+          s.port,
+          slice_get-map (option_map (λ (t : Subscribed). t.port)) w.slots found.0
+              ∙ ap (option_map (option_map (λ (t : Subscribed). t.port))) found.2,
+        )
 
 -- an event that opens and frees no slot
 abbrev Stays : Event → Type 0
@@ -200,6 +221,10 @@ after_events-append : (w : World) (xs ys : List Event)
     → after_events outcome w (xs ++ ys) ≡ after_events outcome (after_events outcome w xs) ys
 after_events-append w [] ys = refl
 after_events-append w (x ∷ xs) ys = after_events-append (next w x) xs ys
+
+-- the world after the notices and the change of a turn
+abbrev changed_world : World → Change_ → World
+changed_world w c = next (after_events outcome w (notices (ports_of w))) (Change c)
 
 module _ (join : UpdatesJoin) where
   -- a change leaves the ports
@@ -235,6 +260,14 @@ module _ (join : UpdatesJoin) where
   events-stay (e ∷ events) w fair stays =
       let rest = events-stay events (next w e) (outcome-fair join w e fair) stays.1 in
       (rest.0, rest.1 ∙ event-ports w e fair stays.0)
+
+  -- the notices before a change, and the change, are such events
+  change-stays : (w : World) (c : Change_) → IsFairWorld w
+      → IsFairWorld (changed_world w c) × (ports_of (changed_world w c) ≡ ports_of w)
+  change-stays w c fair =
+      let v = after_events outcome w (notices (ports_of w)) in
+      let stays = events-stay (notices (ports_of w)) w fair (notices-stay 1 (ports_of w)) in
+      (outcome-fair join v (Change c) stays.0, event-ports v (Change c) stays.0 tt ∙ stays.1)
 
   -- ---- turns
 
@@ -289,16 +322,13 @@ module _ (join : UpdatesJoin) where
           until-still (places_at (ports_of w) slot) v slot stays.0
           (omega (arith, room v slot, ap (λ ps. places_at ps slot) stays.1))
 
-      changes : (c : Change_) → EachUntilStill 1 (ports_of w)
-          (next (after_events outcome w (notices (ports_of w))) (Change c))
-          (turn_outcome w (Change c)).1
+      changes : (c : Change_)
+          → EachUntilStill 1 (ports_of w) (changed_world w c) (turn_outcome w (Change c)).1
       changes c =
-          let v = after_events outcome w (notices (ports_of w)) in
-          let stays = events-stay (notices (ports_of w)) w fair (notices-stay 1 (ports_of w)) in
-          let same = event-ports v (Change c) stays.0 tt ∙ stays.1 in
-          each-until (ports_of w) 0 (next v (Change c)) (outcome-fair join v (Change c) stays.0)
-          (λ i. ap (λ ps. slice_get ps i) (sym same) ∙ ap (slice_get (ports_of (next v (Change c))))
-          (let e : i ≡ 0 + i = omega arith in e))
+          let stays = change-stays w c fair in
+          each-until (ports_of w) 0 (changed_world w c) stays.0
+          (λ i. ap (λ ps. slice_get ps i) (sym stays.1)
+          ∙ ap (slice_get (ports_of (changed_world w c))) (let e : i ≡ 0 + i = omega arith in e))
 
       closes : (slot : ℕ) → PutsUntilStill slot (next (next w (Notice slot)) (Close slot))
           (turn_outcome w (Close slot)).1
@@ -311,34 +341,9 @@ module _ (join : UpdatesJoin) where
   -- and so they fill the ports
   pub turns-fill : TurnsFillPorts
   turns-fill w fair = (
-    λ c slot. each-still (ports_of w) 1 _ _ slot ((turns-until w fair).0 c) (among c slot),
+    λ c slot. each-still (ports_of w) 1 _ _ slot ((turns-until w fair).0 c)
+        (subst (λ ps. IsStill (changed_world w c) slot ⊎ IsAmong slot 1 ps)
+        (change-stays w c fair).1 (still-or-among (changed_world w c) slot)),
     λ slot. let h = (turns-until w fair).1 slot in until-stays h.0 _ _ slot h.1,
     λ slot. let h = (turns-until w fair).2 slot in until-stays h.0 _ _ slot h.1,
   )
-    where
-      among : (c : Change_) (slot : ℕ)
-          → IsStill (next (after_events outcome w (notices (ports_of w))) (Change c)) slot
-          ⊎ IsAmong slot 1 (ports_of w)
-      among c slot =
-          let stays = events-stay (notices (ports_of w)) w fair (notices-stay 1 (ports_of w)) in
-          let v = after_events outcome w (notices (ports_of w)) in
-          by (next v (Change c)) (event-ports v (Change c) stays.0 tt ∙ stays.1)
-          (subscribed_at (next v (Change c)) slot) refl
-        where
-          by : (u : World) → ports_of u ≡ ports_of w → (o : Option Subscribed)
-              → subscribed_at u slot ≡ o → IsStill u slot ⊎ IsAmong slot 1 (ports_of w)
-          by u same None at = inl (λ is.
-              let e : (at_slot u slot None (putting u.book)).0 ≡ Moved true =
-              ap (λ o. (at_slot u slot o (putting u.book)).0) (sym at) ∙ is in
-              let no : ⊥ = cc in
-              no)
-          by u same (Some s) at =
-              let found = slot-index u slot s at in
-              inr (
-                found.0,
-                omega (arith, found.1),
-                s.port,
-                ap (λ ps. slice_get ps found.0) (sym same)
-                    ∙ (slice_get-map (option_map (λ (t : Subscribed). t.port)) u.slots found.0
-                    ∙ ap (option_map (option_map (λ (t : Subscribed). t.port))) found.2),
-              )

@@ -73,7 +73,8 @@ updates_of-rebased count q moved b cs m n past =
     ap (λ i. updates_from q moved (after_all b.start (take i (b.changes ++ cs)))
     (take (n - m) (drop i (b.changes ++ cs))) 1) at
     ∙ (ap (λ ds. updates_from q moved (after_all b.start ds)
-    (take (n - m) (drop (length b.changes + j) (b.changes ++ cs))) 1) (take-append-add b.changes cs j)
+    (take (n - m) (drop (length b.changes + j) (b.changes ++ cs))) 1)
+    (take-append-add b.changes cs j)
     ∙ (ap (λ ds. updates_from q moved (after_all b.start (b.changes ++ take j cs))
     (take (n - m) ds) 1) (drop-append-add b.changes cs j)
     ∙ ap (λ s. updates_from q moved s (take (n - m) (drop j cs)) 1)
