@@ -1,13 +1,11 @@
 -- Read in this order: ListLemmas; WorldLemmas (updates), SubLemmas and TakenLemmas (one event, one
--- subscription), StepLemmas (the cases of a step, refusals), FairLemmas (what each step keeps);
--- TurnLemmas; ReadLemmas, RunLemmas, OpeningLemmas and HeadlineLemmas (whole runs). Example has
--- scenarios.
+-- subscription), StepLemmas (the cases of a step, refusals, fair worlds); TurnLemmas; ReadLemmas,
+-- RunLemmas, OpeningLemmas and HeadlineLemmas (whole runs). Example has scenarios.
 pub mod ListLemmas
 pub mod WorldLemmas
 pub mod SubLemmas
 pub mod TakenLemmas
 pub mod StepLemmas
-pub mod FairLemmas
 mod Example
 pub mod ReadLemmas
 pub mod RunLemmas

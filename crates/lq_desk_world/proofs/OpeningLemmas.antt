@@ -15,14 +15,13 @@ use Rattle.lq_desk_world.specs.Runs.{Run}
 use Rattle.lq_desk_world.specs.Headline.{reads_of, parcels_in}
 use Rattle.lq_desk_world.specs.PassedOn.{is_freed}
 use Rattle.lq_desk_world.proofs.ListLemmas.{slice_get-set_here}
-use Rattle.lq_desk_world.proofs.FairLemmas.{may_open, opened-fair}
 use Rattle.lq_desk_world.proofs.ReadLemmas.{Stands}
 use Rattle.lq_desk_world.proofs.RunLemmas.{Ran, run-ran}
 use Rattle.lq_desk_world.proofs.SubLemmas.{over-true}
 use Rattle.lq_desk_world.specs.Laws.{ReadsArePassedOn}
 use Rattle.lq_desk_world.proofs.TakenLemmas.{lists-passed}
 use Rattle.std.specs.Option.{option_flatten}
-use Rattle.lq_desk_world.proofs.StepLemmas.{at-index}
+use Rattle.lq_desk_world.proofs.StepLemmas.{at-index, may_open, opened-fair}
 
 -- a run goes on where its first part ends
 pub run_parts : (w : World) (before events : List Event)

@@ -21,8 +21,7 @@ use Rattle.lq_desk_world.specs.Fair.{IsFairSlot, IsFairWorld}
 use Rattle.lq_desk_world.specs.Laws.{EachUntilStill, IsStill, PutsThenStill, PutsUntilStill, TurnsFillPorts, TurnsPutUntilStill}
 use Rattle.lq_desk_world.proofs.ListLemmas.{all-get, each_bool, map-set_same, slice_get-set_here, slice_get-set_other, slice_set-same}
 use Rattle.lq_desk_world.proofs.SubLemmas.{keeps-change}
-use Rattle.lq_desk_world.proofs.StepLemmas.{ReadsNothing, acting-passes, at-index, outcome-cases, slot-index}
-use Rattle.lq_desk_world.proofs.FairLemmas.{outcome-fair}
+use Rattle.lq_desk_world.proofs.StepLemmas.{ReadsNothing, acting-passes, at-index, outcome-cases, slot-index, outcome-fair}
 
 -- how many parcels the port of a slot has room for
 abbrev gap_in : Option Subscribed → ℕ
