@@ -18,12 +18,12 @@ use Rattle.lq_desk_world.specs.declared.event.Event.TheVariants.{Take}
 use Rattle.lq_desk_world.specs.Events.{Answer, Took, Ended}
 use Rattle.lq_desk_world.specs.Runs.{Run}
 use Rattle.lq_desk_world.specs.Fair.{IsFair}
-use Rattle.lq_desk_world.specs.Headline.{frees, read_by, reads_of, parcel_in, parcels_in, updates_among, accepted, HasMark}
+use Rattle.lq_desk_world.specs.Headline.{read_by, reads_of, parcel_in, parcels_in, updates_among, accepted, HasMark}
 use Rattle.lq_desk_world.specs.PassedOn.{is_freed}
 use Rattle.lq_desk_world.proofs.ListLemmas.{each_bool, all-append}
 use Rattle.lq_desk_world.proofs.SubLemmas.{parcels, IsSame, IsOver, IsEnded, Reads, keeps-ended}
 use Rattle.lq_desk_world.proofs.TakenLemmas.{reads-nothing, reads-self, taken_within}
-use Rattle.lq_desk_world.proofs.ReadLemmas.{Stands, Passes, run-book, step-goes}
+use Rattle.lq_desk_world.proofs.ReadLemmas.{Stands, run-book, step-goes}
 
 -- a mark stands last
 abbrev IsMarked : List Parcel → Type 0
@@ -146,31 +146,28 @@ module _ (join : UpdatesJoin) where
       (ran-nothing w.book s w i s false (reads-self w.book s h.fair) (λ free. h.here)
       (λ no. absurd (let never : ⊥ = cc in never)))
   run-ran w i s (e ∷ events) (a ∷ answers) end h run =
-      by (λ t stands. run-ran run.0 i t events answers end stands run.2)
-      (step-goes join w i s e a run.0 h run.1)
+      elim (step-goes join w i s e a run.0 h run.1) [
+        | inl freed ↦
+            let cs = accepted (e ∷ events) (a ∷ answers) in
+            let stays : Reads w.book s end.book s [] =
+            subst (λ (b : Book). Reads w.book s b s [])
+            (sym (run-book w (e ∷ events) (a ∷ answers) end run))
+            (reads-nothing w.book s (grown w.book cs) s (taken_within w.book s h.fair) refl
+            (keeps-ended w.book cs s freed.1.0 h.fair freed.1.1)) in
+            subst RanIf (sym freed.0) (ran-nothing w.book s end i s true stays
+            (λ no. absurd (let never : ⊥ = cc in never)) (λ gone. (stays.over freed.1).0))
+        | inr goes ↦
+            let g = goes.1 in
+            let rest = run-ran run.0 i g.sub events answers end
+            (record { here = g.here; fair = g.does.keeps.fair }) run.2 in
+            subst RanIf (sym goes.0) (ran-more w.book run.0.book s g.sub end i _ _ _
+            (read_short (i + 1) e a) g.does rest)
+      ]
     where
       RanIf : Bool → Type 0
       RanIf x = Ran w.book s end i
           (if x then [] else read_by (i + 1) e a ++ reads_of (i + 1) events answers)
           (x || is_freed (i + 1) events answers)
-
-      by : ((t : Subscribed) → Stands run.0 i t → Ran run.0.book t end i
-          (reads_of (i + 1) events answers) (is_freed (i + 1) events answers))
-          → Passes w i s e a run.0 → RanIf (frees (i + 1) e a)
-      by onward (inl freed) =
-          let cs = accepted (e ∷ events) (a ∷ answers) in
-          let stays : Reads w.book s end.book s [] =
-          subst (λ (b : Book). Reads w.book s b s [])
-          (sym (run-book w (e ∷ events) (a ∷ answers) end run))
-          (reads-nothing w.book s (grown w.book cs) s (taken_within w.book s h.fair) refl
-          (keeps-ended w.book cs s freed.1.0 h.fair freed.1.1)) in
-          subst RanIf (sym freed.0) (ran-nothing w.book s end i s true stays
-          (λ no. absurd (let never : ⊥ = cc in never)) (λ gone. (stays.over freed.1).0))
-      by onward (inr goes) =
-          let g = goes.1 in
-          subst RanIf (sym goes.0) (ran-more w.book run.0.book s g.sub end i _ _ _
-          (read_short (i + 1) e a) g.does
-          (onward g.sub (record { here = g.here; fair = g.does.keeps.fair })))
   run-ran w i s events answers end h run = absurd run
 
 -- ---- from parcels to updates

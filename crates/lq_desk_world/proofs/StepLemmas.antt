@@ -198,16 +198,11 @@ nothing_told q moved b n =
     (let e : n - n ≡ 0 = omega arith in e)
 
 -- what is so where no row of the table of an opening holds
-no_row : (a b c d : Bool)
-    → first_refusal ((a, BadPort) ∷ (b, BadBacklog) ∷ (c, NoSlot) ∷ (d, Exhausted) ∷ []) ≡ None
-    → (a ≡ false) × (b ≡ false) × (c ≡ false)
-no_row false false false d h = (refl, refl, refl)
+no_row : (a b c d : Bool) → first_refusal
+    ((not a, BadPort) ∷ (not b, BadBacklog) ∷ (c, NoSlot) ∷ (d, Exhausted) ∷ []) ≡ None
+    → (a ≡ true) × (b ≡ true) × (c ≡ false)
+no_row true true false d h = (refl, refl, refl)
 no_row a b c d h = absurd (let no : ⊥ = cc in no)
-
--- what is not false is true
-not-false : (a : Bool) → not a ≡ false → a ≡ true
-not-false true h = refl
-not-false false h = absurd (let no : ⊥ = cc in no)
 
 -- what an opening asks of a world, a port and a backlog
 pub record MayOpen (w : World) (port backlog : ℕ) : Type 0 where
@@ -220,14 +215,14 @@ pub record MayOpen (w : World) (port backlog : ℕ) : Type 0 where
 pub may_open : (w : World) (port backlog : ℕ) → open_refusal w port backlog ≡ None
     → MayOpen w port backlog
 may_open w port backlog none =
-    let rows = no_row (not (nat_le 1 port && nat_le port 1024)) (not (nat_le backlog 65536))
+    let rows = no_row (nat_le 1 port && nat_le port 1024) (nat_le backlog 65536)
     (nat_le (length w.slots) (taken_before_free w.slots))
     (nat_le (state_of w.book).limit w.openings) none in
-    let ports = and_parts (nat_le 1 port) (nat_le port 1024) (not-false _ rows.0) in
+    let ports = and_parts (nat_le 1 port) (nat_le port 1024) rows.0 in
     record {
       places = leb-true 1 port ports.0;
       most = leb-true port 1024 ports.1;
-      within = leb-true backlog 65536 (not-false _ rows.1);
+      within = leb-true backlog 65536 rows.1;
       free = leb-false _ _ rows.2;
     }
 
