@@ -53,10 +53,11 @@ created_as seq change name node = record
 abbrev created : Message
 created = created_as 1 1 (codes "a") 2
 
--- the answer to an accepted change, and that to a read of the mark
+-- the answer to an accepted change
 abbrev changed : ℕ → ℕ → Answer
 changed change node = Changed (record { change = change; node = node })
 
+-- the answer to a read of the mark
 abbrev took_mark : ℕ → ℕ → Cause → Answer
 took_mark seq change cause = Took (Fin (record { seq = seq; change = change; cause = cause }))
 

@@ -68,6 +68,7 @@ ActPasses b s slot a x o =
     ((frees slot (event_at slot a) x ≡ true) × (a ≡ act.Finish) × (o ≡ None) × IsOver b s)
     ⊎ ((frees slot (event_at slot a) x ≡ false) × Leaves b s (read_by slot (event_at slot a) x) o)
 
+-- each act does
 pub acting-passes : (b : Book) (s : Subscribed) (slot : ℕ) (a : Act) → IsFair b s
     → ActPasses b s slot a (acting b a s).0 (acting b a s).1
 acting-passes b s slot act.Put h = inr (refl, putting-leaves b s h)
@@ -100,6 +101,7 @@ abbrev pub ReadsNothing : World → Event → Refusal → Type 0
 ReadsNothing w e r = (i : ℕ) (s : Subscribed) → slice_get w.slots i ≡ Some (Some s)
     → read_by (i + 1) e (Refused r) ≡ []
 
+-- a property of an event, its answer and the world after it, that holds in each of four cases
 module _ (w : World) (P : Event → Answer → World → Type 0)
     (refused : (e : Event) (r : Refusal) → ReadsNothing w e r → P e (Refused r) w)
     (changed : (c : Change_) → refused_by (state_of w.book) c ≡ None
@@ -109,11 +111,13 @@ module _ (w : World) (P : Event → Answer → World → Type 0)
     (opening w (opened_now w q port backlog moved) None).1)
     (acted : (i : ℕ) (a : Act) (s : Subscribed) → slice_get w.slots i ≡ Some (Some s)
     → P (event_at (i + 1) a) (acting w.book a s).0 (with_slot w i (acting w.book a s).1)) where
+  -- a change, refused or accepted
   by_change : (c : Change_) (r : Option Refusal) → refused_by (state_of w.book) c ≡ r
       → P (Change c) (changing w c r).0 (changing w c r).1
   by_change c (Some e) is = refused (Change c) e (λ i s at. refl)
   by_change c None is = changed c is
 
+  -- an opening, refused or answered
   by_opening : (q : Query) (port backlog : ℕ) (moved : Bool) (r : Option Refusal)
       → open_refusal w port backlog ≡ r
       → P (Open q port backlog moved) (opening w (opened_now w q port backlog moved) r).0
@@ -122,6 +126,7 @@ module _ (w : World) (P : Event → Answer → World → Type 0)
       refused (Open q port backlog moved) e (λ i s at. refl)
   by_opening q port backlog moved None is = opened q port backlog moved is
 
+  -- an act, at a slot that is free or taken
   by_act : (k : ℕ) (a : Act) (o : Option Subscribed) → subscribed_at w k ≡ o
       → P (event_at k a) (at_slot w k o (acting w.book a)).0 (at_slot w k o (acting w.book a)).1
   by_act k a None is = refused (event_at k a) NotOpen (λ i s at. (act-apart (i + 1) k a _ (λ own.

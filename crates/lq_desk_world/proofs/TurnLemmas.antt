@@ -28,6 +28,7 @@ abbrev gap_in : Option Subscribed → ℕ
 gap_in None = 0
 gap_in (Some s) = s.port - (s.put - s.taken)
 
+-- and that of a slot of a world
 abbrev gap_at : World → ℕ → ℕ
 gap_at w k = gap_in (subscribed_at w k)
 
@@ -205,12 +206,13 @@ Stays (Open q port backlog moved) = ⊥
 Stays (Finish k) = ⊥
 Stays e = Unit {0}
 
--- notices are such events, and so are puts
+-- notices are such events
 notices-stay : (n : ℕ) (ports : List (Option ℕ)) → AllByRecursion Stays (at_each one_notice n ports)
 notices-stay n [] = tt
 notices-stay n (None ∷ ports) = notices-stay (n + 1) ports
 notices-stay n (Some p ∷ ports) = (tt, notices-stay (n + 1) ports)
 
+-- and so are puts
 puts-keep : (k n : ℕ) → AllByRecursion Stays (puts k n)
 puts-keep k zero = tt
 puts-keep k (suc n) = (tt, puts-keep k n)
