@@ -11,6 +11,8 @@ use Rattle.lq_volume.specs.declared.change.Change.TheVariants.{Create, Move}
 use Rattle.lq_volume.specs.State.{empty_state}
 use Rattle.lq_update.specs.declared.message.Message.{Message}
 use Rattle.lq_update.specs.declared.message.Opcode.TheVariants.{Created, Moved as MovedFrom}
+use Rattle.lq_value.specs.declared.entry.Entry.{Entry}
+use Rattle.lq_update.specs.declared.mark.Cause.{Cause}
 use Rattle.lq_update.specs.declared.mark.Cause.TheVariants.{Closed, HungUp, Overrun}
 use Rattle.lq_update.specs.declared.parcel.Parcel.TheVariants.{Update, Fin}
 use Rattle.lq_desk_world.specs.Headline.{ReadersAreTold}
@@ -42,25 +44,6 @@ creating name = Change (Create 1 name File 0 (pos 0))
 abbrev create : Event
 create = creating (codes "a")
 
--- the acts at slot 1
-abbrev put : Event
-put = Put 1
-
-abbrev read : Event
-read = Take 1
-
-abbrev hang_up : Event
-hang_up = HangUp 1
-
-abbrev notice : Event
-notice = Notice 1
-
-abbrev close : Event
-close = Close 1
-
-abbrev finish : Event
-finish = Finish 1
-
 -- the message of an entry of the root that was created
 abbrev created_as : ℕ → ℕ → List ℕ → ℕ → Message
 created_as seq change name node = record
@@ -70,65 +53,67 @@ created_as seq change name node = record
 abbrev created : Message
 created = created_as 1 1 (codes "a") 2
 
+-- the answer to an accepted change
+abbrev changed : ℕ → ℕ → Answer
+changed change node = Changed (record { change = change; node = node })
+
+-- the answer to a read of the mark
+abbrev took_mark : ℕ → ℕ → Cause → Answer
+took_mark seq change cause = Took (Fin (record { seq = seq; change = change; cause = cause }))
+
+-- the result with that file alone
+abbrev just_created : List Entry
+just_created = record { dir = 1; name = codes "a"; node = 2 } ∷ []
+
 -- a close on a full port: what was held is still read, then the mark, then the slot is free
 close_on_full_port :
-    answers_to (Open every 1 1 false ∷ create ∷ close ∷ put ∷ put ∷ read
-    ∷ read ∷ put ∷ read ∷ put ∷ read ∷ finish ∷ read ∷ [])
-    ≡ Opened 1 0 [] ∷ Changed (record { change = 1; node = 2 }) ∷ Shut 1 ∷ Moved true ∷ Moved false
-    ∷ Took (Update created) ∷ Empty ∷ Moved true
-    ∷ Took (Fin (record { seq = 2; change = 1; cause = Closed })) ∷ Moved false ∷ Ended ∷ Finished
-    ∷ Refused NotOpen ∷ []
+    answers_to (Open every 1 1 false ∷ create ∷ Close 1 ∷ Put 1 ∷ Put 1 ∷ Take 1 ∷ Take 1 ∷ Put 1
+    ∷ Take 1 ∷ Put 1 ∷ Take 1 ∷ Finish 1 ∷ Take 1 ∷ [])
+    ≡ Opened 1 0 [] ∷ changed 1 2 ∷ Shut 1 ∷ Moved true ∷ Moved false ∷ Took (Update created)
+    ∷ Empty ∷ Moved true ∷ took_mark 2 1 Closed ∷ Moved false ∷ Ended ∷ Finished ∷ Refused NotOpen
+    ∷ []
 close_on_full_port = refl
 
 -- a hang-up that is noticed after a change ends the list with that change's update
 hang_up_told_after :
-    answers_to (Open every 2 2 false ∷ hang_up ∷ create ∷ notice ∷ notice
-    ∷ close ∷ put ∷ put ∷ read ∷ read ∷ [])
-    ≡ Opened 1 0 [] ∷ Asked ∷ Changed (record { change = 1; node = 2 }) ∷ Noticed true
-    ∷ Noticed false ∷ Refused NotOpen ∷ Moved true ∷ Moved true ∷ Took (Update created)
-    ∷ Took (Fin (record { seq = 2; change = 1; cause = HungUp })) ∷ []
+    answers_to (Open every 2 2 false ∷ HangUp 1 ∷ create ∷ Notice 1 ∷ Notice 1 ∷ Close 1 ∷ Put 1
+    ∷ Put 1 ∷ Take 1 ∷ Take 1 ∷ [])
+    ≡ Opened 1 0 [] ∷ Asked ∷ changed 1 2 ∷ Noticed true ∷ Noticed false ∷ Refused NotOpen
+    ∷ Moved true ∷ Moved true ∷ Took (Update created) ∷ took_mark 2 1 HungUp ∷ []
 hang_up_told_after = refl
 
 -- an overrun ends a list before a hang-up that nobody has noticed
 overrun_before_notice :
-    answers_to (Open every 1 0 false ∷ hang_up ∷ create ∷ notice ∷ put
-    ∷ read ∷ [])
-    ≡ Opened 1 0 [] ∷ Asked ∷ Changed (record { change = 1; node = 2 })
-    ∷ Noticed false ∷ Moved true ∷ Took (Fin (record { seq = 1; change = 0; cause = Overrun })) ∷ []
+    answers_to (Open every 1 0 false ∷ HangUp 1 ∷ create ∷ Notice 1 ∷ Put 1 ∷ Take 1 ∷ [])
+    ≡ Opened 1 0 [] ∷ Asked ∷ changed 1 2 ∷ Noticed false ∷ Moved true ∷ took_mark 1 0 Overrun
+    ∷ []
 overrun_before_notice = refl
 
 -- a hang-up asked of one subscription does not end the next in its slot
 hang_up_does_not_carry_over :
-    answers_to (Open every 1 1 false ∷ close ∷ hang_up ∷ put ∷ read
-    ∷ finish ∷ Open every 1 1 false ∷ notice ∷ [])
-    ≡ Opened 1 0 [] ∷ Shut 0 ∷ Asked ∷ Moved true
-    ∷ Took (Fin (record { seq = 1; change = 0; cause = Closed }))
-    ∷ Finished ∷ Opened 1 0 [] ∷ Noticed false ∷ []
+    answers_to (Open every 1 1 false ∷ Close 1 ∷ HangUp 1 ∷ Put 1 ∷ Take 1 ∷ Finish 1
+    ∷ Open every 1 1 false ∷ Notice 1 ∷ [])
+    ≡ Opened 1 0 [] ∷ Shut 0 ∷ Asked ∷ Moved true ∷ took_mark 1 0 Closed ∷ Finished
+    ∷ Opened 1 0 [] ∷ Noticed false ∷ []
 hang_up_does_not_carry_over = refl
 
 -- held messages before the mark, and none of the change that overruns the backlog
 overrun_after_held :
-    answers_to (Open every 1 2 false ∷ create ∷ put
-    ∷ creating (codes "b") ∷ creating (codes "c") ∷ creating (codes "d") ∷ read ∷ put
-    ∷ read ∷ put ∷ read ∷ put ∷ read ∷ read ∷ [])
-    ≡ Opened 1 0 [] ∷ Changed (record { change = 1; node = 2 }) ∷ Moved true
-    ∷ Changed (record { change = 2; node = 3 }) ∷ Changed (record { change = 3; node = 4 })
-    ∷ Changed (record { change = 4; node = 5 }) ∷ Took (Update created) ∷ Moved true
-    ∷ Took (Update (created_as 2 2 (codes "b") 3)) ∷ Moved true
-    ∷ Took (Update (created_as 3 3 (codes "c") 4)) ∷ Moved true
-    ∷ Took (Fin (record { seq = 4; change = 3; cause = Overrun })) ∷ Ended ∷ []
+    answers_to (Open every 1 2 false ∷ create ∷ Put 1 ∷ creating (codes "b")
+    ∷ creating (codes "c") ∷ creating (codes "d") ∷ Take 1 ∷ Put 1 ∷ Take 1 ∷ Put 1 ∷ Take 1
+    ∷ Put 1 ∷ Take 1 ∷ Take 1 ∷ [])
+    ≡ Opened 1 0 [] ∷ changed 1 2 ∷ Moved true ∷ changed 2 3 ∷ changed 3 4 ∷ changed 4 5
+    ∷ Took (Update created) ∷ Moved true ∷ Took (Update (created_as 2 2 (codes "b") 3))
+    ∷ Moved true ∷ Took (Update (created_as 3 3 (codes "c") 4)) ∷ Moved true
+    ∷ took_mark 4 3 Overrun ∷ Ended ∷ []
 overrun_after_held = refl
 
 -- a slot used twice is two subscriptions
 close_and_reuse :
-    answers_to (Open every 1 3 false ∷ finish ∷ close ∷ put ∷ read
-    ∷ finish ∷ create ∷ Open every 1 3 false ∷ creating (codes "b") ∷ put
-    ∷ read ∷ [])
-    ≡ Opened 1 0 [] ∷ Refused StillOpen ∷ Shut 0 ∷ Moved true
-    ∷ Took (Fin (record { seq = 1; change = 0; cause = Closed })) ∷ Finished
-    ∷ Changed (record { change = 1; node = 2 })
-    ∷ Opened 1 1 (record { dir = 1; name = codes "a"; node = 2 } ∷ [])
-    ∷ Changed (record { change = 2; node = 3 }) ∷ Moved true
+    answers_to (Open every 1 3 false ∷ Finish 1 ∷ Close 1 ∷ Put 1 ∷ Take 1 ∷ Finish 1 ∷ create
+    ∷ Open every 1 3 false ∷ creating (codes "b") ∷ Put 1 ∷ Take 1 ∷ [])
+    ≡ Opened 1 0 [] ∷ Refused StillOpen ∷ Shut 0 ∷ Moved true ∷ took_mark 1 0 Closed ∷ Finished
+    ∷ changed 1 2 ∷ Opened 1 1 just_created ∷ changed 2 3 ∷ Moved true
     ∷ Took (Update (created_as 1 2 (codes "b") 3)) ∷ []
 close_and_reuse = refl
 
@@ -140,22 +125,19 @@ opening_refusals_in_order : answers_from (record {
   slots = None ∷ None ∷ [];
 })
     (Open every 0 65537 false ∷ Open every 1025 0 false ∷ Open every 1 65537 false
-    ∷ Open every 1024 65536 false ∷ Open every 1 0 true ∷ Open every 1 0 true ∷ close
-    ∷ put ∷ read ∷ finish ∷ Open every 1 0 true ∷ Take 0 ∷ read ∷ Take 3
+    ∷ Open every 1024 65536 false ∷ Open every 1 0 true ∷ Open every 1 0 true ∷ Close 1
+    ∷ Put 1 ∷ Take 1 ∷ Finish 1 ∷ Open every 1 0 true ∷ Take 0 ∷ Take 1 ∷ Take 3
     ∷ []) ≡ Refused BadPort ∷ Refused BadPort ∷ Refused BadBacklog ∷ Opened 1 0 [] ∷ Opened 2 0 []
-    ∷ Refused NoSlot ∷ Shut 0 ∷ Moved true
-    ∷ Took (Fin (record { seq = 1; change = 0; cause = Closed })) ∷ Finished ∷ Refused Exhausted
+    ∷ Refused NoSlot ∷ Shut 0 ∷ Moved true ∷ took_mark 1 0 Closed ∷ Finished ∷ Refused Exhausted
     ∷ Refused NotOpen ∷ Refused NotOpen ∷ Refused NotOpen ∷ []
 opening_refusals_in_order = refl
 
 -- a move is one message where that was asked for, and so
 -- fits a backlog of one; else it is two, and doesn't
 moved_saves_backlog : answers_to (create ∷ Open every 1 1 true ∷ Open every 1 1 false
-    ∷ Change (Move 2 1 (codes "b") false) ∷ put ∷ read ∷ Put 2 ∷ Take 2 ∷ [])
-    ≡ Changed (record { change = 1; node = 2 })
-    ∷ Opened 1 1 (record { dir = 1; name = codes "a"; node = 2 } ∷ [])
-    ∷ Opened 2 1 (record { dir = 1; name = codes "a"; node = 2 } ∷ [])
-    ∷ Changed (record { change = 2; node = 2 }) ∷ Moved true ∷ Took (Update (record {
+    ∷ Change (Move 2 1 (codes "b") false) ∷ Put 1 ∷ Take 1 ∷ Put 2 ∷ Take 2 ∷ [])
+    ≡ changed 1 2 ∷ Opened 1 1 just_created ∷ Opened 2 1 just_created ∷ changed 2 2 ∷ Moved true
+    ∷ Took (Update (record {
       seq = 1;
       change = 2;
       last = true;
@@ -163,24 +145,24 @@ moved_saves_backlog : answers_to (create ∷ Open every 1 1 true ∷ Open every 
       dir = 1;
       name = codes "b";
       node = 2;
-    })) ∷ Moved true ∷ Took (Fin (record { seq = 1; change = 1; cause = Overrun })) ∷ []
+    })) ∷ Moved true ∷ took_mark 1 1 Overrun ∷ []
 moved_saves_backlog = refl
 
 -- no reader is told that it was opened before a change that came first
 not_opened_before : ReadersAreTold (empty_state 10) (create ∷ Open every 1 1 false ∷ [])
-    (Changed (record { change = 1; node = 2 }) ∷ Opened 1 0 [] ∷ []) → ⊥
+    (changed 1 2 ∷ Opened 1 0 [] ∷ []) → ⊥
 not_opened_before told =
-    let opening = told.readers 2 (create ∷ []) []
-    (Changed (record { change = 1; node = 2 }) ∷ []) [] every 1 1 false 1 0 [] refl refl refl in
+    let opening = told.readers 2 (create ∷ []) [] (changed 1 2 ∷ []) [] every 1 1 false 1 0 []
+    refl refl refl in
     let at : ℕ = 0 in
     let number : at ≡ 1 = opening.0.number in
     omega arith
 
 -- no reader is told an update before its change is accepted, though the whole run's list has it
-not_told_before : ReadersAreTold (empty_state 10) (Open every 1 1 false ∷ read ∷ create ∷ [])
-    (Opened 1 0 [] ∷ Took (Update created) ∷ Changed (record { change = 1; node = 2 }) ∷ []) → ⊥
+not_told_before : ReadersAreTold (empty_state 10) (Open every 1 1 false ∷ Take 1 ∷ create ∷ [])
+    (Opened 1 0 [] ∷ Took (Update created) ∷ changed 1 2 ∷ []) → ⊥
 not_told_before told =
-    let opening = told.readers 2 [] (read ∷ []) [] (Took (Update created) ∷ [])
+    let opening = told.readers 2 [] (Take 1 ∷ []) [] (Took (Update created) ∷ [])
     every 1 1 false 1 0 [] refl refl refl in
     let early : created ∷ opening.1.prefix.0 ≡ [] = opening.1.prefix.1 in
     let no : ⊥ = cc in no
@@ -192,10 +174,10 @@ told_once =
     (Open every 2 2 false)) create
 
 -- puts until nothing moves: the first moves the message, the second moves nothing
-put_until_still : PutsUntilStill 1 told_once (next (next told_once put) put)
+put_until_still : PutsUntilStill 1 told_once (next (next told_once (Put 1)) (Put 1))
 put_until_still = (suc zero, (refl, (still, refl)))
   where
-    still : IsStill (next told_once put) 1
+    still : IsStill (next told_once (Put 1)) 1
     still is =
         let no_more : Moved false ≡ Moved true = is in
         let no : ⊥ = cc in

@@ -1,8 +1,7 @@
 -- What the readers of a run are told, by its events and answers alone.
-use Rattle.std.proofs.Common.{◌≡◌, ℕ, zero, suc, ◌+◌, ◌-◌, ◌≤◌, ◌<◌, List, [], ◌∷◌, ◌++◌, refl, ap, take, length, ◌∙◌, sym, subst, arith, append_assoc, length-append, Some, None, Option, inl, inr, Bool}
-use Rattle.std.specs.Prelude.{slice_get, slice_set}
-use Rattle.std.proofs.lemmas.List.{take-append-le, take_all}
-use Rattle.lq_value.specs.declared.refusal.Refusal.{Refusal}
+use Rattle.std.proofs.Common.{◌≡◌, ℕ, zero, suc, ◌+◌, ◌-◌, ◌≤◌, List, [], ◌∷◌, ◌++◌, refl, ap, take, length, ◌∙◌, sym, subst, arith, append_assoc, length-append, Bool, drop}
+use Rattle.std.proofs.lemmas.List.{take-append-drop}
+use Rattle.std.proofs.Math.Seq.{take-append_seam}
 use Rattle.lq_value.specs.declared.entry.Entry.{Entry}
 use Rattle.lq_predicate.specs.Query.{Query}
 use Rattle.lq_volume.specs.Result.{result_of}
@@ -15,18 +14,20 @@ use Rattle.lq_update.specs.Updates.{updates_of}
 use mathlib.Core.List.{IsPrefix}
 use Rattle.lq_update.specs.Fold.{folded}
 use Rattle.lq_update.specs.Laws.{FoldsGiveResults, UpdatesJoin, UpdatesGrow, WholeFoldsGiveResults}
-use Rattle.lq_desk_world.specs.World.{World, Subscribed, taken_before_free}
+use Rattle.lq_desk_world.specs.World.{World, Subscribed, covered, covered_by, updates_due, whole}
 use Rattle.lq_desk_world.specs.declared.event.Event.{Event}
 use Rattle.lq_desk_world.specs.declared.event.Event.TheVariants.{Open}
-use Rattle.lq_desk_world.specs.Events.{Answer, Opened, opening, opened_now, open_refusal, with_sub}
-use Rattle.lq_desk_world.specs.Runs.{Step, Run}
-use Rattle.lq_desk_world.specs.Headline.{reads_of, parcels_in, updates_among, updates_in, accepted_by, accepted, run_book, IsOpening, AreReads, OpeningsAreTold, ReadersAreTold}
+use Rattle.lq_desk_world.specs.Events.{Answer, Opened, opening, Took, Ended}
+use Rattle.lq_desk_world.specs.Runs.{Run}
+use Rattle.lq_desk_world.specs.Headline.{reads_of, parcels_in, updates_among, updates_in, accepted_by, accepted, run_book, IsOpening, AreReads, OpeningsAreTold, ReadersAreTold, HasMark}
 use Rattle.lq_desk_world.proofs.WorldLemmas.{after_all-append, number-all, updates_of-rebased}
-use Rattle.lq_desk_world.proofs.BookLemmas.{run-lawful}
-use Rattle.lq_desk_world.proofs.FairLemmas.{MayOpen, may_open, opened-fair}
-use Rattle.lq_desk_world.proofs.ReadLemmas.{Stands, run-book}
-use Rattle.lq_desk_world.proofs.OpeningLemmas.{AreTold, ran-reads}
-use Rattle.lq_desk_world.proofs.RunLemmas.{parcels_in-append, updates_among-append, run-ran}
+use Rattle.lq_desk_world.proofs.ReadLemmas.{run-book, run-lawful}
+use Rattle.lq_desk_world.proofs.RunLemmas.{Ran, parcels_in-append, updates_among-append, has-mark, mark-place, prefix-more, updates-prefix, updates_among-take}
+use Rattle.std.specs.List.{AllByRecursion}
+use Rattle.lq_update.specs.declared.mark.Mark.{Mark}
+use Rattle.lq_update.specs.declared.parcel.Parcel.TheVariants.{Fin}
+use Rattle.lq_desk_world.proofs.SubLemmas.{updates_to, IsEnded}
+use Rattle.lq_desk_world.proofs.OpeningLemmas.{opened-ran, run_parts}
 
 -- ---- the parts of a run
 
@@ -35,94 +36,92 @@ accepted-append : (before events : List Event) (befores answers : List Answer)
     → length before ≡ length befores → accepted (before ++ events) (befores ++ answers)
     ≡ accepted before befores ++ accepted events answers
 accepted-append [] events [] answers same = refl
-accepted-append [] events (a ∷ befores) answers same = absurd (omega arith)
-accepted-append (e ∷ before) events [] answers same = absurd (omega arith)
 accepted-append (e ∷ before) events (a ∷ befores) answers same =
     ap (λ cs. accepted_by e a ++ cs) (accepted-append before events befores answers (omega arith))
     ∙ sym (append_assoc (accepted_by e a) (accepted before befores) (accepted events answers))
-
--- a run goes on where its first part ends
-pub run_parts : (w : World) (before events : List Event)
-    (befores answers : List Answer) (end : World)
-    → length before ≡ length befores → Run w (before ++ events) (befores ++ answers) end
-    → (mid : World) × Run w before befores mid × Run mid events answers end
-run_parts w [] events [] answers end same run = (w, refl, run)
-run_parts w [] events (a ∷ befores) answers end same run = absurd (omega arith)
-run_parts w (e ∷ before) events [] answers end same run = absurd (omega arith)
-run_parts w (e ∷ before) events (a ∷ befores) answers end same run =
-    let rest = run_parts run.0 before events befores answers end (omega arith) run.2 in
-    (rest.0, (run.0, run.1, rest.1), rest.2)
+accepted-append before events befores answers same = absurd (omega arith)
 
 -- a run has one answer for each event
 run-count : (w : World) (events : List Event) (answers : List Answer) (end : World)
     → Run w events answers end → length events ≡ length answers
 run-count w [] [] end run = refl
-run-count w [] (a ∷ answers) end run = absurd run
-run-count w (e ∷ events) [] end run = absurd run
 run-count w (e ∷ events) (a ∷ answers) end run =
     omega (arith, run-count run.0 events answers end run.2)
+run-count w events answers end run = absurd run
 
 -- the first events of a run are a run
 run-take : (k : ℕ) (w : World) (events : List Event) (answers : List Answer) (end : World)
     → Run w events answers end → (mid : World) × Run w (take k events) (take k answers) mid
 run-take zero w events answers end run = (w, refl)
 run-take (suc k) w [] [] end run = (w, refl)
-run-take (suc k) w [] (a ∷ answers) end run = absurd run
-run-take (suc k) w (e ∷ events) [] end run = absurd run
 run-take (suc k) w (e ∷ events) (a ∷ answers) end run =
     let rest = run-take k run.0 events answers end run.2 in
     (rest.0, (run.0, run.1, rest.1))
+run-take k w events answers end run = absurd run
 
--- ---- an opening that was answered as one
+-- ---- the reads of a subscription from its opening on
 
--- at a place within a list stands what was set there
-pub slice_get-set_within : {A : Type 0} (xs : List A) (i : ℕ) (y : A) → i < length xs
-    → slice_get (slice_set xs i y) i ≡ Some y
-slice_get-set_within [] i y h = absurd (omega arith)
-slice_get-set_within (x ∷ xs) zero y h = refl
-slice_get-set_within (x ∷ xs) (suc i) y h = slice_get-set_within xs i y (omega arith)
+-- what they are, but for folding
+pub record AreTold (b : Book) (q : Query) (moved : Bool) (at : ℕ)
+    (reads : List Answer) : Type 0 where
+  pub prefix : IsPrefix (updates_in reads) (updates_of q moved b at (number_of b))
+  pub mark : (front rest : List Answer) (m : Mark) → reads ≡ front ++ Took (Fin m) ∷ rest →
+      (at ≤ m.change) × (m.change ≤ number_of b)
+      × (updates_in front ≡ updates_of q moved b at m.change)
+      × (m.seq ≡ length (updates_in front) + 1)
+      × AllByRecursion IsEnded rest
+  pub ended : (front rest : List Answer) → reads ≡ front ++ Ended ∷ rest → HasMark front
 
--- the slot, the number and the result of an opening, and the world that it leaves
-pub record IsOpened (w : World) (s : Subscribed) (slot at : ℕ) (first : List Entry)
-    (v : World) : Type 0 where
-  pub slot_is : slot ≡ taken_before_free w.slots + 1
-  pub may : MayOpen w s.port s.backlog
-  pub at_is : at ≡ number_of w.book
-  pub first_is : first ≡ result_of s.query (state_of w.book)
-  pub world : v ≡ with_sub w s
-
--- an opening that answers a slot has opened there, in the world that it leaves
-opened_facts : (w : World) (s : Subscribed) (r : Option Refusal) (slot at : ℕ) (first : List Entry)
-    (v : World) → (r ≡ None → MayOpen w s.port s.backlog) → Opened slot at first ≡ (opening w s r).0
-    → v ≡ (opening w s r).1 → IsOpened w s slot at first v
-opened_facts w s (Some e) slot at first v may told is = absurd (let no : ⊥ = cc in no)
-opened_facts w s None slot at first v may told is =
-    record { slot_is = cc; may = may refl; at_is = cc; first_is = cc; world = is }
-
--- a step that answers an opened slot has opened there
-pub step_opened : (w : World) (q : Query) (port backlog : ℕ) (moved : Bool) (slot at : ℕ)
-    (first : List Entry) (v : World)
-    → Step w (Open q port backlog moved) (Opened slot at first) v
-    → IsOpened w (opened_now w q port backlog moved) slot at first v
-step_opened w q port backlog moved slot at first v (inl done) =
-    opened_facts w (opened_now w q port backlog moved) (open_refusal w port backlog) slot at first v
-    (may_open w port backlog) done.0 done.1
-step_opened w q port backlog moved slot at first v (inr ran) =
-    absurd (let e = ran.1 in let no : ⊥ = cc in no)
-
--- ---- reads over another book with the same lists
-
--- books with the same number and the same updates tell the same
-told_over : (b d : Book) (q : Query) (moved : Bool) (at : ℕ) (reads : List Answer)
-    → number_of b ≡ number_of d → ((n : ℕ) → updates_of q moved b at n ≡ updates_of q moved d at n)
-    → AreTold b q moved at reads → AreTold d q moved at reads
-told_over b d q moved at reads number lists r = record {
-  prefix = subst (λ (ms : List Message). IsPrefix (updates_in reads) ms)
-      (lists (number_of b) ∙ ap (updates_of q moved d at) number) r.prefix;
-  mark = λ front rest m is. let h = r.mark front rest m is in
-      (h.0, omega (arith, h.1, number), h.2 ∙ lists m.change, h.3, h.4);
-  ended = r.ended;
-}
+-- what a subscription reads over a run, from its first read, is what a book tells that has the
+-- number and the updates of the run's last book
+ran-reads : UpdatesGrow → (b : Book) (s : Subscribed) (end : World) (i : ℕ) (reads : List Answer)
+    (freed : Bool) (book : Book) → s.taken ≡ 0 → Ran b s end i reads freed
+    → number_of end.book ≡ number_of book
+    → ((n : ℕ) → updates_to end.book s n ≡ updates_to book s n)
+    → AreTold book s.query s.moved s.opened reads
+ran-reads grow b s end i reads freed book none ran number lists =
+    let t = ran.sub in
+    let d = end.book in
+    let us = updates_to d s (covered d t) in
+    let list : updates_due d t ≡ us =
+    ap (λ l. updates_of l.0 l.1 d l.2 (covered d t)) ran.same in
+    let given : parcels_in reads ≡ take t.taken (whole d t) =
+    ap (λ n. take n (whole b s) ++ parcels_in reads) (sym none) ∙ ran.front in
+    let all : updates_in reads ≡ take t.taken us = ap updates_among given
+    ∙ (updates_among-take (updates_due d t) t.taken (length (updates_due d t)) t.end
+    ∙ ap (take t.taken) list) in
+    let last : covered d t + (number_of d - covered d t) ≡ number_of book =
+    omega (arith, ran.fair.covered, number) in
+    let longer : IsPrefix us (updates_to book s (number_of book)) =
+    subst (λ (ms : List Message). IsPrefix us ms) (lists _ ∙ ap (updates_to book s) last)
+    (updates-prefix grow s.query s.moved d s.opened (covered d t) (number_of d - covered d t)) in
+    record {
+      prefix = subst (λ (ms : List Message). IsPrefix ms (updates_to book s (number_of book)))
+          (sym all) (prefix-more _ us _ (drop t.taken us, take-append-drop t.taken us) longer);
+      mark = λ front rest m is.
+          let parts : parcels_in front ++ Fin m
+          ∷ (parcels_in rest ++ drop t.taken (whole d t)) ≡ whole d t =
+          sym (append_assoc (parcels_in front) (Fin m ∷ parcels_in rest) (drop t.taken (whole d t)))
+          ∙ (ap (λ ps. ps ++ drop t.taken (whole d t))
+          (sym (parcels_in-append front (Took (Fin m) ∷ rest)) ∙ (ap parcels_in (sym is) ∙ given))
+          ∙ take-append-drop t.taken (whole d t)) in
+          let place =
+          mark-place (updates_due d t) (length (updates_due d t)) t.end
+          (parcels_in front) _ m parts in
+          let to : covered d t ≡ m.change = ap (covered_by d) place.1.1
+          ∙ sym (ap (λ (n : Mark). n.change) place.1.2) in (
+            omega (arith, ran.fair.opened, ap (λ l. l.2) ran.same, to),
+            omega (arith, ran.fair.covered, to, number),
+            place.0 ∙ (list ∙ (ap (updates_to d s) to ∙ lists m.change)),
+            ap (λ (n : Mark). n.seq) place.1.2
+                ∙ ap (λ (ms : List Message). length ms + 1) (sym place.0),
+            ran.marked front rest m is,
+          );
+      ended = λ front rest is.
+          let h = ran.shown front rest is in
+          has-mark front h.0 h.1
+          (ap (λ n. take n (whole b s) ++ parcels_in front) (sym none) ∙ h.2);
+    }
 
 -- ---- folding
 
@@ -166,36 +165,10 @@ state-after : (s : State) (early late : List Change_) (n : ℕ) → n ≡ s.numb
 state-after s early late n is =
     let k : n - s.number ≡ length early = omega (arith, is) in
     ap (λ i. after_all s (take i (early ++ late))) k
-    ∙ ap (after_all s) (take-append-le (length early) early late (omega arith)
-    ∙ take_all (length early) early (omega arith))
+    ∙ ap (after_all s) (take-append_seam early late)
 
 module _ (join : UpdatesJoin) (grow : UpdatesGrow) (count : ChangesCount) (fold : FoldsGiveResults)
     (fold_all : WholeFoldsGiveResults) where
-  -- what is taken from a slot, from its opening on, is what the book tells of its query
-  opened_reads : (w : World) (q : Query) (port backlog : ℕ) (moved : Bool) (slot at : ℕ)
-      (first : List Entry) (events : List Event) (answers : List Answer) (end : World)
-      → Run w (Open q port backlog moved ∷ events) (Opened slot at first ∷ answers) end
-      → (at ≡ number_of w.book) × (first ≡ result_of q (state_of w.book))
-      × AreTold end.book q moved at (reads_of slot events answers)
-  opened_reads w q port backlog moved slot at first events answers end run =
-      let s = opened_now w q port backlog moved in
-      let is = step_opened w q port backlog moved slot at first run.0 run.1 in
-      let i = taken_before_free w.slots in
-      let goes : Run (with_sub w s) events answers end =
-      subst (λ (u : World). Run u events answers end) is.world run.2 in
-      let stands : Stands (with_sub w s) i s = record {
-        here = slice_get-set_within w.slots i (Some s) is.may.free;
-        fair = opened-fair w q port backlog moved is.may;
-      } in
-      let reads = ran-reads grow w.book s end.book _ refl
-      (run-ran join (with_sub w s) i s events answers end stands goes) in (
-        is.at_is,
-        is.first_is,
-        subst (λ (n : ℕ). AreTold end.book q moved n (reads_of slot events answers)) (sym is.at_is)
-            (subst (λ (k : ℕ). AreTold end.book q moved (number_of w.book)
-            (reads_of k events answers)) (sym is.slot_is) reads),
-      )
-
   -- what a run's openings and reads are answered, from any world whose book leads to the state
   openings-told : (w end : World) (events : List Event) (answers : List Answer)
       → Run w events answers end → OpeningsAreTold (state_of w.book) events answers
@@ -206,7 +179,8 @@ module _ (join : UpdatesJoin) (grow : UpdatesGrow) (count : ChangesCount) (fold 
       (subst (λ (es : List Event). Run w es (befores ++ Opened slot at first ∷ afters) end) is
       (subst (λ (xs : List Answer). Run w events xs end) told run)) in
       let mid = parts.0 in
-      let reads = opened_reads mid q port backlog moved slot at first after afters end parts.2 in
+      let opened = opened-ran join mid q port backlog moved slot at first after afters end
+      parts.2 in
       let start = state_of w.book in
       let early = accepted before befores in
       let late = accepted after afters in
@@ -222,7 +196,7 @@ module _ (join : UpdatesJoin) (grow : UpdatesGrow) (count : ChangesCount) (fold 
       let number : number_of end.book ≡ number_of b =
       omega (arith, ap number_of all, length-append w.book.changes cs, counted) in
       let at_number : at ≡ start.number + length early =
-      omega (arith, reads.0, ap number_of here, length-append w.book.changes early, counted) in
+      omega (arith, opened.2, ap number_of here, length-append w.book.changes early, counted) in
       let past : number_of w.book ≤ at = omega (arith, at_number, counted) in
       let within : at ≤ number_of b =
       omega (arith, at_number, ap length both, length-append early late) in
@@ -231,13 +205,20 @@ module _ (join : UpdatesJoin) (grow : UpdatesGrow) (count : ChangesCount) (fold 
       let state : state_of mid.book ≡ state_at b at =
       then ∙ (sym (state-after start early late at at_number)
       ∙ ap (λ ds. state_at (record { start = start; changes = ds }) at) (sym both)) in
+      let lists : (n : ℕ) → updates_of q moved end.book (number_of mid.book) n
+      ≡ updates_of q moved b (number_of mid.book) n =
+      λ n. ap (λ d. updates_of q moved d (number_of mid.book) n) all
+      ∙ updates_of-rebased count q moved w.book cs (number_of mid.book) n
+      (omega (arith, past, opened.2)) in
+      let told_of : AreTold b q moved at (reads_of slot after afters) =
+      subst (λ (n : ℕ). AreTold b q moved n (reads_of slot after afters)) (sym opened.2)
+      (ran-reads grow mid.book _ end opened.0 _ _ b refl opened.4 number lists) in
       let opening : IsOpening (run_book start before befores) q at first =
-      record { number = at_number; entries = reads.1 ∙ ap (result_of q) then } in (
+      record { number = at_number; entries = opened.3 ∙ ap (result_of q) then } in (
         opening,
         told-reads fold fold_all b q moved at first _ (run-lawful w end events answers run)
-            (omega (arith, at_number)) within (reads.1 ∙ ap (result_of q) state)
-            (told_over end.book b q moved at _ number (λ n. ap (λ d. updates_of q moved d at n) all
-            ∙ updates_of-rebased count q moved w.book cs at n past) reads.2),
+            (omega (arith, at_number)) within (opened.3 ∙ ap (result_of q) state)
+            told_of,
       )
 
   -- the headline of a run, from any world whose book leads to the state

@@ -1,31 +1,9 @@
 -- Lists: their fronts, their places, and what holds of all of them.
-use Rattle.std.proofs.Common.{◌≡◌, ◌≢◌, ℕ, zero, suc, ◌+◌, ◌≤◌, List, [], ◌∷◌, ◌++◌, refl, ap, take, drop, length, ◌∙◌, arith, add-one, Some, map}
-use Rattle.std.specs.Prelude.{slice_get, slice_set}
+use Rattle.std.proofs.Common.{◌≡◌, ◌≢◌, ℕ, zero, suc, ◌+◌, ◌≤◌, List, [], ◌∷◌, ◌++◌, refl, ap, take, length, arith, add-one, Some, map}
+use Rattle.std.specs.Prelude.{Bool, true, false, slice_get, slice_set}
 use Rattle.std.specs.List.{AllByRecursion}
 
--- past a first part
-pub take-past : {A : Type 0} (n : ℕ) (xs ys : List A)
-    → take (length xs + n) (xs ++ ys) ≡ xs ++ take n ys
-take-past n [] ys = ap (λ k. take k ys) (omega arith)
-take-past n (x ∷ xs) ys =
-    let e : length (x ∷ xs) + n ≡ suc (length xs + n) = omega arith in
-    ap (λ k. take k (x ∷ (xs ++ ys))) e ∙ ap (λ zs. x ∷ zs) (take-past n xs ys)
-
--- what lies after the first list and some more lies after those in the second
-pub drop-past : {A : Type 0} (n : ℕ) (xs ys : List A) → drop (length xs + n) (xs ++ ys) ≡ drop n ys
-drop-past n [] ys = ap (λ k. drop k ys) (omega arith)
-drop-past n (x ∷ xs) ys =
-    let e : length (x ∷ xs) + n ≡ suc (length xs + n) = omega arith in
-    ap (λ k. drop k (x ∷ (xs ++ ys))) e ∙ drop-past n xs ys
-
 -- ---- places
-
--- what stands at a place of the first list stands there in both together
-pub slice_get-inside : {A : Type 0} (xs ys : List A) (i : ℕ) (x : A) → slice_get xs i ≡ Some x
-    → slice_get (xs ++ ys) i ≡ Some x
-slice_get-inside [] ys i x h = cc
-slice_get-inside (y ∷ xs) ys zero x h = h
-slice_get-inside (y ∷ xs) ys (suc i) x h = slice_get-inside xs ys i x h
 
 -- at a place that is set stands what was set
 pub slice_get-set_here : {A : Type 0} (xs : List A) (i : ℕ) (x y : A) → slice_get xs i ≡ Some x
@@ -44,12 +22,20 @@ slice_get-set_other (z ∷ xs) (suc i) zero y ne = refl
 slice_get-set_other (z ∷ xs) (suc i) (suc j) y ne =
     slice_get-set_other xs i j y (λ e. ne (ap suc e))
 
--- at a place of a mapped list stands the map of what stood there
-pub slice_get-map : {A B : Type 0} (f : A → B) (xs : List A) (i : ℕ) (x : A)
-    → slice_get xs i ≡ Some x → slice_get (map f xs) i ≡ Some (f x)
-slice_get-map f [] i x h = cc
-slice_get-map f (y ∷ xs) zero x h = cc
-slice_get-map f (y ∷ xs) (suc i) x h = slice_get-map f xs i x h
+-- a map leaves a list in which a member is set to one that it maps the same
+pub map-set_same : {A B : Type 0} (f : A → B) (xs : List A) (i : ℕ) (x y : A)
+    → slice_get xs i ≡ Some x → f y ≡ f x → map f (slice_set xs i y) ≡ map f xs
+map-set_same f [] i x y h same = refl
+map-set_same f (z ∷ xs) zero x y h same = cc
+map-set_same f (z ∷ xs) (suc i) x y h same =
+    ap (λ zs. f z ∷ zs) (map-set_same f xs i x y h same)
+
+-- a place that is set to what stands there leaves the list
+pub slice_set-same : {A : Type 0} (xs : List A) (i : ℕ) (x : A) → slice_get xs i ≡ Some x
+    → slice_set xs i x ≡ xs
+slice_set-same [] i x h = refl
+slice_set-same (y ∷ xs) zero x h = cc
+slice_set-same (y ∷ xs) (suc i) x h = ap (λ ys. y ∷ ys) (slice_set-same xs i x h)
 
 -- a front that is longer by one has the member at that place more
 take-suc_more : {A : Type 0} (xs : List A) (i : ℕ) (x : A) → slice_get xs i ≡ Some x
@@ -94,3 +80,8 @@ all-map P Q f [] keeps h = tt
 all-map P Q f (x ∷ xs) keeps h = (keeps x h.0, all-map P Q f xs keeps h.1)
 
 -- ---- tests
+
+-- what holds of both answers of a test holds of each
+pub each_bool : (P : Bool → Type 0) → P true → P false → (x : Bool) → P x
+each_bool P on off true = on
+each_bool P on off false = off

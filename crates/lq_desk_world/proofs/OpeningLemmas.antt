@@ -1,79 +1,107 @@
--- The reads of a subscription from its opening on.
-use Rattle.std.proofs.Common.{◌≡◌, ℕ, ◌+◌, ◌-◌, ◌≤◌, List, ◌∷◌, ◌++◌, refl, ap, take, drop, length, ◌∙◌, sym, subst, arith, append_assoc, Bool}
-use Rattle.std.specs.List.{AllByRecursion}
-use Rattle.std.proofs.lemmas.List.{take-append-drop}
+-- An opening in a run, and what comes of its subscription.
+use Rattle.std.proofs.Common.{◌≡◌, ℕ, ◌+◌, ◌-◌, List, [], ◌∷◌, ◌++◌, refl, ap, take, length, ◌∙◌, sym, subst, arith, Some, None, Option, inl, inr, Bool}
+use Rattle.std.proofs.lemmas.Option.{slice_get-get_or}
+use Rattle.lq_value.specs.declared.refusal.Refusal.{Refusal}
+use Rattle.lq_value.specs.declared.entry.Entry.{Entry}
 use Rattle.lq_predicate.specs.Query.{Query}
-use Rattle.lq_volume.specs.Book.{Book, number_of}
-use Rattle.lq_update.specs.declared.message.Message.{Message}
-use Rattle.lq_update.specs.declared.mark.Mark.{Mark}
-use Rattle.lq_update.specs.declared.parcel.Parcel.TheVariants.{Fin}
-use Rattle.lq_update.specs.Updates.{updates_of}
-use mathlib.Core.List.{IsPrefix}
-use Rattle.lq_update.specs.Laws.{UpdatesGrow}
-use Rattle.lq_desk_world.specs.World.{Subscribed, covered, covered_by, updates_due, whole}
-use Rattle.lq_desk_world.specs.Events.{Answer, Took, Ended}
-use Rattle.lq_desk_world.specs.Headline.{parcels_in, updates_among, updates_in, HasMark}
-use Rattle.lq_desk_world.proofs.SubLemmas.{IsSame, IsEnded}
-use Rattle.lq_desk_world.proofs.RunLemmas.{Ran, has-mark, mark-place, parcels_in-append, prefix-more, prefix-take, updates-prefix, updates_among-take}
+use Rattle.lq_volume.specs.Result.{result_of}
+use Rattle.lq_volume.specs.Book.{number_of, state_of}
+use Rattle.lq_update.specs.Laws.{UpdatesJoin}
+use Rattle.lq_desk_world.specs.World.{World, Subscribed, taken_before_free, whole, in_port, to_come, subscribed_at}
+use Rattle.lq_desk_world.specs.declared.event.Event.{Event}
+use Rattle.lq_desk_world.specs.declared.event.Event.TheVariants.{Open}
+use Rattle.lq_desk_world.specs.Events.{Answer, Opened, opening, opened_now, open_refusal, with_sub}
+use Rattle.lq_desk_world.specs.Runs.{Run}
+use Rattle.lq_desk_world.specs.Headline.{reads_of, parcels_in}
+use Rattle.lq_desk_world.specs.PassedOn.{is_freed}
+use Rattle.lq_desk_world.proofs.ListLemmas.{slice_get-set_here}
+use Rattle.lq_desk_world.proofs.ReadLemmas.{Stands}
+use Rattle.lq_desk_world.proofs.RunLemmas.{Ran, run-ran}
+use Rattle.lq_desk_world.proofs.SubLemmas.{over-true}
+use Rattle.lq_desk_world.specs.Laws.{ReadsArePassedOn}
+use Rattle.lq_desk_world.proofs.TakenLemmas.{lists-passed}
+use Rattle.std.specs.Option.{option_flatten}
+use Rattle.lq_desk_world.proofs.StepLemmas.{at-index, may_open, opened-fair}
 
--- ---- the reads of a subscription from its opening on
+-- a run goes on where its first part ends
+pub run_parts : (w : World) (before events : List Event)
+    (befores answers : List Answer) (end : World)
+    → length before ≡ length befores → Run w (before ++ events) (befores ++ answers) end
+    → (mid : World) × Run w before befores mid × Run mid events answers end
+run_parts w [] events [] answers end same run = (w, refl, run)
+run_parts w (e ∷ before) events (a ∷ befores) answers end same run =
+    let rest = run_parts run.0 before events befores answers end (omega arith) run.2 in
+    (rest.0, (run.0, run.1, rest.1), rest.2)
+run_parts w before events befores answers end same run = absurd (omega arith)
 
--- what they are, but for folding
-pub record AreTold (b : Book) (q : Query) (moved : Bool) (at : ℕ)
-    (reads : List Answer) : Type 0 where
-  pub prefix : IsPrefix (updates_in reads) (updates_of q moved b at (number_of b))
-  pub mark : (front rest : List Answer) (m : Mark) → reads ≡ front ++ Took (Fin m) ∷ rest →
-      (at ≤ m.change) × (m.change ≤ number_of b)
-      × (updates_in front ≡ updates_of q moved b at m.change)
-      × (m.seq ≡ length (updates_in front) + 1)
-      × AllByRecursion IsEnded rest
-  pub ended : (front rest : List Answer) → reads ≡ front ++ Ended ∷ rest → HasMark front
+-- ---- an opening that was answered as one
 
--- what a subscription reads over a run, from its first read, is what the book tells
-pub ran-reads : UpdatesGrow → (b : Book) (s : Subscribed) (d : Book) (reads : List Answer)
-    → s.taken ≡ 0
-    → Ran b s d reads → AreTold d s.query s.moved s.opened reads
-ran-reads grow b s d reads none ran =
-    let t = ran.sub in
-    let us = updates_of s.query s.moved d s.opened (covered d t) in
-    let list : updates_due d t ≡ us = alike d t s (covered d t) ran.same in
-    let given : parcels_in reads ≡ take t.taken (whole d t) =
-    ap (λ n. take n (whole b s) ++ parcels_in reads) (sym none) ∙ ran.front in
-    let all : updates_in reads ≡ take t.taken us = ap updates_among given
-    ∙ (updates_among-take (updates_due d t) t.taken (length (updates_due d t)) t.end
-    ∙ ap (take t.taken) list) in
-    let end : covered d t + (number_of d - covered d t) ≡ number_of d =
-    omega (arith, ran.fair.covered) in
-    let longer : IsPrefix us (updates_of s.query s.moved d s.opened (number_of d)) =
-    subst (λ (n : ℕ). IsPrefix us (updates_of s.query s.moved d s.opened n)) end
-    (updates-prefix grow s.query s.moved d s.opened (covered d t) (number_of d - covered d t)) in
-    record {
-      prefix = subst (λ (ms : List Message).
-          IsPrefix ms (updates_of s.query s.moved d s.opened (number_of d))) (sym all)
-          (prefix-more _ us _ (prefix-take t.taken us) longer);
-      mark = λ front rest m is.
-          let parts : parcels_in front ++ Fin m
-          ∷ (parcels_in rest ++ drop t.taken (whole d t)) ≡ whole d t =
-          sym (append_assoc (parcels_in front) (Fin m ∷ parcels_in rest) (drop t.taken (whole d t)))
-          ∙ (ap (λ ps. ps ++ drop t.taken (whole d t))
-          (sym (parcels_in-append front (Took (Fin m) ∷ rest)) ∙ (ap parcels_in (sym is) ∙ given))
-          ∙ take-append-drop t.taken (whole d t)) in
-          let place =
-          mark-place (updates_due d t) (length (updates_due d t)) t.end
-          (parcels_in front) _ m parts in
-          let to : covered d t ≡ m.change = ap (covered_by d) place.1.1
-          ∙ sym (ap (λ (n : Mark). n.change) place.1.2) in (
-            omega (arith, ran.fair.opened, ran.same.opened, to),
-            omega (arith, ran.fair.covered, to),
-            place.0 ∙ (list ∙ ap (updates_of s.query s.moved d s.opened) to),
-            ap (λ (n : Mark). n.seq) place.1.2
-                ∙ ap (λ (ms : List Message). length ms + 1) (sym place.0),
-            ran.marked front rest m is,
-          );
-      ended = λ front rest is. has-mark front (let h = ran.shown front rest is in
-          (h.0, h.1, ap (λ n. take n (whole b s) ++ parcels_in front) (sym none) ∙ h.2));
-    }
+-- its slot, its number and its result, and what was read from then on
+abbrev pub RanFrom : World → Subscribed → ℕ → ℕ → List Entry → List Event → List Answer → World
+    → Type 0
+RanFrom w s slot at first events answers end = (i : ℕ) × (slot ≡ i + 1) × (at ≡ number_of w.book)
+    × (first ≡ result_of s.query (state_of w.book))
+    × Ran w.book s end i (reads_of slot events answers) (is_freed slot events answers)
+
+-- what comes of a subscription from its opening on
+pub opened-ran : UpdatesJoin → (w : World) (q : Query) (port backlog : ℕ) (moved : Bool)
+    (slot at : ℕ) (first : List Entry) (events : List Event) (answers : List Answer) (end : World)
+    → Run w (Open q port backlog moved ∷ events) (Opened slot at first ∷ answers) end
+    → RanFrom w (opened_now w q port backlog moved) slot at first events answers end
+opened-ran join w q port backlog moved slot at first events answers end (v, inr ran, run) =
+    absurd (let e = ran.1 in let no : ⊥ = cc in no)
+opened-ran join w q port backlog moved slot at first events answers end (v, inl done, run) =
+    by (open_refusal w port backlog) refl done.0 done.1
   where
-    alike : (d : Book) (t s : Subscribed) (n : ℕ) → IsSame s t
-        → updates_of t.query t.moved d t.opened n ≡ updates_of s.query s.moved d s.opened n
-    alike d t s n same = rw (same.query, same.moved, same.opened) refl
+    s : Subscribed
+    s = opened_now w q port backlog moved
+
+    i : ℕ
+    i = taken_before_free w.slots
+
+    by : (r : Option Refusal) → open_refusal w port backlog ≡ r
+        → Opened slot at first ≡ (opening w s r).0 → v ≡ (opening w s r).1
+        → RanFrom w s slot at first events answers end
+    by (Some e) none told is = absurd (let no : ⊥ = cc in no)
+    by None none told is =
+        let may = may_open w port backlog none in
+        let stands : Stands (with_sub w s) i s = record {
+          here = slice_get-set_here w.slots i _ (Some s) (slice_get-get_or w.slots i None may.free);
+          fair = opened-fair w q port backlog moved may;
+        } in
+        let slot_is : slot ≡ i + 1 = cc in (
+          i,
+          slot_is,
+          cc,
+          cc,
+          subst (λ (k : ℕ). Ran w.book s end i (reads_of k events answers)
+              (is_freed k events answers)) (sym slot_is)
+              (run-ran join (with_sub w s) i s events answers end stands
+              (subst (λ (u : World). Run u events answers end) is run)),
+        )
+
+-- the list of each subscription that a run opens is passed on
+pub reads-passed : UpdatesJoin → ReadsArePassedOn
+reads-passed join w end before after befores afters q port backlog moved slot at first run same =
+    let parts = run_parts w before (Open q port backlog moved ∷ after) befores
+    (Opened slot at first ∷ afters) end same run in
+    let opened = opened-ran join parts.0 q port backlog moved slot at first after afters end
+    parts.2 in
+    let ran = opened.4 in
+    let t = ran.sub in
+    let taken : parcels_in (reads_of slot after afters) ≡ take t.taken (whole end.book t) =
+    ran.front in
+    record {
+      sub = t;
+      same = (
+        ap (λ l. l.0) ran.same,
+        ap (λ l. l.1) ran.same,
+        ap (λ l. l.2) ran.same ∙ sym opened.2,
+      );
+      here = λ free. ap (subscribed_at end) opened.1
+          ∙ (at-index end opened.0 ∙ ap option_flatten (ran.here free));
+      over = λ gone. over-true end.book t (ran.gone gone);
+      taken = taken;
+      parts = ap (λ ps. ps ++ (in_port end.book t ++ to_come end.book t)) taken
+          ∙ lists-passed end.book t ran.fair;
+    }

@@ -5,6 +5,7 @@ use Rattle.std.specs.List.{AllByRecursion}
 use Rattle.std.proofs.lemmas.Bool.Decides.{nat_tests}
 use Rattle.std.proofs.lemmas.Bool.{and_cases, and_parts, ltb-false}
 use Rattle.std.proofs.lemmas.List.{length-map, map-append}
+use Rattle.lq_predicate.specs.Query.{Query}
 use Rattle.lq_volume.specs.declared.change.Change.{Change as Change_}
 use Rattle.lq_volume.specs.Book.{Book, grown, number_of, state_of}
 use Rattle.lq_update.specs.declared.message.Message.{Message}
@@ -19,13 +20,16 @@ use Rattle.lq_desk_world.specs.World.{Subscribed, Ending, covered_by, covered, u
 use Rattle.lq_desk_world.specs.Events.{Answer, Took, Ended}
 use Rattle.lq_desk_world.specs.Fair.{IsFair}
 use Rattle.lq_desk_world.specs.Headline.{parcels_in}
+use Rattle.lq_desk_world.proofs.ListLemmas.{each_bool}
 use Rattle.lq_desk_world.proofs.WorldLemmas.{updates_of-stays, updates_of-change}
 
+-- what a subscription keeps from its opening on
+abbrev pub opening_of : Subscribed → Query × Bool × ℕ × ℕ
+opening_of s = (s.query, s.moved, s.opened, s.port)
+
 -- one subscription at two points
-pub record IsSame (s t : Subscribed) : Type 0 where
-  pub query : t.query ≡ s.query
-  pub moved : t.moved ≡ s.moved
-  pub opened : t.opened ≡ s.opened
+abbrev pub IsSame : Subscribed → Subscribed → Type 0
+IsSame s t = opening_of t ≡ opening_of s
 
 -- From a book to one that extends it, it goes on and is fair, and its list
 -- grows at the end; one that has ended stays ended, with its list.
@@ -74,12 +78,9 @@ live-none (Some e) h = absurd (let no : ⊥ = cc in no)
 
 -- one that is over passes the test
 pub over-true : (b : Book) (s : Subscribed) → IsOver b s → is_over b s ≡ true
-over-true b s h = by s.end (s.taken) (length (whole b s)) h.0 h.1 h.2
-  where
-    by : (o : Option Ending) (m n : ℕ) (e : Ending) → o ≡ Some e → m ≡ n
-        → (if is_none o then false else m == n) ≡ true
-    by None m n e is eq = absurd (let no : ⊥ = cc in no)
-    by (Some d) m n e is eq = grind (arith, nat_tests)
+over-true b s h =
+    let test : (s.taken == length (whole b s)) ≡ true = grind (arith, nat_tests, h.2) in
+    ap (λ o. if is_none o then false else s.taken == length (whole b s)) h.1 ∙ test
 
 -- one that passes the test is over
 pub over-from : (b : Book) (s : Subscribed) → is_over b s ≡ true → IsOver b s
@@ -123,17 +124,17 @@ keeps-end b s cause h live =
     let grows : whole b (with_end s cause n) ≡ whole b s ++ more =
     ap (λ xs. xs ++ more) (sym (whole-live b s live)) in
     record {
-      same = record { query = refl; moved = refl; opened = refl };
+      same = refl;
       fair = record {
         begun = h.begun;
         places = h.places;
         most = h.most;
         backlog = h.backlog;
+        taken = h.taken;
+        port = h.port;
         opened = omega (arith, h.opened, h.covered);
         covered = omega arith;
-        taken = h.taken;
         put = omega (arith, h.put, ap length grows, length-append (whole b s) more);
-        port = h.port;
         held = λ no. absurd (let never : ⊥ = cc in never);
       };
       more = more;
@@ -156,17 +157,17 @@ keeps-ended b cs s e h is =
     ap (λ us. parcels us ++ mark_behind (length us) s.end) told_same in
     let far : covered (grown b cs) s ≡ e.change = ap (covered_by (grown b cs)) is in
     record {
-      same = record { query = refl; moved = refl; opened = refl };
+      same = refl;
       fair = record {
         begun = h.begun;
         places = h.places;
         most = h.most;
         backlog = h.backlog;
+        taken = h.taken;
+        port = h.port;
         opened = omega (arith, h.opened, to, far);
         covered = omega (arith, h.covered, to, far, length-append b.changes cs);
-        taken = h.taken;
         put = omega (arith, h.put, ap length same);
-        port = h.port;
         held = λ live. absurd (let n = live-none s.end live in let no : ⊥ = cc in no);
       };
       more = [];
@@ -177,11 +178,7 @@ keeps-ended b cs s e h is =
 -- what two steps keep, they keep together
 keeps-more : (b c d : Book) (s t u : Subscribed) → Keeps b s c t → Keeps c t d u → Keeps b s d u
 keeps-more b c d s t u k l = record {
-  same = record {
-    query = l.same.query ∙ k.same.query;
-    moved = l.same.moved ∙ k.same.moved;
-    opened = l.same.opened ∙ k.same.opened;
-  };
+  same = l.same ∙ k.same;
   fair = l.fair;
   more = k.more ++ l.more;
   grows = l.grows ∙ (ap (λ xs. xs ++ l.more) k.grows ∙ append_assoc (whole b s) k.more l.more);
@@ -190,21 +187,39 @@ keeps-more b c d s t u k l = record {
       (second.0, rw (first.1, second.1) refl);
 }
 
--- an event that leaves its end, its query and its opening
-pub keeps-same : (b : Book) (s : Subscribed) (t : Subscribed)
-    → IsSame s t → t.end ≡ s.end → whole b t ≡ whole b s → IsFair b t → Keeps b s b t
-keeps-same b s t same end list fair = record {
-  same = same;
-  fair = fair;
+-- more puts and takes, within its list and its port, keep it
+pub keeps-counts : (b : Book) (s : Subscribed) (asked : Bool) (put taken : ℕ) → IsFair b s
+    → s.put ≤ put → taken ≤ put → put ≤ length (whole b s) → put ≤ taken + s.port
+    → Keeps b s b (record s { hang_up_asked = asked; put = put; taken = taken })
+keeps-counts b s asked put taken h grows order there room = record {
+  same = refl;
+  fair = record {
+    begun = h.begun;
+    places = h.places;
+    most = h.most;
+    backlog = h.backlog;
+    opened = h.opened;
+    covered = h.covered;
+    taken = order;
+    put = there;
+    port = room;
+    held = λ live. omega (
+      arith,
+      h.held live,
+      grows,
+      length-drop s.put (updates_due b s),
+      length-drop put (updates_due b s),
+    );
+  };
   more = [];
-  grows = list ∙ sym (append-nil _);
-  ended = λ e is. (end ∙ is, refl);
+  grows = sym (append-nil _);
+  ended = λ e is. (is, refl);
 }
 
 -- nothing that happens keeps what was told
 pub keeps-self : (b : Book) (s : Subscribed) → IsFair b s → Keeps b s b s
 keeps-self b s h =
-    keeps-same b s s (record { query = refl; moved = refl; opened = refl }) refl refl h
+    keeps-counts b s s.hang_up_asked s.put s.taken h (omega arith) h.taken h.put h.port
 
 -- a backlog with room for more still holds no more than it may
 fits : (h k n backlog : ℕ)
@@ -236,17 +251,17 @@ module _ (join : UpdatesJoin) where
       let after : length (updates_due d s) ≡ length us + length step =
       ap length (told-live d s live ∙ told_more) ∙ length-append us step in
       record {
-        same = record { query = refl; moved = refl; opened = refl };
+        same = refl;
         fair = record {
           begun = h.begun;
           places = h.places;
           most = h.most;
           backlog = h.backlog;
+          taken = h.taken;
+          port = h.port;
           opened = omega (arith, h.opened, to, far, length-append b.changes (c ∷ []));
           covered = omega (arith, far);
-          taken = h.taken;
           put = omega (arith, h.put, ap length grows, length-append (whole b s) (parcels step));
-          port = h.port;
           held = λ is.
               let list : s.put ≤ length us = omega
               (arith, h.put, ap length (whole-live b s live), length-map us (λ m. Update m)) in
@@ -288,8 +303,5 @@ module _ (join : UpdatesJoin) where
 -- a change leaves how much was taken
 pub after_change-taken : (b : Book) (c : Change_) (s : Subscribed)
     → (after_change b c s).taken ≡ s.taken
-after_change-taken b c s = by (is_live s && change_overruns b c s)
-  where
-    by : (x : Bool) → (overrun_if b s x).taken ≡ s.taken
-    by true = refl
-    by false = refl
+after_change-taken b c s = each_bool (λ x. (overrun_if b s x).taken ≡ s.taken) refl refl
+    (is_live s && change_overruns b c s)

@@ -1,7 +1,7 @@
 -- What a change does to what a subscription is told.
-use Rattle.std.proofs.Common.{◌≡◌, ℕ, zero, suc, ◌+◌, ◌-◌, ◌≤◌, List, [], ◌∷◌, ◌++◌, refl, ap, take, drop, length, ◌∙◌, arith, append-nil, length-drop}
+use Rattle.std.proofs.Common.{◌≡◌, ℕ, ◌+◌, ◌-◌, ◌≤◌, List, [], ◌∷◌, ◌++◌, refl, ap, sym, take, drop, length, ◌∙◌, arith, append-nil, length-drop}
 use Rattle.std.specs.Prelude.{Bool}
-use Rattle.std.proofs.lemmas.List.{drop-append-le, take-append-le, take_all}
+use Rattle.std.proofs.lemmas.List.{take-append-drop, drop-append-le, take-append-le, take_all}
 use Rattle.lq_predicate.specs.Query.{Query}
 use Rattle.lq_volume.specs.declared.change.Change.{Change as Change_}
 use Rattle.lq_volume.specs.State.{State}
@@ -11,7 +11,7 @@ use Rattle.lq_volume.specs.Book.{Book, after_all, grown, number_of, state_of, st
 use Rattle.lq_update.specs.declared.message.Message.{Message}
 use Rattle.lq_update.specs.Updates.{updates_from, updates_of, step_of}
 use Rattle.lq_update.specs.Laws.{UpdatesJoin}
-use Rattle.lq_desk_world.proofs.ListLemmas.{take-past, drop-past}
+use Rattle.std.proofs.Math.Seq.{drop-append-add, take-append-add}
 
 -- changes and then others lead to where the others lead from there
 pub after_all-append : (s : State) (cs ds : List Change_)
@@ -28,9 +28,8 @@ number-all count s (c ∷ cs) = omega (arith, number-all count (after s c) cs, c
 -- a front of the changes and then the others lead to where all lead
 after_all-split : (s : State) (n : ℕ) (cs : List Change_)
     → after_all (after_all s (take n cs)) (drop n cs) ≡ after_all s cs
-after_all-split s zero cs = refl
-after_all-split s (suc n) [] = refl
-after_all-split s (suc n) (c ∷ cs) = after_all-split (after s c) n cs
+after_all-split s n cs =
+    sym (after_all-append s (take n cs) (drop n cs)) ∙ ap (after_all s) (take-append-drop n cs)
 
 -- more changes at a book's end leave the updates up to a number of the book
 pub updates_of-stays : (q : Query) (moved : Bool) (b : Book) (cs : List Change_) (m n : ℕ)
@@ -74,9 +73,10 @@ updates_of-rebased count q moved b cs m n past =
     ap (λ i. updates_from q moved (after_all b.start (take i (b.changes ++ cs)))
     (take (n - m) (drop i (b.changes ++ cs))) 1) at
     ∙ (ap (λ ds. updates_from q moved (after_all b.start ds)
-    (take (n - m) (drop (length b.changes + j) (b.changes ++ cs))) 1) (take-past j b.changes cs)
+    (take (n - m) (drop (length b.changes + j) (b.changes ++ cs))) 1)
+    (take-append-add b.changes cs j)
     ∙ (ap (λ ds. updates_from q moved (after_all b.start (b.changes ++ take j cs))
-    (take (n - m) ds) 1) (drop-past j b.changes cs)
+    (take (n - m) ds) 1) (drop-append-add b.changes cs j)
     ∙ ap (λ s. updates_from q moved s (take (n - m) (drop j cs)) 1)
     (after_all-append b.start b.changes (take j cs))))
 

@@ -1,4 +1,4 @@
-use Rattle.lq_desk_world.proofs.PassedOnLemmas.{reads-passed}
+use Rattle.lq_desk_world.proofs.OpeningLemmas.{reads-passed}
 use Rattle.lq_desk_world.proofs.laws.reads_are_passed_on.Goals as goal
 
 pub returns : goal.returns

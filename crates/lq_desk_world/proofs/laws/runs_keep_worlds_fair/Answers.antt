@@ -1,4 +1,4 @@
-use Rattle.lq_desk_world.proofs.FairLemmas.{run-fair}
+use Rattle.lq_desk_world.proofs.StepLemmas.{run-fair}
 use Rattle.lq_desk_world.proofs.laws.runs_keep_worlds_fair.Goals as goal
 
 pub returns : goal.returns

@@ -1,4 +1,4 @@
-use Rattle.lq_desk_world.proofs.PortLemmas.{turns-fill}
+use Rattle.lq_desk_world.proofs.TurnLemmas.{turns-fill}
 use Rattle.lq_desk_world.proofs.laws.turns_fill_ports.Goals as goal
 
 pub returns : goal.returns

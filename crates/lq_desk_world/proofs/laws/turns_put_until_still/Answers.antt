@@ -1,4 +1,4 @@
-use Rattle.lq_desk_world.proofs.StillLemmas.{turns-until}
+use Rattle.lq_desk_world.proofs.TurnLemmas.{turns-until}
 use Rattle.lq_desk_world.proofs.laws.turns_put_until_still.Goals as goal
 
 pub returns : goal.returns
