@@ -1,6 +1,8 @@
 -- Folding a settled front of an update list gives a result, and no message of one fails to fit.
 use Rattle.std.proofs.Common.{◌≡◌, ℕ, suc, zero, ◌+◌, ◌-◌, ◌<◌, ◌≤◌, List, [], ◌∷◌, ◌++◌, length, take, drop, refl, sym, ap, subst, ◌∙◌, Bool, true, false, arith, inl, inr, ◌⊎◌, append-nil}
-use Rattle.std.specs.Prelude.{map, filter, ◌==◌}
+use Rattle.std.specs.Prelude.{map, filter, ◌==◌, nat_eq, cond, Some, None, option_and_then}
+use Rattle.std.specs.Map.{lookup}
+use Rattle.std.proofs.lemmas.Bool.{cases_eq}
 use Rattle.std.specs.List.{AllByRecursion}
 use Rattle.std.proofs.lemmas.Bool.Decides.{nat_tests}
 use Rattle.std.proofs.lemmas.List.{length-take, length-take-le, take-take}
@@ -11,7 +13,7 @@ use Rattle.lq_volume.specs.declared.change.Change.{Change}
 use Rattle.lq_volume.specs.State.{State, Record, Rises, IsVolume}
 use Rattle.lq_volume.specs.Change.{after, IsLawful}
 use Rattle.lq_volume.specs.Book.{Book, number_of, after_all, state_at, changes_between, AreLawful, IsBook}
-use Rattle.lq_volume.specs.Result.{result_of, entry_of, shown}
+use Rattle.lq_volume.specs.Result.{result_of, match_at, entry_of, shown}
 use Rattle.lq_volume.specs.Laws.{ChangesKeepTrees, ChangesCount}
 use Rattle.lq_update.specs.declared.message.Message.{Message}
 use Rattle.lq_update.specs.declared.message.Opcode.{Opcode}
@@ -20,7 +22,7 @@ use Rattle.lq_update.specs.Updates.{numbered, step_of, updates_from, updates_of,
 use Rattle.lq_update.specs.Fold.{EntriesRise, folded, folded_one, fits_in, last_change}
 use Rattle.lq_update.specs.Laws.{ResultsRise, FoldsGiveResults, WholeFoldsGiveResults, MessagesFitIn}
 use Rattle.lq_update.proofs.Lists.{after_all-append}
-use Rattle.lq_update.proofs.EntryLemmas.{Above}
+use Rattle.lq_update.proofs.EntryLemmas.{Above, entry_at, at-above}
 use Rattle.lq_update.proofs.FoldLemmas.{told-folds, told-fits, MessagesFit, folded-numbered, fits-numbered}
 
 -- ---- results rise by node
@@ -50,6 +52,38 @@ rises-result test (e ∷ es) h = at (test e) refl (rises-result test es h.1)
 -- each result of a volume rises by node
 pub results-rise : ResultsRise
 results-rise q s v = rises-result (λ e. truth q (shown e.1)) s.records v.numbered.rise
+
+-- the entry that a result has of a node is that of its record, if it passes
+at-records : (test : ℕ × Record → Bool) (n : ℕ) (es : List (ℕ × Record)) → Rises es
+    → entry_at n (map entry_of (filter test es)) ≡ option_and_then
+    (λ r. cond (test (n, r)) (Some (entry_of (n, r))) None) (lookup (nat_eq n) es)
+at-records test n [] h = refl
+at-records test n (e ∷ es) h = elim (cases_eq e.0 n) [
+  | inl same ↦
+      let gone : entry_at n (map entry_of (filter test es)) ≡ None =
+      at-above n (map entry_of (filter test es)) (rw (← same) (above-result test e.0 es h.0)) in
+      here same gone (test e) refl
+  | inr differs ↦ there differs (at-records test n es h.1) (test e) refl
+]
+  where
+    here : e.0 ≡ n → entry_at n (map entry_of (filter test es)) ≡ None → (b : Bool) → test e ≡ b
+        → entry_at n (map entry_of (filter test (e ∷ es))) ≡ option_and_then
+        (λ r. cond (test (n, r)) (Some (entry_of (n, r))) None) (lookup (nat_eq n) (e ∷ es))
+    here same gone true is = grind (arith, nat_tests)
+    here same gone false is = grind (arith, nat_tests)
+
+    there : (e.0 ≡ n → ⊥) → entry_at n (map entry_of (filter test es)) ≡ option_and_then
+        (λ r. cond (test (n, r)) (Some (entry_of (n, r))) None) (lookup (nat_eq n) es)
+        → (b : Bool) → test e ≡ b
+        → entry_at n (map entry_of (filter test (e ∷ es))) ≡ option_and_then
+        (λ r. cond (test (n, r)) (Some (entry_of (n, r))) None) (lookup (nat_eq n) (e ∷ es))
+    there differs rest true is = grind (arith, nat_tests)
+    there differs rest false is = grind (arith, nat_tests)
+
+-- so it is the node's match
+pub at-result : (q : Query) (s : State) (n : ℕ) → IsVolume s
+    → entry_at n (result_of q s) ≡ match_at q s n
+at-result q s n v = at-records (λ e. truth q (shown e.1)) n s.records v.numbered.rise
 
 -- ---- one change
 

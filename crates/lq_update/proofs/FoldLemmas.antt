@@ -191,7 +191,7 @@ rises-map op [] h = tt
 rises-map op (e ∷ es) h = (above-map op e.node es h.0, rises-map op es h.1)
 
 -- what is told of a node's entry that came, by what left there
-came-told : (moved : Bool) (n : ℕ) (gone come : List Entry)
+pub came-told : (moved : Bool) (n : ℕ) (gone come : List Entry)
     → option_map (λ f. (came_op moved gone f, f)) (entry_at n come)
     ≡ told_last moved (entry_at n gone) (entry_at n come)
 came-told moved n gone come = at (entry_at n come) refl
@@ -232,7 +232,7 @@ missing-at n es fs h k = at-filter _ n es h ∙ at (entry_at n es) refl
         by e (option_map_or (same_entry e) (entry_at n fs) false) any refl
 
 -- the entry that stands alone at a node is its own, unless a move tells of both
-alone-at : (moved : Bool) (n : ℕ) (es fs : List Entry) → EntriesRise es
+pub alone-at : (moved : Bool) (n : ℕ) (es fs : List Entry) → EntriesRise es
     → entry_at n (alone_if moved es fs) ≡ told_first moved (entry_at n es) (entry_at n fs)
 alone-at moved n es fs h = at-filter _ n es h ∙ at (entry_at n es) refl
   where

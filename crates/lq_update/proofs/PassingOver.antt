@@ -20,7 +20,6 @@ use Rattle.lq_volume.specs.declared.change.Change.TheVariants.{Create, Remove, M
 use Rattle.lq_volume.specs.AttributeLaws.{ValuesAreFound}
 use Rattle.lq_volume.specs.State.{State, Record, IsVolume, record_at}
 use Rattle.lq_volume.specs.Change.{after, altered, rewritten, set_attr, remove_attr}
-use Rattle.lq_volume.specs.Laws.{ChangesKeepTrees, ClobberedGo, UntouchedStay}
 use Rattle.lq_volume.specs.Result.{result_of, entry_of, entry_if, match_at, shown}
 use Rattle.lq_update.specs.Diff.{missing, messages_of, diff}
 use Rattle.lq_update.specs.Fold.{EntriesRise}
@@ -29,7 +28,7 @@ use Rattle.lq_update.specs.Touched.{is_match}
 use Rattle.lq_update.proofs.EntryLemmas.{entry_at, entries-same, rises-filter}
 use Rattle.lq_update.proofs.FoldLaws.{results-rise}
 use Rattle.lq_update.proofs.FoldLemmas.{missing-at}
-use Rattle.lq_update.proofs.TouchedLemmas.{Entries, left-same, told-unmatched}
+use Rattle.lq_update.proofs.TouchedLemmas.{TouchFew, left-same, told-unmatched}
 
 -- another name of the predicate has the test's answer too
 same-name : (names : List (List ℕ)) (name other : List ℕ) → list_any (bytes_eq name) names ≡ true
@@ -211,7 +210,7 @@ match-written law q s r node size time is sizes times =
 -- ---- a creation, where the query needs an attribute
 
 -- a new node has no record, and then the one that is put last
-created-last : (es : Entries) (k : ℕ) (r : Record) → AllByRecursion (λ e. e.0 < k) es
+created-last : (es : List (ℕ × Record)) (k : ℕ) (r : Record) → AllByRecursion (λ e. e.0 < k) es
     → (lookup (nat_eq k) es ≡ None) × (lookup (nat_eq k) (es ++ (k, r) ∷ []) ≡ Some r)
 created-last [] k r below = grind (arith, nat_tests)
 created-last (e ∷ es) k r below =
@@ -233,15 +232,11 @@ shown-bare r bare name is = by (bytes_eq name (codes "name")) refl
     by false n false sz false t = rw (n, sz, t, bare) refl
 
 -- a creation tells nothing to a query that needs an attribute
-pub bare-creates : BareRowsFail → ChangesKeepTrees → UntouchedStay → ClobberedGo
-    → BareCreatesTellNothing
-bare-creates fail trees stay go q moved s dir name kind size time seq v lawful needs =
-    let c = Create dir name kind size time in
+pub bare-creates : BareRowsFail → TouchFew → BareCreatesTellNothing
+bare-creates fail laws q moved s dir name kind size time seq v lawful needs =
     let r : Record =
     record { dir = dir; name = name; kind = kind; size = size; time = time; attrs = [] } in
     let last = created-last s.records s.next r v.numbered.below in
-    let before : is_match q (record_at s s.next) ≡ false = ap (is_match q) last.0 in
-    let now : is_match q (record_at (after s c) s.next) ≡ false =
-    ap (is_match q) last.1 ∙ fail q (shown r) needs (shown-bare r refl) in
-    told-unmatched q moved s c seq v (trees s c v lawful)
-    (λ n off. stay s c n v lawful off) (λ n is. go s c n v is) refl before now
+    told-unmatched laws q moved s (Create dir name kind size time) seq v lawful refl
+    (ap (is_match q) last.0)
+    (ap (is_match q) last.1 ∙ fail q (shown r) needs (shown-bare r refl))

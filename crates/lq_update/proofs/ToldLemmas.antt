@@ -1,8 +1,8 @@
--- What a removed and a created entry of one node tell, among removed ones of other nodes.
-use Rattle.std.proofs.Common.{◌≡◌, ◌≢◌, ℕ, List, [], ◌∷◌, ◌++◌, refl, sym, ap, ◌∙◌, Bool, true, false, arith, append-nil, append_assoc}
+-- The messages of what left and what came, with moves and without, in one form.
+use Rattle.std.proofs.Common.{◌≡◌, List, [], ◌∷◌, ◌++◌, refl, ap, ◌∙◌, Bool, true, false, arith}
 use Rattle.std.specs.Prelude.{map, filter, not, ◌&&◌, ◌==◌, Option, Some, None}
-use Rattle.std.specs.Option.{option_map, option_map_or, option_to_list}
-use Rattle.std.specs.List.{AllByRecursion, find, list_any}
+use Rattle.std.specs.Option.{option_map, option_map_or}
+use Rattle.std.specs.List.{find, list_any}
 use Rattle.std.proofs.lemmas.Bool.Decides.{nat_tests}
 use Rattle.std.proofs.lemmas.List.{map-append}
 use Rattle.std.proofs.lemmas.List.Elements.{filter-append}
@@ -10,17 +10,7 @@ use Rattle.lq_value.specs.declared.entry.Entry.{Entry}
 use Rattle.lq_update.specs.declared.message.Opcode.{Opcode}
 use Rattle.lq_update.specs.declared.message.Opcode.TheVariants.{Created, Removed, Moved}
 use Rattle.lq_update.specs.Diff.{as_moved, has_node, is_move, messages_of, without_moves}
-use Rattle.lq_update.specs.Touched.{told_first, told_last}
 use Rattle.lq_update.proofs.EntryLemmas.{entry_at}
-
--- the entry, if there is one, has the node
-abbrev pub Has : ℕ → Option Entry → Type 0
-Has n None = Unit {0}
-Has n (Some e) = e.node ≡ n
-
--- no entry has it
-abbrev pub Lacks : ℕ → List Entry → Type 0
-Lacks n es = AllByRecursion (λ e. e.node ≢ n) es
 
 -- the entries whose node is in none of the others
 abbrev pub alone : List Entry → List Entry → List Entry
@@ -51,7 +41,7 @@ removed-any e (g ∷ gone) come = removed-any e gone come
 -- so those of the entries that stand alone stay
 removed-kept : (es gone come : List Entry)
     → filter (λ m. not (list_any (is_move m) (without_moves gone come)))
-        (map (λ e. (Removed, e)) es)
+    (map (λ e. (Removed, e)) es)
     ≡ map (λ e. (Removed, e)) (alone es come)
 removed-kept [] gone come = refl
 removed-kept (e ∷ es) gone come =
@@ -142,81 +132,3 @@ messages-split true gone come =
     ∙ (λ i. removed-kept gone gone come i ++ created-kept ms come i))
     ∙ (map-append (as_moved ms) (map (λ e. (Removed, e)) (alone gone come)) created
     ∙ (λ i. removed-stay ms (alone gone come) i ++ created-told gone come come i))
-
--- where nothing came, all that left stand alone
-alone-nil : (es : List Entry) → alone es [] ≡ es
-alone-nil [] = refl
-alone-nil (e ∷ es) = ap (λ rest. e ∷ rest) (alone-nil es)
-
--- entries of other nodes than the one that came stand alone
-alone-off : (f : Entry) (es : List Entry) → Lacks f.node es → alone es (f ∷ []) ≡ es
-alone-off f [] off = refl
-alone-off f (e ∷ es) off =
-    let differs = off.0 in
-    let rest = alone-off f es off.1 in
-    grind (arith, nat_tests)
-
--- a node that two lists lack isn't in both together
-lacks-append : (n : ℕ) (es fs : List Entry) → Lacks n es → Lacks n fs → Lacks n (es ++ fs)
-lacks-append n [] fs p q = q
-lacks-append n (e ∷ es) fs p q = (p.0, lacks-append n es fs p.1 q)
-
--- a node that a list lacks has no entry there
-at-none : (n : ℕ) (es : List Entry) → Lacks n es → entry_at n es ≡ None
-at-none n [] off = refl
-at-none n (e ∷ es) off =
-    let differs = off.0 in
-    let rest = at-none n es off.1 in
-    grind (arith, nat_tests)
-
--- and behind it, the next one of that node
-at-behind : (n : ℕ) (e : Entry) (es fs : List Entry) → Lacks n es → e.node ≡ n
-    → entry_at n (es ++ e ∷ fs) ≡ Some e
-at-behind n e [] fs off at = grind (arith, nat_tests)
-at-behind n e (d ∷ es) fs off at =
-    let differs = off.0 in
-    let rest = at-behind n e es fs off.1 at in
-    grind (arith, nat_tests)
-
--- the test of a node, turned round
-same_node : (e f : Entry) → e.node ≡ f.node → (f.node == e.node) ≡ true
-same_node e f at = grind (arith, nat_tests)
-
--- what is told where one entry came, among removed ones of other nodes
-pub told-among : (moved : Bool) (n : ℕ) (o c : Option Entry) (es fs : List Entry) → Has n o
-    → Has n c → Lacks n es → Lacks n fs
-    → messages_of moved (es ++ option_to_list o ++ fs) (option_to_list c)
-    ≡ map (λ e. (Removed, e)) (es ++ option_to_list (told_first moved o c) ++ fs)
-    ++ option_to_list (told_last moved o c)
-told-among false n o c es fs p q off end = at o c
-  where
-    at : (o c : Option Entry) → map (λ e. (Removed, e)) (es ++ option_to_list o ++ fs)
-        ++ map (λ e. (Created, e)) (option_to_list c)
-        ≡ map (λ e. (Removed, e)) (es ++ option_to_list (told_first false o c) ++ fs)
-        ++ option_to_list (told_last false o c)
-    at o None = refl
-    at None (Some f) = refl
-    at (Some e) (Some f) = refl
-told-among true n o None es fs p q off end =
-    messages-split true (es ++ option_to_list o ++ fs) []
-    ∙ rw (alone-nil (es ++ option_to_list o ++ fs)) refl
-told-among true n None (Some f) es fs p q off end =
-    let lacks : Lacks f.node (es ++ [] ++ fs) =
-    rw (append-nil es, q) (lacks-append n es fs off end) in
-    messages-split true (es ++ [] ++ fs) (f ∷ [])
-    ∙ rw (alone-off f (es ++ [] ++ fs) lacks, at-none f.node (es ++ [] ++ fs) lacks) refl
-told-among true n (Some e) (Some f) es fs p q off end =
-    let before : Lacks f.node es = rw q off in
-    let behind : Lacks f.node fs = rw q end in
-    let here = same_node e f (p ∙ sym q) in
-    let left_is : alone (es ++ (e ∷ []) ++ fs) (f ∷ []) ≡ es ++ [] ++ fs =
-    filter-append _ (es ++ e ∷ []) fs
-    ∙ rw (
-      filter-append (λ d. not (has_node d.node (f ∷ []))) es (e ∷ []),
-      alone-off f es before,
-      alone-off f fs behind,
-      here,
-    ) refl in
-    let there : entry_at f.node (es ++ (e ∷ []) ++ fs) ≡ Some e = ap (entry_at f.node)
-    (append_assoc es (e ∷ []) fs) ∙ at-behind f.node e es fs before (p ∙ sym q) in
-    messages-split true (es ++ (e ∷ []) ++ fs) (f ∷ []) ∙ rw (left_is, there) refl
