@@ -428,15 +428,24 @@ abbrev pub MessagesFit : List Entry → List Message → Type 0
 MessagesFit r [] = Unit {0}
 MessagesFit r (m ∷ ms) = (fits_in r m ≡ true) × MessagesFit (folded_one r m) ms
 
--- the numbers of messages don't alter what they fold to
-pub folded-numbered : (seq change : ℕ) (r : List Entry) (xs : List Op)
-    → folded r (numbered seq change xs) ≡ ops_folded r xs
-folded-numbered seq change r [] = refl
-folded-numbered seq change r (x ∷ xs) = folded-numbered (seq + 1) change (folded_by x.0 x.1 r) xs
+-- messages that fit one after another lead from one result to another
+pub record Leads (r : List Entry) (ms : List Message) (end : List Entry) : Type 0 where
+  pub fit : MessagesFit r ms
+  pub folds : folded r ms ≡ end
 
--- messages that fit do so with their numbers
-pub fits-numbered : (seq change : ℕ) (r : List Entry) (xs : List Op) → OpsFit r xs
-    → MessagesFit r (numbered seq change xs)
-fits-numbered seq change r [] h = tt
-fits-numbered seq change r (x ∷ xs) h =
-    (h.0, fits-numbered (seq + 1) change (folded_by x.0 x.1 r) xs h.1)
+-- two lists of messages lead on, one after the other
+pub leads-append : (r : List Entry) (xs ys : List Message) (middle end : List Entry)
+    → Leads r xs middle → Leads middle ys end → Leads r (xs ++ ys) end
+leads-append r [] ys middle end p q = subst (λ o. Leads o ys end) (sym p.folds) q
+leads-append r (x ∷ xs) ys middle end p q =
+    let rest = leads-append (folded_one r x) xs ys middle end
+    (record { fit = p.fit.1; folds = p.folds }) q in
+    record { fit = (p.fit.0, rest.fit); folds = rest.folds }
+
+-- messages without their numbers that fit and fold to a result lead there with them
+pub leads-numbered : (seq change : ℕ) (r : List Entry) (xs : List Op) (end : List Entry)
+    → OpsFit r xs → ops_folded r xs ≡ end → Leads r (numbered seq change xs) end
+leads-numbered seq change r [] end fit folds = record { fit = tt; folds = folds }
+leads-numbered seq change r (x ∷ xs) end fit folds =
+    let rest = leads-numbered (seq + 1) change (folded_by x.0 x.1 r) xs end fit.1 folds in
+    record { fit = (fit.0, rest.fit); folds = rest.folds }
