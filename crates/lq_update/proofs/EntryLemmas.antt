@@ -1,7 +1,7 @@
 -- What a node has among entries that rise by node, and what taking one out or putting one in does
 -- to that.
 use Rattle.std.proofs.Common.{◌≡◌, ℕ, ◌<◌, List, [], ◌∷◌, refl, sym, ap, ◌∙◌, Bool, true, false, arith, inl, inr}
-use Rattle.std.specs.Prelude.{Option, Some, None, is_some, ◌==◌, filter, nat_lt, if◌then◌else◌}
+use Rattle.std.specs.Prelude.{Option, Some, None, is_some, cond, ◌==◌, filter, nat_lt, if◌then◌else◌}
 use Rattle.std.specs.Option.{option_map_or}
 use Rattle.std.specs.List.{AllByRecursion}
 use Rattle.std.proofs.lemmas.Map.Entries.{option_filter}
@@ -90,42 +90,39 @@ has_entry-at e (f ∷ es) h = elim (cases_eq f.node e.node) [
 -- what a filter leaves is above a node where all was
 above-filter : (t : Entry → Bool) (n : ℕ) (es : List Entry) → Above n es → Above n (filter t es)
 above-filter t n [] h = tt
-above-filter t n (e ∷ es) h = at (t e) refl (above-filter t n es h.1)
-  where
-    at : (b : Bool) → t e ≡ b → Above n (filter t es) → Above n (filter t (e ∷ es))
-    at true is rest = rw is (h.0, rest)
-    at false is rest = rw is rest
+above-filter t n (e ∷ es) h =
+    elim (t e) as (λ b. Above n (cond b (e ∷ filter t es) (filter t es))) [
+      | true ↦ (h.0, above-filter t n es h.1)
+      | false ↦ above-filter t n es h.1
+    ]
 
 -- what a filter leaves rises
 pub rises-filter : (t : Entry → Bool) (es : List Entry) → EntriesRise es → EntriesRise (filter t es)
 rises-filter t [] h = tt
-rises-filter t (e ∷ es) h = at (t e) refl (rises-filter t es h.1)
-  where
-    at : (b : Bool) → t e ≡ b → EntriesRise (filter t es) → EntriesRise (filter t (e ∷ es))
-    at true is rest = rw is (above-filter t e.node es h.0, rest)
-    at false is rest = rw is rest
+rises-filter t (e ∷ es) h =
+    elim (t e) as (λ b. EntriesRise (cond b (e ∷ filter t es) (filter t es))) [
+      | true ↦ (above-filter t e.node es h.0, rises-filter t es h.1)
+      | false ↦ rises-filter t es h.1
+    ]
+
+-- with one more entry, if it passes, a node has that one or what it had
+at-cond : (n : ℕ) (b : Bool) (e : Entry) (es : List Entry) → entry_at n (cond b (e ∷ es) es)
+    ≡ cond b (cond (e.node == n) (Some e) (entry_at n es)) (entry_at n es)
+at-cond n true e es = refl
+at-cond n false e es = refl
 
 -- the entry found after a filter is the one found before it, if that passes
 pub at-filter : (t : Entry → Bool) (n : ℕ) (es : List Entry) → EntriesRise es
     → entry_at n (filter t es) ≡ option_filter t (entry_at n es)
 at-filter t n [] h = refl
-at-filter t n (e ∷ es) h = elim (cases_eq e.node n) [
-  | inl same ↦
-      let gone = at-above n (filter t es) (rw (← same) (above-filter t e.node es h.0)) in
-      here same gone (t e) refl
-  | inr differs ↦ let rest = at-filter t n es h.1 in there differs rest (t e) refl
-]
-  where
-    here : e.node ≡ n → entry_at n (filter t es) ≡ None → (b : Bool) → t e ≡ b
-        → entry_at n (filter t (e ∷ es)) ≡ option_filter t (entry_at n (e ∷ es))
-    here same gone true is = grind (arith, nat_tests)
-    here same gone false is = grind (arith, nat_tests)
-
-    there : (e.node ≡ n → ⊥)
-        → entry_at n (filter t es) ≡ option_filter t (entry_at n es) → (b : Bool) → t e ≡ b
-        → entry_at n (filter t (e ∷ es)) ≡ option_filter t (entry_at n (e ∷ es))
-    there differs rest true is = grind (arith, nat_tests)
-    there differs rest false is = grind (arith, nat_tests)
+at-filter t n (e ∷ es) h =
+    let step = at-cond n (t e) e (filter t es) in
+    elim (cases_eq e.node n) [
+      | inl same ↦
+          let gone = at-above n (filter t es) (rw (← same) (above-filter t e.node es h.0)) in
+          grind (arith, nat_tests)
+      | inr differs ↦ let rest = at-filter t n es h.1 in grind (arith, nat_tests)
+    ]
 
 -- with its triple taken out, a node has no entry
 pub at-taken_out : (es : List Entry) (e : Entry) → EntriesRise es → entry_at e.node es ≡ Some e
@@ -150,11 +147,11 @@ at-put_in e n (f ∷ es) none = elim (cases_lt e.node f.node) [
 above-put_in : (e : Entry) (n : ℕ) (es : List Entry) → n < e.node → Above n es
     → Above n (put_in e es)
 above-put_in e n [] lt h = (lt, tt)
-above-put_in e n (f ∷ es) lt h = at (nat_lt e.node f.node) refl (above-put_in e n es lt h.1)
-  where
-    at : (b : Bool) → nat_lt e.node f.node ≡ b → Above n (put_in e es) → Above n (put_in e (f ∷ es))
-    at true is rest = rw is (lt, h)
-    at false is rest = rw is (h.0, rest)
+above-put_in e n (f ∷ es) lt h =
+    elim (nat_lt e.node f.node) as (λ b. Above n (cond b (e ∷ f ∷ es) (f ∷ put_in e es))) [
+      | true ↦ (lt, h)
+      | false ↦ (h.0, above-put_in e n es lt h.1)
+    ]
 
 -- with a triple of a new node put in, the nodes still rise
 pub rises-put_in : (e : Entry) (es : List Entry) → EntriesRise es → entry_at e.node es ≡ None
@@ -170,6 +167,30 @@ rises-put_in e (f ∷ es) h none = elim (cases_lt e.node f.node) [
       let rest : entry_at e.node es ≡ None = grind (arith, nat_tests) in
       rw is (above-put_in e f.node es lt h.0, rises-put_in e es h.1 rest)
 ]
+
+-- a triple that is there is the entry found for its node
+pub at-has_entry : (e : Entry) (es : List Entry) → EntriesRise es → has_entry e es ≡ true
+    → entry_at e.node es ≡ Some e
+at-has_entry e es h has = found (entry_at e.node es) refl (sym (has_entry-at e es h) ∙ has)
+  where
+    found : (o : Option Entry) → entry_at e.node es ≡ o
+        → option_map_or (same_entry e) o false ≡ true → entry_at e.node es ≡ Some e
+    found None is same = cc
+    found (Some f) is same = is ∙ ap Some (sym (same-entry e f same))
+
+-- where a node isn't there no entry is found for it
+pub at-lacks : (n : ℕ) (es : List Entry) → has_node n es ≡ false → entry_at n es ≡ None
+at-lacks n es lacks = none (entry_at n es) (sym (has_node-at n es) ∙ lacks)
+  where
+    none : (o : Option Entry) → is_some o ≡ false → o ≡ None
+    none None is = refl
+    none (Some e) is = cc
+
+-- with a triple of its node in place of one that is there, the nodes still rise
+pub rises-replaced : (e old : Entry) (es : List Entry) → EntriesRise es → has_entry old es ≡ true
+    → e.node ≡ old.node → EntriesRise (put_in e (taken_out old es))
+rises-replaced e old es h has node = rises-put_in e (taken_out old es) (rises-filter _ es h)
+    (rw node (at-taken_out es old h (at-has_entry old es h has)))
 
 -- entries that rise are those of their nodes
 pub entries-same : (es fs : List Entry) → EntriesRise es → EntriesRise fs

@@ -5,6 +5,7 @@ use Rattle.std.specs.Map.{lookup}
 use Rattle.std.proofs.lemmas.Bool.{cases_eq}
 use Rattle.std.specs.List.{AllByRecursion}
 use Rattle.std.proofs.lemmas.Bool.Decides.{nat_tests}
+use Rattle.std.proofs.Math.Seq.{take-add}
 use Rattle.std.proofs.lemmas.List.{length-take, length-take-le, take-take}
 use Rattle.lq_value.specs.declared.entry.Entry.{Entry}
 use Rattle.lq_predicate.specs.Query.{Query}
@@ -31,54 +32,48 @@ use Rattle.lq_update.proofs.FoldLemmas.{told-folds, told-fits, MessagesFit, Lead
 above-result : (test : ℕ × Record → Bool) (n : ℕ) (es : List (ℕ × Record))
     → AllByRecursion (λ f. n < f.0) es → Above n (map entry_of (filter test es))
 above-result test n [] h = tt
-above-result test n (e ∷ es) h = at (test e) refl (above-result test n es h.1)
-  where
-    at : (b : Bool) → test e ≡ b → Above n (map entry_of (filter test es))
-        → Above n (map entry_of (filter test (e ∷ es)))
-    at true is rest = rw is (h.0, rest)
-    at false is rest = rw is rest
+above-result test n (e ∷ es) h =
+    elim (test e) as (λ b. Above n (map entry_of (cond b (e ∷ filter test es) (filter test es)))) [
+      | true ↦ (h.0, above-result test n es h.1)
+      | false ↦ above-result test n es h.1
+    ]
 
 -- the entries that a result has of records whose nodes rise do so too
 rises-result : (test : ℕ × Record → Bool) (es : List (ℕ × Record)) → Rises es
     → EntriesRise (map entry_of (filter test es))
 rises-result test [] h = tt
-rises-result test (e ∷ es) h = at (test e) refl (rises-result test es h.1)
-  where
-    at : (b : Bool) → test e ≡ b → EntriesRise (map entry_of (filter test es))
-        → EntriesRise (map entry_of (filter test (e ∷ es)))
-    at true is rest = rw is (above-result test e.0 es h.0, rest)
-    at false is rest = rw is rest
+rises-result test (e ∷ es) h =
+    elim (test e) as (λ b. EntriesRise (map entry_of (cond b (e ∷ filter test es) (filter test es)))) [
+      | true ↦ (above-result test e.0 es h.0, rises-result test es h.1)
+      | false ↦ rises-result test es h.1
+    ]
 
 -- each result of a volume rises by node
 pub results-rise : ResultsRise
 results-rise q s v = rises-result (λ e. truth q (shown e.1)) s.records v.numbered.rise
+
+-- with one more entry, if it passes, a node has that one or what it had
+at-cond : (n : ℕ) (b : Bool) (e : ℕ × Record) (es : List (ℕ × Record))
+    → entry_at n (map entry_of (cond b (e ∷ es) es))
+    ≡ cond b (cond (e.0 == n) (Some (entry_of e)) (entry_at n (map entry_of es)))
+    (entry_at n (map entry_of es))
+at-cond n true e es = refl
+at-cond n false e es = refl
 
 -- the entry that a result has of a node is that of its record, if it passes
 at-records : (test : ℕ × Record → Bool) (n : ℕ) (es : List (ℕ × Record)) → Rises es
     → entry_at n (map entry_of (filter test es)) ≡ option_and_then
     (λ r. cond (test (n, r)) (Some (entry_of (n, r))) None) (lookup (nat_eq n) es)
 at-records test n [] h = refl
-at-records test n (e ∷ es) h = elim (cases_eq e.0 n) [
-  | inl same ↦
-      let gone : entry_at n (map entry_of (filter test es)) ≡ None =
-      at-above n (map entry_of (filter test es)) (rw (← same) (above-result test e.0 es h.0)) in
-      here same gone (test e) refl
-  | inr differs ↦ there differs (at-records test n es h.1) (test e) refl
-]
-  where
-    here : e.0 ≡ n → entry_at n (map entry_of (filter test es)) ≡ None → (b : Bool) → test e ≡ b
-        → entry_at n (map entry_of (filter test (e ∷ es))) ≡ option_and_then
-        (λ r. cond (test (n, r)) (Some (entry_of (n, r))) None) (lookup (nat_eq n) (e ∷ es))
-    here same gone true is = grind (arith, nat_tests)
-    here same gone false is = grind (arith, nat_tests)
-
-    there : (e.0 ≡ n → ⊥) → entry_at n (map entry_of (filter test es)) ≡ option_and_then
-        (λ r. cond (test (n, r)) (Some (entry_of (n, r))) None) (lookup (nat_eq n) es)
-        → (b : Bool) → test e ≡ b
-        → entry_at n (map entry_of (filter test (e ∷ es))) ≡ option_and_then
-        (λ r. cond (test (n, r)) (Some (entry_of (n, r))) None) (lookup (nat_eq n) (e ∷ es))
-    there differs rest true is = grind (arith, nat_tests)
-    there differs rest false is = grind (arith, nat_tests)
+at-records test n (e ∷ es) h =
+    let step = at-cond n (test e) e (filter test es) in
+    elim (cases_eq e.0 n) [
+      | inl same ↦
+          let gone : entry_at n (map entry_of (filter test es)) ≡ None =
+          at-above n (map entry_of (filter test es)) (rw (← same) (above-result test e.0 es h.0)) in
+          grind (arith, nat_tests)
+      | inr differs ↦ let rest = at-records test n es h.1 in grind (arith, nat_tests)
+    ]
 
 -- so it is the node's match
 pub at-result : (q : Query) (s : State) (n : ℕ) → IsVolume s
@@ -113,15 +108,6 @@ fits-at r [] rest m h = h.0
 fits-at r (x ∷ front) rest m h = fits-at (folded_one r x) front rest m h.1
 
 -- ---- over a book
-
--- the first elements of a list, and as many more of what follows
-take-add : {X : Type 0} (a k : ℕ) (xs : List X) → take (a + k) xs ≡ take a xs ++ take k (drop a xs)
-take-add zero k xs = ap (λ n. take n xs) (let e : 0 + k ≡ k = omega arith in e)
-take-add (suc a) zero [] = ap (λ n. take n []) (let e : suc a + 0 ≡ suc a = omega arith in e)
-take-add (suc a) (suc k) [] =
-    ap (λ n. take n []) (let e : suc a + suc k ≡ suc (a + suc k) = omega arith in e)
-take-add (suc a) k (x ∷ xs) = ap (λ n. take n (x ∷ xs))
-    (let e : suc a + k ≡ suc (a + k) = omega arith in e) ∙ ap (λ ys. x ∷ ys) (take-add a k xs)
 
 -- a front of lawful changes is lawful
 lawful-take : (s : State) (cs : List Change) (k : ℕ) → AreLawful s cs → AreLawful s (take k cs)

@@ -52,24 +52,6 @@ pub has_entry-some : (e : Entry) (ls : Located) (l : Location) → EntriesRise (
     → has_entry e (entries_of ls) ≡ ((e.dir == l.dir) && bytes_eq e.name l.name)
 has_entry-some e ls l h some = has_entry-lookup e ls h ∙ rw some (grind (arith, nat_tests))
 
--- a triple that is there is the entry found for its node
-pub at-has_entry : (e : Entry) (es : List Entry) → EntriesRise es → has_entry e es ≡ true
-    → entry_at e.node es ≡ Some e
-at-has_entry e es h has = found (entry_at e.node es) refl (sym (has_entry-at e es h) ∙ has)
-  where
-    found : (o : Option Entry) → entry_at e.node es ≡ o
-        → option_map_or (same_entry e) o false ≡ true → entry_at e.node es ≡ Some e
-    found None is same = cc
-    found (Some f) is same = is ∙ ap Some (sym (same-entry e f same))
-
--- where a node isn't there no entry is found for it
-at-lacks : (n : ℕ) (es : List Entry) → has_node n es ≡ false → entry_at n es ≡ None
-at-lacks n es lacks = none (entry_at n es) (sym (has_node-at n es) ∙ lacks)
-  where
-    none : (o : Option Entry) → is_some o ≡ false → o ≡ None
-    none None is = refl
-    none (Some e) is = cc
-
 -- a location under a node that had none puts its entry in
 pub insert-put : (ls : Located) (n : ℕ) (l : Location) → has_node n (entries_of ls) ≡ false
     → entries_of (insert_entry nat_cmp ls n l) ≡ put_in (entry_under (n, l)) (entries_of ls)
@@ -135,26 +117,6 @@ insert-back (k ∷ ls) n l before h is = elim (cases_lt n k.0) [
         grind (arith, nat_tests)
   ]
 ]
-
--- the nodes rise still with a location under a new node
-pub rises-put : (ls : Located) (n : ℕ) (l : Location) → EntriesRise (entries_of ls)
-    → has_node n (entries_of ls) ≡ false → EntriesRise (entries_of (insert_entry nat_cmp ls n l))
-rises-put ls n l h lacks = rw (insert-put ls n l lacks)
-    (rises-put_in (entry_under (n, l)) (entries_of ls) h (at-lacks n (entries_of ls) lacks))
-
--- and without a node's location
-pub rises-taken : (ls : Located) (e : Entry) → EntriesRise (entries_of ls)
-    → entry_at e.node (entries_of ls) ≡ Some e
-    → EntriesRise (entries_of (remove_entry (is_at (nat_cmp e.node)) ls))
-rises-taken ls e h is = rw (remove-taken ls e h is) (rises-filter _ (entries_of ls) h)
-
--- and with another location under a node
-pub rises-replaced : (ls : Located) (e : Entry) (l : Location) → EntriesRise (entries_of ls)
-    → entry_at e.node (entries_of ls) ≡ Some e
-    → EntriesRise (entries_of (insert_entry nat_cmp ls e.node l))
-rises-replaced ls e l h is = rw (insert-replaced ls e l h is)
-    (rises-put_in (entry_under (e.node, l)) (taken_out e (entries_of ls))
-    (rises-filter _ (entries_of ls) h) (at-taken_out (entries_of ls) e h is))
 
 -- ---- one location after another, by rising node
 

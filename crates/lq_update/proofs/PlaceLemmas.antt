@@ -214,21 +214,3 @@ pub has_node-search : (es : List Entry) (n : ℕ) (r : Result ℕ ℕ) → Entri
 has_node-search [] n (Ok i) h found absent = absurd (omega (arith, found.within))
 has_node-search (e ∷ es) n (Ok i) h found absent = has_node-place (e ∷ es) n i e h found
 has_node-search es n (Err i) h found absent = has_node-gap es n i absent
-
--- the nodes still rise after an insertion at the gap
-pub rises-insert : (e : Entry) (es : List Entry) (i : ℕ) → EntriesRise es → IsGapFor es e.node i
-    → EntriesRise (insert es i e)
-rises-insert e es i h g = rw (insert-gap e es i g) (rises-put_in e es h (at-gap es e.node i g))
-
--- the nodes still rise after a removal
-pub rises-remove : (es : List Entry) (e : Entry) (i : ℕ) → EntriesRise es → IsTripleAt es e i
-    → EntriesRise (remove es i)
-rises-remove es e i h g = rw (remove-triple es e i h g) (rises-filter _ es h)
-
--- the nodes still rise after an entry is written over by one of its node
-pub rises-set : (es : List Entry) (e f : Entry) (i : ℕ) → EntriesRise es → IsTripleAt es e i
-    → f.node ≡ e.node → EntriesRise (set es i f)
-rises-set es e f i h g node =
-    let none : entry_at f.node (taken_out e es) ≡ None =
-    rw node (at-taken_out es e h (at-triple es e i h g)) in
-    rw (set-triple es e f i h g node) (rises-put_in f (taken_out e es) (rises-filter _ es h) none)
