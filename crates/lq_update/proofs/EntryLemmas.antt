@@ -44,11 +44,11 @@ at-node n (f ∷ es) e is = elim (cases_eq f.node n) [
 -- a node is there just where an entry is found for it
 pub has_node-at : (n : ℕ) (es : List Entry) → has_node n es ≡ is_some (entry_at n es)
 has_node-at n [] = refl
-has_node-at n (e ∷ es) = let rest = has_node-at n es in grind (arith, nat_tests)
+has_node-at n (e ∷ es) = grind (arith, nat_tests, has_node-at n es)
 
 -- an entry is the same as itself
 pub same-self : (e : Entry) → same_entry e e ≡ true
-same-self e = let name = (bytes_eq-Decides e.name e.name).1 refl in grind (arith, nat_tests)
+same-self e = grind (arith, nat_tests, (bytes_eq-Decides e.name e.name).1 refl)
 
 -- an entry, made of its parts again
 abbrev same_parts : Entry → Entry
@@ -66,10 +66,7 @@ same-entry e f is =
 -- among entries above its node a triple isn't
 has_entry-above : (e : Entry) (es : List Entry) → Above e.node es → has_entry e es ≡ false
 has_entry-above e [] h = refl
-has_entry-above e (f ∷ es) h =
-    let low = h.0 in
-    let rest = has_entry-above e es h.1 in
-    grind (arith, nat_tests)
+has_entry-above e (f ∷ es) h = grind (arith, nat_tests, h.0, has_entry-above e es h.1)
 
 -- where the nodes rise, a triple is there just where it is the one found for its node
 pub has_entry-at : (e : Entry) (es : List Entry) → EntriesRise es
@@ -79,7 +76,7 @@ has_entry-at e (f ∷ es) h = elim (cases_eq f.node e.node) [
   | inl same ↦
       let rest = has_entry-above e es (rw (← same) h.0) in
       here same rest (same_entry e f) refl
-  | inr differs ↦ let rest = has_entry-at e es h.1 in grind (arith, nat_tests)
+  | inr differs ↦ grind (arith, nat_tests, has_entry-at e es h.1)
 ]
   where
     here : f.node ≡ e.node → has_entry e es ≡ false → (b : Bool) → same_entry e f ≡ b
@@ -121,7 +118,7 @@ at-filter t n (e ∷ es) h =
       | inl same ↦
           let gone = at-above n (filter t es) (rw (← same) (above-filter t e.node es h.0)) in
           grind (arith, nat_tests)
-      | inr differs ↦ let rest = at-filter t n es h.1 in grind (arith, nat_tests)
+      | inr differs ↦ grind (arith, nat_tests, at-filter t n es h.1)
     ]
 
 -- with its triple taken out, a node has no entry
@@ -137,9 +134,7 @@ at-put_in e n (f ∷ es) none = elim (cases_lt e.node f.node) [
   | inl low ↦ grind (arith, nat_tests)
   | inr high ↦ elim (cases_eq f.node e.node) [
     | inl same ↦ grind (arith, nat_tests)
-    | inr differs ↦
-        let rest = at-put_in e n es (grind (arith, nat_tests)) in
-        grind (arith, nat_tests)
+    | inr differs ↦ grind (arith, nat_tests, at-put_in e n es (grind (arith, nat_tests)))
   ]
 ]
 
@@ -211,7 +206,7 @@ entries-same (e ∷ es) (f ∷ fs) h k same = elim (cases_lt e.node f.node) [
         let first : e ≡ f = let at = same e.node in grind (arith, nat_tests) in
         let rest : es ≡ fs = entries-same es fs h.1 k.1 (λ n. elim (cases_eq e.node n) [
           | inl is ↦ at-above n es (rw (← is) h.0) ∙ sym (at-above n fs (rw (← is, node) k.0))
-          | inr off ↦ let at = same n in grind (arith, nat_tests)
+          | inr off ↦ grind (arith, nat_tests, same n)
         ]) in
         rw (first, rest) refl
   ]

@@ -72,7 +72,7 @@ at-records test n (e ∷ es) h =
           let gone : entry_at n (map entry_of (filter test es)) ≡ None =
           at-above n (map entry_of (filter test es)) (rw (← same) (above-result test e.0 es h.0)) in
           grind (arith, nat_tests)
-      | inr differs ↦ let rest = at-records test n es h.1 in grind (arith, nat_tests)
+      | inr differs ↦ grind (arith, nat_tests, at-records test n es h.1)
     ]
 
 -- so it is the node's match

@@ -6,6 +6,7 @@ use Rattle.std.specs.List.{AllByRecursion, list_any}
 use Rattle.std.proofs.lemmas.Map.Entries.{option_filter}
 use Rattle.std.proofs.lemmas.Bool.{cases_eq}
 use Rattle.std.proofs.lemmas.Bool.Decides.{nat_tests}
+use Rattle.std.proofs.lemmas.Slice.Eq.{bytes_eq-Decides}
 use Rattle.lq_value.specs.declared.entry.Entry.{Entry}
 use Rattle.lq_update.specs.declared.message.Opcode.{Opcode}
 use Rattle.lq_update.specs.declared.message.Opcode.TheVariants.{Created, Removed, Moved}
@@ -14,7 +15,7 @@ use Rattle.lq_update.specs.Diff.{same_entry, missing, has_node, messages_of}
 use Rattle.lq_update.specs.Touched.{left, told_first, told_last}
 use Rattle.lq_update.specs.Updates.{numbered}
 use Rattle.lq_update.specs.Fold.{EntriesRise, taken_out, old_entry, folded_by, fits_result, folded, folded_one, fits_in}
-use Rattle.lq_update.proofs.ToldLemmas.{alone_if, came_op, messages-split}
+use Rattle.lq_update.proofs.ToldLemmas.{alone_if, alone-false, came_op, messages-split}
 use Rattle.lq_update.proofs.EntryLemmas.{Above, entry_at, at-node, has_node-at, has_entry-at, at-filter, rises-filter, at-put_in, rises-put_in, at-taken_out, same-self, same-entry, entries-same}
 
 -- ---- one message, without its numbers
@@ -68,16 +69,14 @@ at-folded Removed e r h is n = elim (cases_eq e.node n) [
   | inl same ↦
       let gone : entry_at n (taken_out e r) ≡ None = rw (← same) (at-taken_out r e h is) in
       grind (arith, nat_tests)
-  | inr differs ↦ let rest = at-others e n r h differs in grind (arith, nat_tests)
+  | inr differs ↦ grind (arith, nat_tests, at-others e n r h differs)
 ]
 at-folded (Moved dir name) e r h is n =
     let gone = at-taken_out r (old_entry dir name e) h is in
     let put = at-put_in e n (taken_out (old_entry dir name e) r) gone in
     elim (cases_eq e.node n) [
       | inl same ↦ grind (arith, nat_tests)
-      | inr differs ↦
-          let rest = at-others (old_entry dir name e) n r h differs in
-          grind (arith, nat_tests)
+      | inr differs ↦ grind (arith, nat_tests, at-others (old_entry dir name e) n r h differs)
     ]
 
 -- ---- messages of rising nodes
@@ -176,7 +175,7 @@ phase r (x ∷ xs) h k need =
 op_at-map : (op : Entry → Opcode) (n : ℕ) (es : List Entry)
     → op_at n (map (λ e. (op e, e)) es) ≡ option_map (λ e. (op e, e)) (entry_at n es)
 op_at-map op n [] = refl
-op_at-map op n (e ∷ es) = let rest = op_at-map op n es in grind (arith, nat_tests)
+op_at-map op n (e ∷ es) = grind (arith, nat_tests, op_at-map op n es)
 
 -- messages of entries above a node are above it
 above-map : (op : Entry → Opcode) (n : ℕ) (es : List Entry) → Above n es
@@ -215,13 +214,6 @@ pub missing-at : (n : ℕ) (es fs : List Entry) → EntriesRise es → EntriesRi
     → entry_at n (missing es fs) ≡ left (entry_at n es) (entry_at n fs)
 missing-at n es fs h k = at-filter _ n es h ∙ at (entry_at n es) refl
   where
-    by : (e : Entry) (b : Bool) → list_any (same_entry e) fs ≡ b
-        → option_map_or (same_entry e) (entry_at n fs) false ≡ b
-        → option_filter (λ d. not (list_any (same_entry d) fs)) (Some e)
-        ≡ left (Some e) (entry_at n fs)
-    by e true is same = rw (is, same) refl
-    by e false is same = rw (is, same) refl
-
     at : (o : Option Entry) → entry_at n es ≡ o
         → option_filter (λ d. not (list_any (same_entry d) fs)) o ≡ left o (entry_at n fs)
     at None is = refl
@@ -229,32 +221,23 @@ missing-at n es fs h k = at-filter _ n es h ∙ at (entry_at n es) refl
         let node = at-node n es e is in
         let any : list_any (same_entry e) fs ≡ option_map_or (same_entry e) (entry_at n fs) false =
         rw (← node) (has_entry-at e fs k) in
-        by e (option_map_or (same_entry e) (entry_at n fs) false) any refl
+        grind (arith, nat_tests)
 
 -- the entry that stands alone at a node is its own, unless a move tells of both
 pub alone-at : (moved : Bool) (n : ℕ) (es fs : List Entry) → EntriesRise es
     → entry_at n (alone_if moved es fs) ≡ told_first moved (entry_at n es) (entry_at n fs)
-alone-at moved n es fs h = at-filter _ n es h ∙ at (entry_at n es) refl
+alone-at false n es fs h = ap (entry_at n) (alone-false es fs)
+alone-at true n es fs h = at-filter _ n es h ∙ at (entry_at n es) refl (entry_at n fs) refl
   where
-    by : (moved : Bool) (e : Entry) (o : Option Entry) → has_node e.node fs ≡ is_some o
-        → option_filter (λ d. not (moved && has_node d.node fs)) (Some e)
-        ≡ told_first moved (Some e) o
-    by false e o is = refl
-    by true e None is = rw is refl
-    by true e (Some f) is = rw is refl
+    here : (e : Entry) → entry_at n es ≡ Some e → has_node e.node fs ≡ is_some (entry_at n fs)
+    here e is = has_node-at e.node fs ∙ ap (λ k. is_some (entry_at k fs)) (at-node n es e is)
 
-    none : (moved : Bool) (o : Option Entry) → None ≡ told_first moved None o
-    none false o = refl
-    none true None = refl
-    none true (Some f) = refl
-
-    at : (o : Option Entry)
-        → entry_at n es ≡ o → option_filter (λ d. not (moved && has_node d.node fs)) o
-        ≡ told_first moved o (entry_at n fs)
-    at None is = none moved (entry_at n fs)
-    at (Some e) is =
-        let node = at-node n es e is in
-        by moved e (entry_at n fs) (has_node-at e.node fs ∙ ap (λ k. is_some (entry_at k fs)) node)
+    at : (o : Option Entry) → entry_at n es ≡ o → (p : Option Entry) → entry_at n fs ≡ p
+        → option_filter (λ d. not (has_node d.node fs)) o ≡ told_first true o p
+    at None is None there = refl
+    at None is (Some f) there = refl
+    at (Some e) is None there = rw (here e is, there) refl
+    at (Some e) is (Some f) there = rw (here e is, there) refl
 
 -- ---- at one node, of what left there and what came
 
@@ -279,13 +262,13 @@ SameNode (Some e) None = Unit {0}
 SameNode (Some e) (Some f) = e.node ≡ f.node
 
 -- whether two entries are the same doesn't depend on their order
-same-swapped : (e f : Entry) (b : Bool) → same_entry e f ≡ b → same_entry f e ≡ b
-same-swapped e f true is = rw (same-entry e f is) (same-self f)
-same-swapped e f false is = back (same_entry f e) refl
-  where
-    back : (b : Bool) → same_entry f e ≡ b → same_entry f e ≡ false
-    back false k = k
-    back true k = let here : same_entry e f ≡ true = rw (same-entry f e k) (same-self e) in cc
+same-swapped : (e f : Entry) → same_entry f e ≡ same_entry e f
+same-swapped e f = grind (
+  arith,
+  nat_tests,
+  bytes_eq-Decides e.name f.name,
+  bytes_eq-Decides f.name e.name,
+)
 
 -- a node whose entry stays needs no message
 turns-same : (moved : Bool) (e f : Entry) → e ≡ f → Turns moved (Some e) (Some f) None None
@@ -313,11 +296,11 @@ turns moved (Some e) (Some f) s = both (same_entry e f) refl
         → Turns moved (Some e) (Some f) (left (Some e) (Some f)) (left (Some f) (Some e))
     both true is =
         let gone : left (Some e) (Some f) ≡ None = rw is refl in
-        let new : left (Some f) (Some e) ≡ None = rw (same-swapped e f true is) refl in
+        let new : left (Some f) (Some e) ≡ None = rw (same-swapped e f, is) refl in
         rw (gone, new) (turns-same moved e f (same-entry e f is))
     both false is =
         let gone : left (Some e) (Some f) ≡ Some e = rw is refl in
-        let new : left (Some f) (Some e) ≡ Some f = rw (same-swapped e f false is) refl in
+        let new : left (Some f) (Some e) ≡ Some f = rw (same-swapped e f, is) refl in
         rw (gone, new) (turns-apart moved e f s)
 
 -- ---- all of a difference

@@ -26,13 +26,13 @@ Located = List (ℕ × Location)
 pub entry_at-lookup : (n : ℕ) (ls : Located) → entry_at n (entries_of ls)
     ≡ option_map (λ l. entry_under (n, l)) (lookup (is_at (nat_cmp n)) ls)
 entry_at-lookup n [] = refl
-entry_at-lookup n (l ∷ ls) = let rest = entry_at-lookup n ls in grind (arith, nat_tests)
+entry_at-lookup n (l ∷ ls) = grind (arith, nat_tests, entry_at-lookup n ls)
 
 -- a node is there just where it has a location
 pub has_node-lookup : (n : ℕ) (ls : Located)
     → has_node n (entries_of ls) ≡ is_some (lookup (is_at (nat_cmp n)) ls)
 has_node-lookup n [] = refl
-has_node-lookup n (l ∷ ls) = let rest = has_node-lookup n ls in grind (arith, nat_tests)
+has_node-lookup n (l ∷ ls) = grind (arith, nat_tests, has_node-lookup n ls)
 
 -- a triple is there just where it is the entry of the location under its node
 has_entry-lookup : (e : Entry) (ls : Located) → EntriesRise (entries_of ls)
@@ -67,11 +67,8 @@ remove-taken (l ∷ ls) e h is = elim (cases_eq l.0 e.node) [
   | inl same ↦
       let here : entry_under l ≡ e = grind (arith, nat_tests) in
       let itself : same_entry e (entry_under l) ≡ true = ap (same_entry e) here ∙ same-self e in
-      let rest = taken_out-above e (entries_of ls) (rw (← same) h.0) in
-      grind (arith, nat_tests)
-  | inr differs ↦
-      let rest = remove-taken ls e h.1 (grind (arith, nat_tests)) in
-      grind (arith, nat_tests)
+      grind (arith, nat_tests, taken_out-above e (entries_of ls) (rw (← same) h.0))
+  | inr differs ↦ grind (arith, nat_tests, remove-taken ls e h.1 (grind (arith, nat_tests)))
 ]
 
 -- another location under a node puts its entry in for the triple that the node had
@@ -93,9 +90,7 @@ insert-replaced (k ∷ ls) e l h is = elim (cases_lt e.node k.0) [
         let rest = taken_out-above e (entries_of ls) above in
         let put = put_in-above (entry_under (e.node, l)) (entries_of ls) above in
         grind (arith, nat_tests)
-    | inr differs ↦
-        let rest = insert-replaced ls e l h.1 (grind (arith, nat_tests)) in
-        grind (arith, nat_tests)
+    | inr differs ↦ grind (arith, nat_tests, insert-replaced ls e l h.1 (grind (arith, nat_tests)))
   ]
 ]
 
@@ -113,8 +108,7 @@ insert-back (k ∷ ls) n l before h is = elim (cases_lt n k.0) [
   | inr high ↦ elim (cases_eq k.0 n) [
     | inl same ↦ grind (arith, nat_tests)
     | inr differs ↦
-        let rest = insert-back ls n l before h.1 (grind (arith, nat_tests)) in
-        grind (arith, nat_tests)
+        grind (arith, nat_tests, insert-back ls n l before h.1 (grind (arith, nat_tests)))
   ]
 ]
 
@@ -135,18 +129,12 @@ below-get (e ∷ es) (suc i) d h lt =
 -- a node above all others isn't there
 has_node-below : (n : ℕ) (es : List Entry) → Below n es → has_node n es ≡ false
 has_node-below n [] h = refl
-has_node-below n (e ∷ es) h =
-    let low = h.0 in
-    let rest = has_node-below n es h.1 in
-    grind (arith, nat_tests)
+has_node-below n (e ∷ es) h = grind (arith, nat_tests, h.0, has_node-below n es h.1)
 
 -- an entry above all others is put in at the end
 put_in-below : (e : Entry) (es : List Entry) → Below e.node es → put_in e es ≡ es ++ e ∷ []
 put_in-below e [] h = refl
-put_in-below e (f ∷ es) h =
-    let low = h.0 in
-    let rest = put_in-below e es h.1 in
-    grind (arith, nat_tests)
+put_in-below e (f ∷ es) h = grind (arith, nat_tests, h.0, put_in-below e es h.1)
 
 -- with the location of the next entry, those so far are of one entry more
 pub insert-next : (ls : Located) (es : List Entry) (i : ℕ) (e : Entry) → EntriesRise es

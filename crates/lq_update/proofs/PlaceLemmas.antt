@@ -80,18 +80,14 @@ at-gap [] n i g = refl
 at-gap (e ∷ es) n zero g =
     at-above n (e ∷ es) (all-higher (e ∷ es) n (λ j d lt. g.higher j d (omega arith) lt))
 at-gap (e ∷ es) n (suc i) g =
-    let lt = g.lower 0 e (omega arith) in
-    let rest = at-gap es n i (gap-tail e es n i g) in
-    grind (arith, nat_tests)
+    grind (arith, nat_tests, g.lower 0 e (omega arith), at-gap es n i (gap-tail e es n i g))
 
 -- an entry inserted at the gap for its node is put in
 pub insert-gap : (e : Entry) (es : List Entry) (i : ℕ) → IsGapFor es e.node i
     → insert es i e ≡ put_in e es
 insert-gap e [] zero g = refl
 insert-gap e [] (suc i) g = absurd (omega (arith, g.within))
-insert-gap e (f ∷ es) zero g =
-    let low = g.higher 0 f (omega arith) (omega arith) in
-    grind (arith, nat_tests)
+insert-gap e (f ∷ es) zero g = grind (arith, nat_tests, g.higher 0 f (omega arith) (omega arith))
 insert-gap e (f ∷ es) (suc i) g =
     let low = g.lower 0 f (omega arith) in
     let rest = insert-gap e es i (gap-tail f es e.node i g) in
@@ -101,7 +97,7 @@ insert-gap e (f ∷ es) (suc i) g =
 pub at-place : (es : List Entry) (n i : ℕ) (d : Entry) → EntriesRise es → IsEntryAt es n i
     → entry_at n es ≡ Some (get_or es i d)
 at-place [] n i d h g = absurd (omega (arith, g.within))
-at-place (e ∷ es) n zero d h g = let here = g.has_node e in grind (arith, nat_tests)
+at-place (e ∷ es) n zero d h g = grind (arith, nat_tests, g.has_node e)
 at-place (e ∷ es) n (suc i) d h g =
     let within : i < length es = omega (arith, g.within) in
     let above = above-get e.node es i d h.0 within in
@@ -114,18 +110,10 @@ pub triple-place : (es : List Entry) (e : Entry) (i : ℕ) → IsTripleAt es e i
 triple-place es e i g =
     record { within = g.within; has_node = λ d. ap (λ (f : Entry). f.node) (g.same d) }
 
--- a triple at a place is the entry found for its node
-pub at-triple : (es : List Entry) (e : Entry) (i : ℕ) → EntriesRise es → IsTripleAt es e i
-    → entry_at e.node es ≡ Some e
-at-triple es e i h g = at-place es e.node i e h (triple-place es e i g) ∙ ap Some (g.same e)
-
 -- taking a triple out of entries above its node leaves them all
 pub taken_out-above : (e : Entry) (es : List Entry) → Above e.node es → taken_out e es ≡ es
 taken_out-above e [] h = refl
-taken_out-above e (f ∷ es) h =
-    let low = h.0 in
-    let rest = taken_out-above e es h.1 in
-    grind (arith, nat_tests)
+taken_out-above e (f ∷ es) h = grind (arith, nat_tests, h.0, taken_out-above e es h.1)
 
 -- a triple behind the first entry is one of the list without it
 triple-tail : (f : Entry) (es : List Entry) (e : Entry) (i : ℕ) → IsTripleAt (f ∷ es) e (suc i)
@@ -146,8 +134,7 @@ remove-triple [] e i h g = absurd (omega (arith, g.within))
 remove-triple (f ∷ es) e zero h g =
     let is : f ≡ e = g.same e in
     let same : same_entry e f ≡ true = rw is (same-self e) in
-    let rest = taken_out-above e es (rw (← is) h.0) in
-    grind (arith, nat_tests)
+    grind (arith, nat_tests, taken_out-above e es (rw (← is) h.0))
 remove-triple (f ∷ es) e (suc i) h g =
     let lt = triple-above f es e i h g in
     let rest = remove-triple es e i h.1 (triple-tail f es e i g) in
@@ -156,7 +143,7 @@ remove-triple (f ∷ es) e (suc i) h g =
 -- a triple put in below all others goes to the front
 pub put_in-above : (e : Entry) (es : List Entry) → Above e.node es → put_in e es ≡ e ∷ es
 put_in-above e [] h = refl
-put_in-above e (f ∷ es) h = let low = h.0 in grind (arith, nat_tests)
+put_in-above e (f ∷ es) h = grind (arith, nat_tests, h.0)
 
 -- an entry at its node's place in place of another
 pub set-triple : (es : List Entry) (e f : Entry) (i : ℕ) → EntriesRise es → IsTripleAt es e i
@@ -199,18 +186,11 @@ has_entry-lacks es e h lacks = has_entry-at e es h
     at None none = refl
     at (Some f) none = cc
 
--- a node with a gap isn't there
-pub has_node-gap : (es : List Entry) (n i : ℕ) → IsGapFor es n i → has_node n es ≡ false
-has_node-gap es n i g = has_node-at n es ∙ ap is_some (at-gap es n i g)
-
--- a node with a place is there
-pub has_node-place : (es : List Entry) (n i : ℕ) (d : Entry) → EntriesRise es → IsEntryAt es n i
-    → has_node n es ≡ true
-has_node-place es n i d h g = has_node-at n es ∙ ap is_some (at-place es n i d h g)
-
 -- a search says whether a node is there
 pub has_node-search : (es : List Entry) (n : ℕ) (r : Result ℕ ℕ) → EntriesRise es
     → IfOk r (IsEntryAt es n) → IfErr r (IsGapFor es n) → has_node n es ≡ is_ok r
 has_node-search [] n (Ok i) h found absent = absurd (omega (arith, found.within))
-has_node-search (e ∷ es) n (Ok i) h found absent = has_node-place (e ∷ es) n i e h found
-has_node-search es n (Err i) h found absent = has_node-gap es n i absent
+has_node-search (e ∷ es) n (Ok i) h found absent =
+    has_node-at n (e ∷ es) ∙ ap is_some (at-place (e ∷ es) n i e h found)
+has_node-search es n (Err i) h found absent =
+    has_node-at n es ∙ ap is_some (at-gap es n i absent)

@@ -1,9 +1,10 @@
 -- The messages of what left and what came, with moves and without, in one form.
 use Rattle.std.proofs.Common.{◌≡◌, List, [], ◌∷◌, ◌++◌, refl, ap, ◌∙◌, Bool, true, false, arith}
-use Rattle.std.specs.Prelude.{map, filter, not, ◌&&◌, ◌==◌, Option, Some, None}
+use Rattle.std.specs.Prelude.{cond, map, filter, not, ◌&&◌, ◌==◌, Option, Some, None}
 use Rattle.std.specs.Option.{option_map, option_map_or}
 use Rattle.std.specs.List.{find, list_any}
 use Rattle.std.proofs.lemmas.Bool.Decides.{nat_tests}
+use Rattle.std.proofs.lemmas.Simd.{map-map}
 use Rattle.std.proofs.lemmas.List.{map-append}
 use Rattle.std.proofs.lemmas.List.Elements.{filter-append}
 use Rattle.lq_value.specs.declared.entry.Entry.{Entry}
@@ -11,6 +12,22 @@ use Rattle.lq_update.specs.declared.message.Opcode.{Opcode}
 use Rattle.lq_update.specs.declared.message.Opcode.TheVariants.{Created, Removed, Moved}
 use Rattle.lq_update.specs.Diff.{as_moved, has_node, is_move, messages_of, without_moves}
 use Rattle.lq_update.proofs.EntryLemmas.{entry_at}
+
+-- to filter what a function gives is to filter by what it gives
+filter-map : {X Y : Type 0} (f : X → Y) (p : Y → Bool) (xs : List X)
+    → filter p (map f xs) ≡ map f (filter (λ x. p (f x)) xs)
+filter-map f p [] = refl
+filter-map f p (x ∷ xs) =
+    elim (p (f x)) as (λ b. cond b (f x ∷ filter p (map f xs)) (filter p (map f xs))
+    ≡ map f (cond b (x ∷ filter (λ y. p (f y)) xs) (filter (λ y. p (f y)) xs))) [
+      | true ↦ ap (λ rest. f x ∷ rest) (filter-map f p xs)
+      | false ↦ filter-map f p xs
+    ]
+
+-- a filter that all pass leaves all
+filter-true : {X : Type 0} (xs : List X) → filter (λ _. true) xs ≡ xs
+filter-true [] = refl
+filter-true (x ∷ xs) = ap (λ rest. x ∷ rest) (filter-true xs)
 
 -- the entries whose node is in none of the others
 abbrev pub alone : List Entry → List Entry → List Entry
@@ -21,9 +38,8 @@ abbrev pub alone_if : Bool → List Entry → List Entry → List Entry
 alone_if moved entries others = filter (λ e. not (moved && has_node e.node others)) entries
 
 -- without moves these are all entries
-alone-false : (es fs : List Entry) → alone_if false es fs ≡ es
-alone-false [] fs = refl
-alone-false (e ∷ es) fs = ap (λ rest. e ∷ rest) (alone-false es fs)
+pub alone-false : (es fs : List Entry) → alone_if false es fs ≡ es
+alone-false es fs = filter-true es
 
 -- what is told of an entry that came: that it was created, or moved from where its node was
 abbrev pub came_op : Bool → List Entry → Entry → Opcode
@@ -35,7 +51,7 @@ came_op true gone f =
 removed-any : (e : Entry) (gone come : List Entry)
     → list_any (is_move (Removed, e)) (without_moves gone come) ≡ has_node e.node come
 removed-any e [] [] = refl
-removed-any e [] (f ∷ come) = let rest = removed-any e [] come in grind (arith, nat_tests)
+removed-any e [] (f ∷ come) = grind (arith, nat_tests, removed-any e [] come)
 removed-any e (g ∷ gone) come = removed-any e gone come
 
 -- so those of the entries that stand alone stay
@@ -43,20 +59,8 @@ removed-kept : (es gone come : List Entry)
     → filter (λ m. not (list_any (is_move m) (without_moves gone come)))
     (map (λ e. (Removed, e)) es)
     ≡ map (λ e. (Removed, e)) (alone es come)
-removed-kept [] gone come = refl
-removed-kept (e ∷ es) gone come =
-    by (has_node e.node come) refl (removed-any e gone come) (removed-kept es gone come)
-  where
-    keeps : Opcode × Entry → Bool
-    keeps m = not (list_any (is_move m) (without_moves gone come))
-
-    by : (b : Bool) → has_node e.node come ≡ b
-        → list_any (is_move (Removed, e)) (without_moves gone come) ≡ has_node e.node come
-        → filter keeps (map (λ e. (Removed, e)) es) ≡ map (λ e. (Removed, e)) (alone es come)
-        → filter keeps (map (λ e. (Removed, e)) (e ∷ es))
-        ≡ map (λ e. (Removed, e)) (alone (e ∷ es) come)
-    by true is any rest = rw (any, is, rest) refl
-    by false is any rest = rw (any, is, rest) refl
+removed-kept es gone come = filter-map (λ e. (Removed, e)) _ es
+    ∙ (λ i. map (λ e. (Removed, e)) (filter (λ e. not (removed-any e gone come i)) es))
 
 -- a created message is no first of a move
 created-any : (f : Entry) (ms : List (Opcode × Entry)) → list_any (is_move (Created, f)) ms ≡ false
@@ -67,9 +71,9 @@ created-any f (m ∷ ms) = created-any f ms
 created-kept : (ms : List (Opcode × Entry)) (fs : List Entry)
     → filter (λ m. not (list_any (is_move m) ms)) (map (λ f. (Created, f)) fs)
     ≡ map (λ f. (Created, f)) fs
-created-kept ms [] = refl
-created-kept ms (f ∷ fs) =
-    rw (created-any f ms) (ap (λ rest. (Created, f) ∷ rest) (created-kept ms fs))
+created-kept ms fs = filter-map (λ f. (Created, f)) _ fs
+    ∙ ((λ i. map (λ f. (Created, f)) (filter (λ f. not (created-any f ms i)) fs))
+    ∙ ap (map (λ f. (Created, f))) (filter-true fs))
 
 -- a removed message is no second of a move
 find-none : (e : Entry) (ms : List (Opcode × Entry)) → find (λ m. is_move m (Removed, e)) ms ≡ None
@@ -81,9 +85,9 @@ find-none e ((Moved dir name, d) ∷ ms) = find-none e ms
 -- so it becomes no moved one
 removed-stay : (ms : List (Opcode × Entry)) (es : List Entry)
     → map (as_moved ms) (map (λ e. (Removed, e)) es) ≡ map (λ e. (Removed, e)) es
-removed-stay ms [] = refl
-removed-stay ms (e ∷ es) =
-    rw (find-none e ms) (ap (λ rest. (Removed, e) ∷ rest) (removed-stay ms es))
+removed-stay ms es = map-map (as_moved ms) (λ e. (Removed, e)) es
+    ∙ (λ i. map (λ e. option_map_or (λ m. (Moved m.1.dir m.1.name, e)) (find-none e ms i)
+    (Removed, e)) es)
 
 -- a created message makes a move with the removed one of its node
 find-came : (f : Entry) (gone come : List Entry)
@@ -91,33 +95,31 @@ find-came : (f : Entry) (gone come : List Entry)
     ≡ option_map (λ e. (Removed, e)) (entry_at f.node gone)
 find-came f [] [] = refl
 find-came f [] (d ∷ come) = find-came f [] come
-find-came f (e ∷ gone) come = by (e.node == f.node) refl (find-came f gone come)
-  where
-    by : (b : Bool) → (e.node == f.node) ≡ b
-        → find (λ m. is_move m (Created, f)) (without_moves gone come)
-        ≡ option_map (λ e. (Removed, e)) (entry_at f.node gone)
-        → find (λ m. is_move m (Created, f)) (without_moves (e ∷ gone) come)
-        ≡ option_map (λ e. (Removed, e)) (entry_at f.node (e ∷ gone))
-    by true is rest = rw is refl
-    by false is rest = rw is rest
+find-came f (e ∷ gone) come =
+    elim (e.node == f.node) as (λ b.
+    cond b (Some (Removed, e)) (find (λ m. is_move m (Created, f)) (without_moves gone come))
+    ≡ option_map (λ d. (Removed, d)) (cond b (Some e) (entry_at f.node gone))) [
+      | true ↦ refl
+      | false ↦ find-came f gone come
+    ]
 
 -- so it becomes what is told of its entry
 created-told : (gone come fs : List Entry)
     → map (as_moved (without_moves gone come)) (map (λ f. (Created, f)) fs)
     ≡ map (λ f. (came_op true gone f, f)) fs
-created-told gone come [] = refl
-created-told gone come (f ∷ fs) =
-    by (entry_at f.node gone) refl (find-came f gone come) (created-told gone come fs)
+created-told gone come fs = map-map (as_moved (without_moves gone come)) (λ f. (Created, f)) fs
+    ∙ (λ i. map (λ f. told f i) fs)
   where
-    by : (o : Option Entry) → entry_at f.node gone ≡ o
-        → find (λ m. is_move m (Created, f)) (without_moves gone come)
-        ≡ option_map (λ e. (Removed, e)) (entry_at f.node gone)
-        → map (as_moved (without_moves gone come)) (map (λ f. (Created, f)) fs)
-        ≡ map (λ f. (came_op true gone f, f)) fs
-        → map (as_moved (without_moves gone come)) (map (λ f. (Created, f)) (f ∷ fs))
-        ≡ map (λ f. (came_op true gone f, f)) (f ∷ fs)
-    by None is found rest = rw (found, is, rest) refl
-    by (Some e) is found rest = rw (found, is, rest) refl
+    by : (f : Entry) (o : Option Entry) → ◌≡◌ {A = Opcode × Entry}
+        (option_map_or (λ (m : Opcode × Entry). (Moved m.1.dir m.1.name, f))
+        (option_map (λ e. (Removed, e)) o)
+        (Created, f)) (option_map_or (λ e. Moved e.dir e.name) o Created, f)
+    by f None = refl
+    by f (Some e) = refl
+
+    told : (f : Entry) → ◌≡◌ {A = Opcode × Entry} (as_moved (without_moves gone come) (Created, f))
+        (came_op true gone f, f)
+    told f = rw (find-came f gone come) (by f (entry_at f.node gone))
 
 -- the messages with moves and those without, in one form
 pub messages-split : (moved : Bool) (gone come : List Entry) → messages_of moved gone come

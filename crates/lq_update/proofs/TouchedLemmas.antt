@@ -34,7 +34,7 @@ two-entries [] a b h lt off = refl
 two-entries (e ∷ es) a b h lt off =
     let rest = two-entries es a b h.1 lt (λ n x y. behind n (off n x y)) in
     elim (cases_eq e.node a) [
-      | inl same ↦ let gone = at-above a es (rw (← same) h.0) in grind (arith, nat_tests)
+      | inl same ↦ grind (arith, nat_tests, at-above a es (rw (← same) h.0))
       | inr differs ↦ elim (cases_eq e.node b) [
         | inl same ↦
             let gone = at-above b es (rw (← same) h.0) in
