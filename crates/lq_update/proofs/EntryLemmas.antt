@@ -73,16 +73,9 @@ pub has_entry-at : (e : Entry) (es : List Entry) → EntriesRise es
     → has_entry e es ≡ option_map_or (same_entry e) (entry_at e.node es) false
 has_entry-at e [] h = refl
 has_entry-at e (f ∷ es) h = elim (cases_eq f.node e.node) [
-  | inl same ↦
-      let rest = has_entry-above e es (rw (← same) h.0) in
-      here same rest (same_entry e f) refl
+  | inl same ↦ grind (arith, nat_tests, has_entry-above e es (rw (← same) h.0))
   | inr differs ↦ grind (arith, nat_tests, has_entry-at e es h.1)
 ]
-  where
-    here : f.node ≡ e.node → has_entry e es ≡ false → (b : Bool) → same_entry e f ≡ b
-        → has_entry e (f ∷ es) ≡ option_map_or (same_entry e) (entry_at e.node (f ∷ es)) false
-    here same rest true is = grind (arith, nat_tests)
-    here same rest false is = grind (arith, nat_tests)
 
 -- what a filter leaves is above a node where all was
 above-filter : (t : Entry → Bool) (n : ℕ) (es : List Entry) → Above n es → Above n (filter t es)
@@ -173,13 +166,14 @@ at-has_entry e es h has = found (entry_at e.node es) refl (sym (has_entry-at e e
     found None is same = cc
     found (Some f) is same = is ∙ ap Some (sym (same-entry e f same))
 
+-- an option that has no value
+pub none-of : {A : Type 0} (o : Option A) → is_some o ≡ false → o ≡ None
+none-of None h = refl
+none-of (Some x) h = cc
+
 -- where a node isn't there no entry is found for it
 pub at-lacks : (n : ℕ) (es : List Entry) → has_node n es ≡ false → entry_at n es ≡ None
-at-lacks n es lacks = none (entry_at n es) (sym (has_node-at n es) ∙ lacks)
-  where
-    none : (o : Option Entry) → is_some o ≡ false → o ≡ None
-    none None is = refl
-    none (Some e) is = cc
+at-lacks n es lacks = none-of (entry_at n es) (sym (has_node-at n es) ∙ lacks)
 
 -- with a triple of its node in place of one that is there, the nodes still rise
 pub rises-replaced : (e old : Entry) (es : List Entry) → EntriesRise es → has_entry old es ≡ true

@@ -1,26 +1,25 @@
 -- Folding an update list gives a result, and no message of one fails to fit.
-use Rattle.std.proofs.Common.{◌≡◌, ℕ, suc, zero, ◌+◌, ◌-◌, ◌<◌, ◌≤◌, List, [], ◌∷◌, ◌++◌, length, take, drop, refl, sym, ap, subst, ◌∙◌, Bool, true, false, arith, inl, inr, ◌⊎◌, append-nil}
+use Rattle.std.proofs.Common.{◌≡◌, ℕ, suc, zero, ◌+◌, ◌-◌, ◌<◌, ◌≤◌, List, [], ◌∷◌, ◌++◌, length, take, drop, refl, sym, ap, ◌∙◌, Bool, true, false, arith, inl, inr}
 use Rattle.std.specs.Prelude.{map, filter, ◌==◌, nat_eq, cond, Some, None, option_and_then}
 use Rattle.std.specs.Map.{lookup}
 use Rattle.std.proofs.lemmas.Bool.{cases_eq}
 use Rattle.std.specs.List.{AllByRecursion}
 use Rattle.std.proofs.lemmas.Bool.Decides.{nat_tests}
 use Rattle.std.proofs.Math.Seq.{take-add}
-use Rattle.std.proofs.lemmas.List.{length-take, length-take-le, take-take}
+use Rattle.std.proofs.lemmas.List.{length-take, length-take-le}
 use Rattle.lq_value.specs.declared.entry.Entry.{Entry}
 use Rattle.lq_predicate.specs.Query.{Query}
 use Rattle.lq_predicate.specs.Truth.{truth}
 use Rattle.lq_volume.specs.declared.change.Change.{Change}
 use Rattle.lq_volume.specs.State.{State, Record, Rises, IsVolume}
-use Rattle.lq_volume.specs.Change.{after, IsLawful}
+use Rattle.lq_volume.specs.Change.{after}
 use Rattle.lq_volume.specs.Book.{Book, number_of, after_all, state_at, changes_between, AreLawful, IsBook}
 use Rattle.lq_volume.specs.Result.{result_of, match_at, entry_of, shown}
 use Rattle.lq_volume.specs.Laws.{ChangesKeepTrees, ChangesCount}
 use Rattle.lq_update.specs.declared.message.Message.{Message}
-use Rattle.lq_update.specs.declared.message.Opcode.{Opcode}
 use Rattle.lq_update.specs.Diff.{diff}
-use Rattle.lq_update.specs.Updates.{numbered, step_of, updates_from, updates_of, IsSettled}
-use Rattle.lq_update.specs.Fold.{EntriesRise, folded, folded_one, fits_in, last_change}
+use Rattle.lq_update.specs.Updates.{step_of, updates_from, updates_of}
+use Rattle.lq_update.specs.Fold.{EntriesRise, folded, folded_one, fits_in}
 use Rattle.lq_update.specs.Laws.{ResultsRise, WholeFoldsGiveResults, MessagesFitIn}
 use Rattle.lq_update.proofs.Lists.{after_all-append}
 use Rattle.lq_update.proofs.EntryLemmas.{Above, entry_at, at-above}

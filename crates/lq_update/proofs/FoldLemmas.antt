@@ -1,6 +1,6 @@
 -- Folding what two results differ by over the one gives the other.
 use Rattle.std.proofs.Common.{◌≡◌, ℕ, ◌+◌, ◌<◌, List, [], ◌∷◌, ◌++◌, refl, sym, ap, subst, ◌∙◌, Bool, true, false, arith, inl, inr}
-use Rattle.std.specs.Prelude.{Option, Some, None, is_some, map, not, ◌&&◌, ◌==◌, if◌then◌else◌}
+use Rattle.std.specs.Prelude.{Option, Some, None, is_some, map, not, ◌==◌, if◌then◌else◌}
 use Rattle.std.specs.Option.{option_map, option_map_or}
 use Rattle.std.specs.List.{AllByRecursion, list_any}
 use Rattle.std.proofs.lemmas.Map.Entries.{option_filter}
@@ -317,10 +317,6 @@ fit-append : (r : List Entry) (xs ys : List Op) → OpsFit r xs → OpsFit (ops_
 fit-append r [] ys p q = q
 fit-append r (x ∷ xs) ys p q = (p.0, fit-append (folded_by x.0 x.1 r) xs ys p.1 q)
 
--- what a message needs may be said of equal messages and entries
-need-same : (x y : Option Op) (o p : Option Entry) → x ≡ y → o ≡ p → NeedAt y p → NeedAt x o
-need-same x y o p is at need = rw (is, at) need
-
 -- the entries that a node has in two results have that node
 same-nodes : (n : ℕ) (es fs : List Entry) → SameNode (entry_at n es) (entry_at n fs)
 same-nodes n es fs = at (entry_at n es) refl (entry_at n fs) refl
@@ -341,6 +337,14 @@ module _ (moved : Bool) (es fs : List Entry) (h : EntriesRise es) (k : EntriesRi
   abbrev came_ops : List Op
   came_ops = map (λ f. (came_op moved (missing es fs) f, f)) (missing fs es)
 
+  -- what left at a node
+  abbrev gone_at : ℕ → Option Entry
+  gone_at n = left (entry_at n es) (entry_at n fs)
+
+  -- what came there
+  abbrev came_at : ℕ → Option Entry
+  came_at n = left (entry_at n fs) (entry_at n es)
+
   -- what left rises
   gone-rises : EntriesRise (missing es fs)
   gone-rises = rises-filter _ es h
@@ -350,47 +354,43 @@ module _ (moved : Bool) (es fs : List Entry) (h : EntriesRise es) (k : EntriesRi
   came-rises = rises-filter _ fs k
 
   -- the removed message of a node is the one by what left there and what came
-  removed-at : (n : ℕ) → op_at n removed_ops ≡ removed_op moved
-      (left (entry_at n es) (entry_at n fs)) (left (entry_at n fs) (entry_at n es))
+  removed-at : (n : ℕ) → op_at n removed_ops ≡ removed_op moved (gone_at n) (came_at n)
   removed-at n = op_at-map (λ _. Removed) n (alone_if moved (missing es fs) (missing fs es))
       ∙ ap (option_map (λ e. (Removed, e))) (alone-at moved n (missing es fs)
       (missing fs es) gone-rises ∙ rw (missing-at n es fs h k, missing-at n fs es k h) refl)
 
   -- and so is the one that is told last
-  came-at : (n : ℕ) → op_at n came_ops ≡ told_last moved
-      (left (entry_at n es) (entry_at n fs)) (left (entry_at n fs) (entry_at n es))
+  came-at : (n : ℕ) → op_at n came_ops ≡ told_last moved (gone_at n) (came_at n)
   came-at n = op_at-map (came_op moved (missing es fs)) n (missing fs es)
       ∙ (came-told moved n (missing es fs) (missing fs es)
       ∙ rw (missing-at n es fs h k, missing-at n fs es k h) refl)
 
   -- at each node they go from the first list's entry to the second's
-  turn : (n : ℕ) → Turns moved (entry_at n es) (entry_at n fs)
-      (left (entry_at n es) (entry_at n fs)) (left (entry_at n fs) (entry_at n es))
+  turn : (n : ℕ) → Turns moved (entry_at n es) (entry_at n fs) (gone_at n) (came_at n)
   turn n = turns moved (entry_at n es) (entry_at n fs) (same-nodes n es fs)
 
   -- the removed messages fit the first list
   first_phase : Phase es removed_ops
   first_phase = phase es removed_ops h (rises-map (λ _. Removed) _ (rises-filter _ _ gone-rises))
-      (λ n. need-same _ _ _ _ (removed-at n) refl (turn n).removed)
+      (λ n. rw (removed-at n) (turn n).removed)
 
   -- what they leave at each node
-  at-first : (n : ℕ) → entry_at n (ops_folded es removed_ops) ≡ outcome (removed_op moved
-      (left (entry_at n es) (entry_at n fs)) (left (entry_at n fs) (entry_at n es))) (entry_at n es)
+  at-first : (n : ℕ) → entry_at n (ops_folded es removed_ops)
+      ≡ outcome (removed_op moved (gone_at n) (came_at n)) (entry_at n es)
   at-first n = first_phase.at n ∙ ap (λ x. outcome x (entry_at n es)) (removed-at n)
 
   -- the messages of what came fit what those leave
   second_phase : Phase (ops_folded es removed_ops) came_ops
   second_phase = phase (ops_folded es removed_ops) came_ops first_phase.rise
       (rises-map (came_op moved (missing es fs)) _ came-rises)
-      (λ n. need-same _ _ _ _ (came-at n) (at-first n) (turn n).came)
+      (λ n. rw (came-at n, at-first n) (turn n).came)
 
   -- what they leave at each node is the second list's entry
   at-second : (n : ℕ)
       → entry_at n (ops_folded (ops_folded es removed_ops) came_ops) ≡ entry_at n fs
   at-second n = second_phase.at n
       ∙ (ap (λ x. outcome x (entry_at n (ops_folded es removed_ops))) (came-at n)
-      ∙ (ap (outcome (told_last moved (left (entry_at n es) (entry_at n fs))
-      (left (entry_at n fs) (entry_at n es)))) (at-first n) ∙ (turn n).end))
+      ∙ (ap (outcome (told_last moved (gone_at n) (came_at n))) (at-first n) ∙ (turn n).end))
 
   -- folding the difference over the first list gives the second
   pub told-folds : ops_folded es (messages_of moved (missing es fs) (missing fs es)) ≡ fs

@@ -1,6 +1,6 @@
 -- What an edit of a map from nodes to locations does to the entries.
 use Rattle.std.proofs.Common.{◌≡◌, ℕ, zero, suc, ◌+◌, ◌<◌, List, [], ◌∷◌, ◌++◌, length, take, get_or, refl, sym, ap, ◌∙◌, true, false, arith, inl, inr}
-use Rattle.std.specs.Prelude.{Option, Some, None, is_some, ◌==◌, ◌&&◌}
+use Rattle.std.specs.Prelude.{Some, None, is_some, ◌==◌, ◌&&◌}
 use Rattle.std.specs.Option.{option_map, option_map_or}
 use Rattle.std.specs.List.{AllByRecursion}
 use Rattle.std.specs.Str.{bytes_eq}
@@ -15,7 +15,7 @@ use Rattle.lq_update.specs.declared.locations.Location.{Location}
 use Rattle.lq_update.specs.Diff.{same_entry, has_node}
 use Rattle.lq_update.specs.Fold.{EntriesRise, taken_out, put_in, has_entry}
 use Rattle.lq_update.specs.Locations.{entry_under, entries_of}
-use Rattle.lq_update.proofs.EntryLemmas.{Above, entry_at, same-self, same-entry, above-lower, at-above, has_node-at, has_entry-at, rises-filter, rises-put_in, at-taken_out}
+use Rattle.lq_update.proofs.EntryLemmas.{Above, entry_at, same-self, above-lower, at-above, has_entry-at}
 use Rattle.lq_update.proofs.PlaceLemmas.{above-get, taken_out-above, put_in-above}
 
 -- nodes with their locations

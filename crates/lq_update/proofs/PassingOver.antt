@@ -10,7 +10,6 @@ use Rattle.std.proofs.lemmas.Bool.Decides.{nat_tests}
 use Rattle.std.proofs.lemmas.Slice.Eq.{bytes_eq-Decides}
 use Rattle.lq_value.specs.declared.entry.Entry.{Entry}
 use Rattle.lq_value.specs.declared.field.Field.TheVariants.{Name, Size, LastModified, Attribute}
-use Rattle.lq_value.specs.declared.value.Value.{Value}
 use Rattle.lq_value.specs.Field.{field_of}
 use Rattle.lq_predicate.specs.Query.{Query}
 use Rattle.lq_predicate.specs.Laws.{BareRowsFail, GoesBy, TruthStaysBesideSpans}

@@ -1,7 +1,6 @@
 -- What a search among entries that rise by node finds, and what an edit at that place does.
 use Rattle.std.proofs.Common.{◌≡◌, ℕ, zero, suc, ◌<◌, ◌≤◌, List, [], ◌∷◌, length, get_or, set, refl, sym, ap, ◌∙◌, Bool, true, false, arith, inl, inr, Result, Ok, Err, IfOk, IfErr}
-use Rattle.std.specs.Prelude.{Option, Some, None, is_some, is_ok}
-use Rattle.std.specs.Option.{option_map_or}
+use Rattle.std.specs.Prelude.{Some, None, is_some, is_ok}
 use Rattle.std.specs.List.{insert, remove}
 use Rattle.std.specs.List.Sorted.{IsSearchInRange, IsBinarySearchResult, IsNonDecreasingBy}
 use Rattle.std.specs.Ordering.{nat_cmp, ordering_index}
@@ -13,7 +12,7 @@ use Rattle.lq_value.specs.declared.entry.Entry.{Entry}
 use Rattle.lq_update.specs.Diff.{same_entry, has_node}
 use Rattle.lq_update.specs.Fold.{EntriesRise, taken_out, put_in, has_entry}
 use Rattle.lq_update.specs.Place.{IsEntryAt, IsTripleAt, IsGapFor}
-use Rattle.lq_update.proofs.EntryLemmas.{Above, entry_at, same-self, same-entry, at-above, has_node-at, has_entry-at, rises-filter, rises-put_in, at-taken_out}
+use Rattle.lq_update.proofs.EntryLemmas.{Above, at-lacks, entry_at, same-self, same-entry, at-above, has_node-at, has_entry-at}
 
 -- each entry of a list above a node is above it
 pub above-get : (n : ℕ) (es : List Entry) (i : ℕ) (d : Entry) → Above n es → i < length es
@@ -179,12 +178,7 @@ has_entry-read es e f i b h g read same = has_entry-at e es h
 -- where a node has no entry, no triple of it is there
 pub has_entry-lacks : (es : List Entry) (e : Entry) → EntriesRise es → has_node e.node es ≡ false
     → has_entry e es ≡ false
-has_entry-lacks es e h lacks = has_entry-at e es h
-    ∙ at (entry_at e.node es) (sym (has_node-at e.node es) ∙ lacks)
-  where
-    at : (o : Option Entry) → is_some o ≡ false → option_map_or (same_entry e) o false ≡ false
-    at None none = refl
-    at (Some f) none = cc
+has_entry-lacks es e h lacks = has_entry-at e es h ∙ rw (at-lacks e.node es lacks) refl
 
 -- a search says whether a node is there
 pub has_node-search : (es : List Entry) (n : ℕ) (r : Result ℕ ℕ) → EntriesRise es

@@ -1,6 +1,6 @@
 -- What a change tells: of its own node, and of the node that a move takes away.
 use Rattle.std.proofs.Common.{◌≡◌, ◌≢◌, ℕ, suc, ◌+◌, ◌<◌, ◌≤◌, length, List, [], ◌∷◌, ◌++◌, refl, sym, arith, ap, ◌∙◌, Bool, true, false, inl, inr, append-nil}
-use Rattle.std.specs.Prelude.{nat_lt, map, cond, ◌==◌, Option, Some, None, IfSome, is_some, option_and_then}
+use Rattle.std.specs.Prelude.{nat_lt, map, cond, Option, Some, None, IfSome, option_and_then}
 use Rattle.std.specs.Option.{option_map, option_map_or, option_to_list}
 use Rattle.std.specs.List.{AllByRecursion}
 use Rattle.std.proofs.lemmas.Bool.{cases_eq, cases_lt}
@@ -98,11 +98,6 @@ match-unmatched : (q : Query) (n : ℕ) (o : Option Record) → is_match q o ≡
     → option_and_then (λ r. entry_if q (n, r)) o ≡ None
 match-unmatched q n None h = refl
 match-unmatched q n (Some r) h = rw h refl
-
--- an option that has no value
-pub none-of : {A : Type 0} (o : Option A) → is_some o ≡ false → o ≡ None
-none-of None h = refl
-none-of (Some x) h = cc
 
 -- the removed entries: that of one node, and that of another in its order
 abbrev pub removed_of : Query → State → Option Entry → ℕ → Option ℕ → List Entry

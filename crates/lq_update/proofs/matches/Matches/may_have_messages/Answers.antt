@@ -1,9 +1,10 @@
 use mathlib.Core.Bool.{beq}
 use Rattle.std.proofs.Common.{◌≡◌, ◌∙◌, Bool, true, false, not, refl, sym, ap, None}
 use Rattle.std.specs.Option.{option_map, option_copied}
-use Rattle.lq_volume.specs.Change.{clobbered, node_of}
+use Rattle.lq_volume.specs.Change.{node_of}
 use Rattle.lq_update.specs.Touched.{entry_at}
-use Rattle.lq_update.proofs.TouchedLemmas.{none-of, told-left, told-unmatched}
+use Rattle.lq_update.proofs.EntryLemmas.{none-of}
+use Rattle.lq_update.proofs.TouchedLemmas.{told-left, told-unmatched}
 use Rattle.lq_update.proofs.matches.Matches.may_have_messages.Goals as goal
 
 pub returns-then-not-self : goal.returns-then-not-self

@@ -1,4 +1,4 @@
-use Rattle.std.proofs.Common.{◌≡◌, ◌∙◌, ap, sym, Some, None}
+use Rattle.std.proofs.Common.{◌∙◌, ap, sym, Some}
 use Rattle.std.specs.Option.{option_copied, option_map}
 use Rattle.lq_volume.specs.Change.{node_of}
 use Rattle.lq_volume.specs.Result.{entry_of}
