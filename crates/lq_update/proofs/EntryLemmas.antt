@@ -34,12 +34,7 @@ above-lower j k (e ∷ es) lt h = (omega (arith, h.0), above-lower j k es lt h.1
 -- the entry found for a node has that node
 pub at-node : (n : ℕ) (es : List Entry) (e : Entry) → entry_at n es ≡ Some e → e.node ≡ n
 at-node n [] e is = cc
-at-node n (f ∷ es) e is = elim (cases_eq f.node n) [
-  | inl same ↦
-      let here : f ≡ e = grind (arith, nat_tests) in
-      sym (ap (λ (d : Entry). d.node) here) ∙ same
-  | inr differs ↦ at-node n es e (grind (arith, nat_tests))
-]
+at-node n (f ∷ es) e is = grind (arith, nat_tests, at-node n es e)
 
 -- a node is there just where an entry is found for it
 pub has_node-at : (n : ℕ) (es : List Entry) → has_node n es ≡ is_some (entry_at n es)
@@ -50,18 +45,9 @@ has_node-at n (e ∷ es) = grind (arith, nat_tests, has_node-at n es)
 pub same-self : (e : Entry) → same_entry e e ≡ true
 same-self e = grind (arith, nat_tests, (bytes_eq-Decides e.name e.name).1 refl)
 
--- an entry, made of its parts again
-abbrev same_parts : Entry → Entry
-same_parts e = record { dir = e.dir; name = e.name; node = e.node }
-
 -- two entries for which the test holds are equal
 pub same-entry : (e f : Entry) → same_entry e f ≡ true → e ≡ f
-same-entry e f is =
-    let dir : e.dir ≡ f.dir = grind (arith, nat_tests) in
-    let node : e.node ≡ f.node = grind (arith, nat_tests) in
-    let name : e.name ≡ f.name = grind (arith, nat_tests, bytes_eq-Decides e.name f.name) in
-    let both : same_parts e ≡ same_parts f = rw (dir, name, node) refl in
-    both
+same-entry e f is = grind (arith, nat_tests, bytes_eq-Decides e.name f.name)
 
 -- among entries above its node a triple isn't
 has_entry-above : (e : Entry) (es : List Entry) → Above e.node es → has_entry e es ≡ false
@@ -123,13 +109,7 @@ at-taken_out es e h is = at-filter _ e.node es h ∙ rw (is, same-self e) refl
 pub at-put_in : (e : Entry) (n : ℕ) (es : List Entry) → entry_at e.node es ≡ None
     → entry_at n (put_in e es) ≡ (if e.node == n then Some e else entry_at n es)
 at-put_in e n [] none = refl
-at-put_in e n (f ∷ es) none = elim (cases_lt e.node f.node) [
-  | inl low ↦ grind (arith, nat_tests)
-  | inr high ↦ elim (cases_eq f.node e.node) [
-    | inl same ↦ grind (arith, nat_tests)
-    | inr differs ↦ grind (arith, nat_tests, at-put_in e n es (grind (arith, nat_tests)))
-  ]
-]
+at-put_in e n (f ∷ es) none = grind (arith, nat_tests, at-put_in e n es)
 
 -- with a triple above a node put in, all is above that node still
 above-put_in : (e : Entry) (n : ℕ) (es : List Entry) → n < e.node → Above n es

@@ -65,19 +65,12 @@ pub at-folded : (op : Opcode) (e : Entry) (r : List Entry)
     → EntriesRise r → entry_at e.node r ≡ needs op e → (n : ℕ)
     → entry_at n (folded_by op e r) ≡ (if e.node == n then gives op e else entry_at n r)
 at-folded Created e r h is n = at-put_in e n r is
-at-folded Removed e r h is n = elim (cases_eq e.node n) [
-  | inl same ↦
-      let gone : entry_at n (taken_out e r) ≡ None = rw (← same) (at-taken_out r e h is) in
-      grind (arith, nat_tests)
-  | inr differs ↦ grind (arith, nat_tests, at-others e n r h differs)
-]
+at-folded Removed e r h is n =
+    grind (arith, nat_tests, at-taken_out r e h is, at-others e n r h)
 at-folded (Moved dir name) e r h is n =
     let gone = at-taken_out r (old_entry dir name e) h is in
     let put = at-put_in e n (taken_out (old_entry dir name e) r) gone in
-    elim (cases_eq e.node n) [
-      | inl same ↦ grind (arith, nat_tests)
-      | inr differs ↦ grind (arith, nat_tests, at-others (old_entry dir name e) n r h differs)
-    ]
+    grind (arith, nat_tests, at-others (old_entry dir name e) n r h)
 
 -- ---- messages of rising nodes
 

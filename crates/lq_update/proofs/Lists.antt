@@ -31,28 +31,6 @@ updates-join q moved s (c ∷ cs) ds seq =
     (updates_from q moved (after s c) (cs ++ ds) (seq + length (step_of q moved s c seq))) seq
     (updates-join q moved (after s c) cs ds (seq + length (step_of q moved s c seq)))
 
--- a longer book only adds to the end of an update list
-pub updates-grow : UpdatesGrow
-updates-grow q moved b m n =
-    let s = state_at b m in
-    let cs = drop (m - b.start.number) b.changes in
-    elim (cases_lt n m) [
-      | inl below ↦ (
-        [],
-        append-nil _ ∙ ap (λ k. updates_from q moved s (take k cs) 1)
-            (let e : n - m ≡ n + 1 - m = omega arith in e),
-      )
-      | inr reached ↦
-          let more = take 1 (drop (n - m) cs) in
-          let e : n + 1 - m ≡ n - m + 1 = omega arith in (
-            updates_from q moved (after_all s (take (n - m) cs)) more
-                (1 + length (updates_of q moved b m n)),
-            sym (ap (λ k. updates_from q moved s (take k cs) 1) e
-                ∙ (ap (λ ds. updates_from q moved s ds 1) (take-add (n - m) 1 cs)
-                ∙ updates-join q moved s (take (n - m) cs) more 1)),
-          )
-    ]
-
 -- the state after some changes and then more
 pub after_all-append : (s : State) (xs ys : List Change)
     → after_all s (xs ++ ys) ≡ after_all (after_all s xs) ys
@@ -118,6 +96,10 @@ updates-prefixes q moved b m e n le =
       updates_from q moved (after_all s front) rest (1 + length (updates_from q moved s front 1)),
       sym (updates-join q moved s front rest 1) ∙ ap (λ cs. updates_from q moved s cs 1) split,
     )
+
+-- a longer book only adds to the end of an update list
+pub updates-grow : UpdatesGrow
+updates-grow q moved b m n = updates-prefixes q moved b m n (n + 1) (omega arith)
 
 -- before any change there is none
 pub updates-none : UpdatesBeginEmpty

@@ -65,9 +65,8 @@ pub remove-taken : (ls : Located) (e : Entry) → EntriesRise (entries_of ls)
 remove-taken [] e h is = refl
 remove-taken (l ∷ ls) e h is = elim (cases_eq l.0 e.node) [
   | inl same ↦
-      let here : entry_under l ≡ e = grind (arith, nat_tests) in
-      let itself : same_entry e (entry_under l) ≡ true = ap (same_entry e) here ∙ same-self e in
-      grind (arith, nat_tests, taken_out-above e (entries_of ls) (rw (← same) h.0))
+      let rest = taken_out-above e (entries_of ls) (rw (← same) h.0) in
+      grind (arith, nat_tests, same-self e)
   | inr differs ↦ grind (arith, nat_tests, remove-taken ls e h.1 (grind (arith, nat_tests)))
 ]
 
@@ -84,12 +83,10 @@ insert-replaced (k ∷ ls) e l h is = elim (cases_lt e.node k.0) [
       cc
   | inr high ↦ elim (cases_eq k.0 e.node) [
     | inl same ↦
-        let here : entry_under k ≡ e = grind (arith, nat_tests) in
-        let itself : same_entry e (entry_under k) ≡ true = ap (same_entry e) here ∙ same-self e in
         let above : Above e.node (entries_of ls) = rw (← same) h.0 in
         let rest = taken_out-above e (entries_of ls) above in
         let put = put_in-above (entry_under (e.node, l)) (entries_of ls) above in
-        grind (arith, nat_tests)
+        grind (arith, nat_tests, same-self e)
     | inr differs ↦ grind (arith, nat_tests, insert-replaced ls e l h.1 (grind (arith, nat_tests)))
   ]
 ]
@@ -105,11 +102,7 @@ insert-back (k ∷ ls) n l before h is = elim (cases_lt n k.0) [
       let none = at-above n (entries_of (k ∷ ls)) (low, above) in
       let found = entry_at-lookup n (k ∷ ls) in
       cc
-  | inr high ↦ elim (cases_eq k.0 n) [
-    | inl same ↦ grind (arith, nat_tests)
-    | inr differs ↦
-        grind (arith, nat_tests, insert-back ls n l before h.1 (grind (arith, nat_tests)))
-  ]
+  | inr high ↦ grind (arith, nat_tests, insert-back ls n l before h.1)
 ]
 
 -- ---- one location after another, by rising node

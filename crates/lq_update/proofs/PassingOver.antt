@@ -142,10 +142,7 @@ changes-pass found q moved s (RemoveAttr node attr) names altered v by is off =
 lookup-altered : (node : ℕ) (f : Record → Record) (es : List (ℕ × Record))
     → lookup (nat_eq node) (altered node f es) ≡ option_map f (lookup (nat_eq node) es)
 lookup-altered node f [] = refl
-lookup-altered node f (e ∷ es) = elim (cases_eq e.0 node) [
-  | inl same ↦ grind (arith, nat_tests)
-  | inr differs ↦ grind (arith, nat_tests, lookup-altered node f es)
-]
+lookup-altered node f (e ∷ es) = grind (arith, nat_tests, lookup-altered node f es)
 
 -- what a written record shows is the same, or stays beside the numbers of the query
 shown-beside : (q : Query) (r : Record) (size : ℕ) (time : ℤ)
