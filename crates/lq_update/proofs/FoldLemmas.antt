@@ -149,16 +149,9 @@ phase r (x ∷ xs) h k need =
       rise = rest.rise;
       at = λ n. rest.at n ∙ elim (cases_eq x.1.node n) [
         | inl same ↦
-            let none : op_at n xs ≡ None = op-above n xs (rw (← same) k.0) in
-            let on : (x.1.node == n) ≡ true = grind (arith, nat_tests) in
-            let now : entry_at n (folded_by x.0 x.1 r) ≡ gives x.0 x.1 =
-            at-folded x.0 x.1 r h here n ∙ rw on refl in
-            rw (none, on) now
-        | inr differs ↦
-            let off : (x.1.node == n) ≡ false = grind (arith, nat_tests) in
-            let now : entry_at n (folded_by x.0 x.1 r) ≡ entry_at n r = at-folded x.0 x.1 r h here n
-            ∙ rw off refl in
-            rw (off, now) refl
+            let none = op-above n xs (rw (← same) k.0) in
+            grind (arith, nat_tests, at-folded x.0 x.1 r h here n)
+        | inr differs ↦ grind (arith, nat_tests, at-folded x.0 x.1 r h here n)
       ];
     }
 
@@ -287,14 +280,8 @@ turns moved (Some e) (Some f) s = both (same_entry e f) refl
   where
     both : (b : Bool) → same_entry e f ≡ b
         → Turns moved (Some e) (Some f) (left (Some e) (Some f)) (left (Some f) (Some e))
-    both true is =
-        let gone : left (Some e) (Some f) ≡ None = rw is refl in
-        let new : left (Some f) (Some e) ≡ None = rw (same-swapped e f, is) refl in
-        rw (gone, new) (turns-same moved e f (same-entry e f is))
-    both false is =
-        let gone : left (Some e) (Some f) ≡ Some e = rw is refl in
-        let new : left (Some f) (Some e) ≡ Some f = rw (same-swapped e f, is) refl in
-        rw (gone, new) (turns-apart moved e f s)
+    both true is = rw (same-swapped e f, is) (turns-same moved e f (same-entry e f is))
+    both false is = rw (same-swapped e f, is) (turns-apart moved e f s)
 
 -- ---- all of a difference
 

@@ -33,15 +33,8 @@ use Rattle.lq_update.proofs.TouchedLemmas.{TouchFew, left-same, told-unmatched}
 -- another name of the predicate has the test's answer too
 same-name : (names : List (List ℕ)) (name other : List ℕ) → list_any (bytes_eq name) names ≡ true
     → list_any (bytes_eq other) names ≡ false → bytes_eq name other ≡ false
-same-name names name other among not_among = at (bytes_eq name other) refl
-  where
-    at : (b : Bool) → bytes_eq name other ≡ b → bytes_eq name other ≡ false
-    at false is = is
-    at true is =
-        let same : name ≡ other = (bytes_eq-Decides name other).0 is in
-        let both : list_any (bytes_eq other) names ≡ true =
-        ap (λ n. list_any (bytes_eq n) names) (sym same) ∙ among in
-        cc
+same-name names name other among not_among =
+    grind (arith, nat_tests, bytes_eq-Decides name other)
 
 -- so it is of each of some names
 same-names : (names own : List (List ℕ)) (name : List ℕ) → list_any (bytes_eq name) names ≡ true

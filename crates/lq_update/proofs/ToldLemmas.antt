@@ -95,13 +95,7 @@ find-came : (f : Entry) (gone come : List Entry)
     ≡ option_map (λ e. (Removed, e)) (entry_at f.node gone)
 find-came f [] [] = refl
 find-came f [] (d ∷ come) = find-came f [] come
-find-came f (e ∷ gone) come =
-    elim (e.node == f.node) as (λ b.
-    cond b (Some (Removed, e)) (find (λ m. is_move m (Created, f)) (without_moves gone come))
-    ≡ option_map (λ d. (Removed, d)) (cond b (Some e) (entry_at f.node gone))) [
-      | true ↦ refl
-      | false ↦ find-came f gone come
-    ]
+find-came f (e ∷ gone) come = grind (arith, nat_tests, find-came f gone come)
 
 -- so it becomes what is told of its entry
 created-told : (gone come fs : List Entry)
