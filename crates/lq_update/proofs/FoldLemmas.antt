@@ -55,10 +55,7 @@ at-others e n r h differs = at-filter _ n r h ∙ at (entry_at n r) refl
   where
     at : (o : Option Entry) → entry_at n r ≡ o → option_filter (λ f. not (same_entry e f)) o ≡ o
     at None is = refl
-    at (Some f) is =
-        let node = at-node n r f is in
-        let off : same_entry e f ≡ false = grind (arith, nat_tests) in
-        rw off refl
+    at (Some f) is = grind (arith, nat_tests, at-node n r f is)
 
 -- after such a message its node has what it gives, and each other node what it had
 pub at-folded : (op : Opcode) (e : Entry) (r : List Entry)

@@ -199,16 +199,7 @@ created-last (e ∷ es) k r below =
 -- a record without attributes shows nothing under the name of one
 shown-bare : (r : Record) → r.attrs ≡ [] → (name : List ℕ) → field_of name ≡ Attribute
     → shown r name ≡ None
-shown-bare r bare name is = by (bytes_eq name (codes "name")) refl
-    (bytes_eq name (codes "size")) refl (bytes_eq name (codes "last_modified")) refl
-  where
-    by : (a : Bool) → bytes_eq name (codes "name") ≡ a → (b : Bool)
-        → bytes_eq name (codes "size") ≡ b → (c : Bool)
-        → bytes_eq name (codes "last_modified") ≡ c → shown r name ≡ None
-    by true n b sz c t = let no : Name ≡ Attribute = rw n at is in cc
-    by false n true sz c t = let no : Size ≡ Attribute = rw (n, sz) at is in cc
-    by false n false sz true t = let no : LastModified ≡ Attribute = rw (n, sz, t) at is in cc
-    by false n false sz false t = rw (n, sz, t, bare) refl
+shown-bare r bare name is = grind (arith, nat_tests)
 
 -- a creation tells nothing to a query that needs an attribute
 pub bare-creates : BareRowsFail → TouchFew → BareCreatesTellNothing

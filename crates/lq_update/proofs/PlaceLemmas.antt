@@ -132,8 +132,7 @@ pub remove-triple : (es : List Entry) (e : Entry) (i : ℕ) → EntriesRise es �
 remove-triple [] e i h g = absurd (omega (arith, g.within))
 remove-triple (f ∷ es) e zero h g =
     let is : f ≡ e = g.same e in
-    let same : same_entry e f ≡ true = rw is (same-self e) in
-    grind (arith, nat_tests, taken_out-above e es (rw (← is) h.0))
+    grind (arith, nat_tests, same-self e, taken_out-above e es (rw (← is) h.0))
 remove-triple (f ∷ es) e (suc i) h g =
     let lt = triple-above f es e i h g in
     let rest = remove-triple es e i h.1 (triple-tail f es e i g) in
@@ -150,10 +149,8 @@ pub set-triple : (es : List Entry) (e f : Entry) (i : ℕ) → EntriesRise es �
 set-triple [] e f i h g node = absurd (omega (arith, g.within))
 set-triple (d ∷ es) e f zero h g node =
     let is : d ≡ e = g.same e in
-    let same : same_entry e d ≡ true = rw is (same-self e) in
     let rest = taken_out-above e es (rw (← is) h.0) in
-    let put = put_in-above f es (rw (node, ← is) h.0) in
-    grind (arith, nat_tests)
+    grind (arith, nat_tests, same-self e, put_in-above f es (rw (node, ← is) h.0))
 set-triple (d ∷ es) e f (suc i) h g node =
     let lt = triple-above d es e i h g in
     let rest = set-triple es e f i h.1 (triple-tail d es e i g) node in

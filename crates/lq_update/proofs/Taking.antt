@@ -29,14 +29,8 @@ MayTell f change = ((f.settled ≡ true) × (f.change < change))
 -- the next message is taken, if its change may be told and it fits
 next-taken : (f : Folding) (m : Message) → f.seq + 1 ≡ m.seq → MayTell f m.change
     → fits_in f.entries m ≡ true → first_refusal (fold_refusals f m) ≡ None
-next-taken f m seq (inl may) fits =
-    let next : (m.seq == f.seq + 1) ≡ true = grind (arith, nat_tests) in
-    let above : nat_le m.change f.change ≡ false = let lt = may.1 in grind (arith, nat_tests) in
-    rw (next, may.0, above, fits) refl
-next-taken f m seq (inr may) fits =
-    let next : (m.seq == f.seq + 1) ≡ true = grind (arith, nat_tests) in
-    let same : (m.change == f.change) ≡ true = let is = may.1 in grind (arith, nat_tests) in
-    rw (next, may.0, same, fits) refl
+next-taken f m seq (inl may) fits = grind (arith, nat_tests, may.0, may.1)
+next-taken f m seq (inr may) fits = grind (arith, nat_tests, may.0, may.1)
 
 -- the first of the messages of a change
 abbrev first_of : ℕ → ℕ → Opcode × Entry → List (Opcode × Entry) → Message
