@@ -1,7 +1,5 @@
 -- A longer book adds to the end of an update list.
-use Rattle.std.proofs.Common.{◌≡◌, ◌≤◌, ℕ, ◌+◌, ◌-◌, Bool, List, [], ◌∷◌, ◌++◌, refl, arith, ap, length, take, drop, length-drop, ◌∙◌, append_assoc, append-nil, sym, inl, inr}
-use Rattle.std.proofs.Math.Seq.{take-add}
-use Rattle.std.proofs.lemmas.Bool.{cases_lt}
+use Rattle.std.proofs.Common.{◌≡◌, ◌≤◌, ℕ, ◌+◌, ◌-◌, Bool, List, [], ◌∷◌, ◌++◌, refl, arith, ap, length, take, drop, length-drop, ◌∙◌, append_assoc, append-nil, sym}
 use Rattle.std.proofs.lemmas.List.{length-append, take_all, take-append-le, take-take, take-append-drop, drop-append-le}
 use Rattle.lq_predicate.specs.Query.{Query}
 use Rattle.lq_volume.specs.declared.change.Change.{Change}

@@ -99,10 +99,8 @@ at-place [] n i d h g = absurd (omega (arith, g.within))
 at-place (e ∷ es) n zero d h g = grind (arith, nat_tests, g.has_node e)
 at-place (e ∷ es) n (suc i) d h g =
     let within : i < length es = omega (arith, g.within) in
-    let above = above-get e.node es i d h.0 within in
-    let here = g.has_node d in
     let rest = at-place es n i d h.1 (record { within = within; has_node = λ c. g.has_node c }) in
-    grind (arith, nat_tests)
+    grind (arith, nat_tests, above-get e.node es i d h.0 within, g.has_node d)
 
 -- a triple's place is its node's
 pub triple-place : (es : List Entry) (e : Entry) (i : ℕ) → IsTripleAt es e i → IsEntryAt es e.node i

@@ -1,6 +1,6 @@
 -- A rebuild takes each message of an update list in turn.
 use Rattle.std.proofs.Common.{◌≡◌, ℕ, suc, ◌+◌, ◌-◌, ◌<◌, ◌≤◌, take, drop, List, [], ◌∷◌, ◌++◌, length, refl, sym, ap, ◌∙◌, Bool, true, false, arith, inl, inr, ◌⊎◌}
-use Rattle.std.specs.Prelude.{None, ◌==◌, nat_le}
+use Rattle.std.specs.Prelude.{None, ◌==◌}
 use Rattle.std.proofs.lemmas.Bool.Decides.{nat_tests}
 use Rattle.std.proofs.lemmas.List.{take-take}
 use Rattle.lq_value.specs.declared.entry.Entry.{Entry}

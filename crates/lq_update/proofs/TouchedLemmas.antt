@@ -32,7 +32,7 @@ two-entries : (es : List Entry) (a b : ℕ) → EntriesRise es → a < b
     → es ≡ option_to_list (entry_at a es) ++ option_to_list (entry_at b es)
 two-entries [] a b h lt off = refl
 two-entries (e ∷ es) a b h lt off =
-    let rest = two-entries es a b h.1 lt (λ n x y. behind n (off n x y)) in
+    let rest = two-entries es a b h.1 lt (λ n x y. grind (arith, nat_tests, off n x y)) in
     elim (cases_eq e.node a) [
       | inl same ↦ grind (arith, nat_tests, at-above a es (rw (← same) h.0))
       | inr differs ↦ elim (cases_eq e.node b) [
@@ -43,9 +43,6 @@ two-entries (e ∷ es) a b h lt off =
         | inr other ↦ let none = off e.node differs other in absurd (grind (arith, nat_tests))
       ]
     ]
-  where
-    behind : (n : ℕ) → entry_at n (e ∷ es) ≡ None → entry_at n es ≡ None
-    behind n none = grind (arith, nat_tests)
 
 -- ---- what left and what came at a node
 
