@@ -42,7 +42,8 @@ rises-result : (test : ℕ × Record → Bool) (es : List (ℕ × Record)) → R
     → EntriesRise (map entry_of (filter test es))
 rises-result test [] h = tt
 rises-result test (e ∷ es) h =
-    elim (test e) as (λ b. EntriesRise (map entry_of (cond b (e ∷ filter test es) (filter test es)))) [
+    elim (test e) as (λ b.
+    EntriesRise (map entry_of (cond b (e ∷ filter test es) (filter test es)))) [
       | true ↦ (above-result test e.0 es h.0, rises-result test es h.1)
       | false ↦ rises-result test es h.1
     ]
@@ -171,7 +172,7 @@ number-at count b m low high =
     let all = number-all count b.start (take (m - b.start.number) b.changes) in
     omega arith
 
--- the messages of an update list lead from the result at one number to the result behind its changes
+-- the messages of an update list lead from the result at one number to that behind its changes
 leads-between : ChangesKeepTrees → (q : Query) (moved : Bool) (b : Book) (m n : ℕ)
     → IsVolume b.start → IsBook b → Leads (result_of q (state_at b m)) (updates_of q moved b m n)
     (result_of q (after_all (state_at b m) (changes_between b m n)))

@@ -119,8 +119,8 @@ changes-pass found q moved s (Create dir name kind size time) names altered v by
 changes-pass found q moved s (Remove node) names altered v by is off = cc
 changes-pass found q moved s (Move node dir name clobber) names altered v by is off = cc
 changes-pass found q moved s (Write node size time) names altered v by is off =
-    passes-over q moved s (Write node size time) node (rewritten size time) names _ altered v by is off refl
-    (λ n r. refl) (λ r name off. rw (off.0, off.1.0) refl)
+    passes-over q moved s (Write node size time) node (rewritten size time) names _ altered v by
+    is off refl (λ n r. refl) (λ r name off. rw (off.0, off.1.0) refl)
 changes-pass found q moved s (SetAttr node attr value) names altered v by is off =
     passes-over q moved s (SetAttr node attr value) node (set_attr attr value) names _ altered v by
     is off refl (λ n r. refl) (λ r name off. rw (found.set r.attrs attr name value, off.0) refl)

@@ -226,10 +226,12 @@ module _ (laws : TouchFew) (q : Query) (moved : Bool) (s : State) (c : Change) (
 
   -- nothing came at another node
   came-none : (n : ℕ) → n ≢ node_of s c → (o : Option ℕ) → clobbered s c ≡ o → came_at n ≡ None
-  came-none n off None is = rw (match-stays n (rw is (off, tt))) (left-same (match_at q (after s c) n))
+  came-none n off None is =
+      rw (match-stays n (rw is (off, tt))) (left-same (match_at q (after s c) n))
   came-none n off (Some x) is = elim (cases_eq n x) [
     | inl same ↦ rw (match-gone n (is ∙ ap Some (sym same))) refl
-    | inr differs ↦ rw (match-stays n (rw is (off, (differs, tt)))) (left-same (match_at q (after s c) n))
+    | inr differs ↦
+        rw (match-stays n (rw is (off, (differs, tt)))) (left-same (match_at q (after s c) n))
   ]
 
   -- what is told last
@@ -263,7 +265,8 @@ module _ (laws : TouchFew) (q : Query) (moved : Bool) (s : State) (c : Change) (
       → numbered seq number (map (λ e. (Removed, e)) (option_to_list old) ++ [])
       ≡ step_of q moved s c seq
   told-left number old number_is left_is came_is none =
-      told number (option_to_list old) None (rw (none, left_is, came_is) (ap option_to_list (sym (left-told moved old).0)))
+      told number (option_to_list old) None
+      (rw (none, left_is, came_is) (ap option_to_list (sym (left-told moved old).0)))
       (rw (left_is, came_is) (sym (left-told moved old).1)) number_is
 
   -- and where an entry came, and none left

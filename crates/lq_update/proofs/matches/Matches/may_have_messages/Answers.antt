@@ -28,8 +28,10 @@ returns-else-is_some-2 c moved seq is =
     let node = node_of self.planned.now.before self.planned.now.change in
     sym (told-left c.changes_touch_few.ensures self.predicate.now moved self.planned.now.before
     self.planned.now.change seq c.applied.ensures.volume c.applied.ensures.lawful _ None refl
-    (sym c.difference.ensures.removed ∙ ap (λ o. entry_at node (option_copied o)) (none-of _ (sym (c.if-is_some-2.ensures))))
+    (sym c.difference.ensures.removed
+    ∙ ap (λ o. entry_at node (option_copied o)) (none-of _ (sym (c.if-is_some-2.ensures))))
     (sym c.difference.ensures.created
-    ∙ ap (λ o. entry_at node (option_copied o)) (none-of _ (sym c.is_some-else-is_some-2.ensures ∙ is)))
+    ∙ ap (λ o. entry_at node (option_copied o))
+    (none-of _ (sym c.is_some-else-is_some-2.ensures ∙ is)))
     (sym c.clobbered.ensures.node
     ∙ ap (option_map (λ e. e.0)) (none-of _ (sym (c.if-is_some.ensures)))))

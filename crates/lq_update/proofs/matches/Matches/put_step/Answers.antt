@@ -16,9 +16,11 @@ returns-in-Some-None-None-clause-ok c =
     self.planned.now.before self.planned.now.change c.args.first_seq made.volume made.lawful
     c.applied-made.result.change (Some (entry_of (c.applied-made.result.node, now)))
     (ap (λ m. m.change) made.value)
-    (sym c.difference.ensures.removed ∙ ap (λ o. entry_at node (option_copied o)) c.in-Some-None-None.is-0
+    (sym c.difference.ensures.removed
+    ∙ ap (λ o. entry_at node (option_copied o)) c.in-Some-None-None.is-0
     ∙ ap (λ n. Some (entry_of (n, now))) (sym (ap (λ m. m.node) made.value)))
-    (sym c.difference.ensures.created ∙ ap (λ o. entry_at node (option_copied o)) c.in-Some-None-None.is-1)
+    (sym c.difference.ensures.created
+    ∙ ap (λ o. entry_at node (option_copied o)) c.in-Some-None-None.is-1)
     (sym c.clobbered.ensures.node ∙ ap (option_map (λ e. e.0)) c.in-Some-None-None.is-2))
     at c.put_one.ensures.ok
 
@@ -32,8 +34,10 @@ returns-in-None-Some-None-clause-ok c =
     self.planned.now.before self.planned.now.change c.args.first_seq made.volume made.lawful
     c.applied-made.result.change (entry_of (c.applied-made.result.node, now))
     (ap (λ m. m.change) made.value)
-    (sym c.difference.ensures.removed ∙ ap (λ o. entry_at node (option_copied o)) c.in-None-Some-None.is-0)
-    (sym c.difference.ensures.created ∙ ap (λ o. entry_at node (option_copied o)) c.in-None-Some-None.is-1
+    (sym c.difference.ensures.removed
+    ∙ ap (λ o. entry_at node (option_copied o)) c.in-None-Some-None.is-0)
+    (sym c.difference.ensures.created
+    ∙ ap (λ o. entry_at node (option_copied o)) c.in-None-Some-None.is-1
     ∙ ap (λ n. Some (entry_of (n, now))) (sym (ap (λ m. m.node) made.value)))
     (sym c.clobbered.ensures.node ∙ ap (option_map (λ e. e.0)) c.in-None-Some-None.is-2))
     at c.put_one-in-None-Some-None.ensures.ok
