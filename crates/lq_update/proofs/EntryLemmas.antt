@@ -1,7 +1,7 @@
 -- What a node has among entries that rise by node, and what taking one out or putting one in does
 -- to that.
 use Rattle.std.proofs.Common.{◌≡◌, ℕ, ◌<◌, List, [], ◌∷◌, refl, sym, ap, ◌∙◌, Bool, true, false, arith, inl, inr}
-use Rattle.std.specs.Prelude.{Option, Some, None, is_some, ◌==◌, filter, nat_lt, if◌then◌else◌}
+use Rattle.std.specs.Prelude.{Option, Some, None, is_some, cond, ◌==◌, filter, nat_lt, if◌then◌else◌}
 use Rattle.std.specs.Option.{option_map_or}
 use Rattle.std.specs.List.{AllByRecursion}
 use Rattle.std.proofs.lemmas.Map.Entries.{option_filter}
@@ -34,98 +34,71 @@ above-lower j k (e ∷ es) lt h = (omega (arith, h.0), above-lower j k es lt h.1
 -- the entry found for a node has that node
 pub at-node : (n : ℕ) (es : List Entry) (e : Entry) → entry_at n es ≡ Some e → e.node ≡ n
 at-node n [] e is = cc
-at-node n (f ∷ es) e is = elim (cases_eq f.node n) [
-  | inl same ↦
-      let here : f ≡ e = grind (arith, nat_tests) in
-      sym (ap (λ (d : Entry). d.node) here) ∙ same
-  | inr differs ↦ at-node n es e (grind (arith, nat_tests))
-]
+at-node n (f ∷ es) e is = grind (arith, nat_tests, at-node n es e)
 
 -- a node is there just where an entry is found for it
 pub has_node-at : (n : ℕ) (es : List Entry) → has_node n es ≡ is_some (entry_at n es)
 has_node-at n [] = refl
-has_node-at n (e ∷ es) = let rest = has_node-at n es in grind (arith, nat_tests)
+has_node-at n (e ∷ es) = grind (arith, nat_tests, has_node-at n es)
 
 -- an entry is the same as itself
 pub same-self : (e : Entry) → same_entry e e ≡ true
-same-self e = let name = (bytes_eq-Decides e.name e.name).1 refl in grind (arith, nat_tests)
-
--- an entry, made of its parts again
-abbrev same_parts : Entry → Entry
-same_parts e = record { dir = e.dir; name = e.name; node = e.node }
+same-self e = grind (arith, nat_tests, (bytes_eq-Decides e.name e.name).1 refl)
 
 -- two entries for which the test holds are equal
 pub same-entry : (e f : Entry) → same_entry e f ≡ true → e ≡ f
-same-entry e f is =
-    let dir : e.dir ≡ f.dir = grind (arith, nat_tests) in
-    let node : e.node ≡ f.node = grind (arith, nat_tests) in
-    let name : e.name ≡ f.name = grind (arith, nat_tests, bytes_eq-Decides e.name f.name) in
-    let both : same_parts e ≡ same_parts f = rw (dir, name, node) refl in
-    both
+same-entry e f is = grind (arith, nat_tests, bytes_eq-Decides e.name f.name)
 
 -- among entries above its node a triple isn't
 has_entry-above : (e : Entry) (es : List Entry) → Above e.node es → has_entry e es ≡ false
 has_entry-above e [] h = refl
-has_entry-above e (f ∷ es) h =
-    let low = h.0 in
-    let rest = has_entry-above e es h.1 in
-    grind (arith, nat_tests)
+has_entry-above e (f ∷ es) h = grind (arith, nat_tests, h.0, has_entry-above e es h.1)
 
 -- where the nodes rise, a triple is there just where it is the one found for its node
 pub has_entry-at : (e : Entry) (es : List Entry) → EntriesRise es
     → has_entry e es ≡ option_map_or (same_entry e) (entry_at e.node es) false
 has_entry-at e [] h = refl
 has_entry-at e (f ∷ es) h = elim (cases_eq f.node e.node) [
-  | inl same ↦
-      let rest = has_entry-above e es (rw (← same) h.0) in
-      here same rest (same_entry e f) refl
-  | inr differs ↦ let rest = has_entry-at e es h.1 in grind (arith, nat_tests)
+  | inl same ↦ grind (arith, nat_tests, has_entry-above e es (rw (← same) h.0))
+  | inr differs ↦ grind (arith, nat_tests, has_entry-at e es h.1)
 ]
-  where
-    here : f.node ≡ e.node → has_entry e es ≡ false → (b : Bool) → same_entry e f ≡ b
-        → has_entry e (f ∷ es) ≡ option_map_or (same_entry e) (entry_at e.node (f ∷ es)) false
-    here same rest true is = grind (arith, nat_tests)
-    here same rest false is = grind (arith, nat_tests)
 
 -- what a filter leaves is above a node where all was
 above-filter : (t : Entry → Bool) (n : ℕ) (es : List Entry) → Above n es → Above n (filter t es)
 above-filter t n [] h = tt
-above-filter t n (e ∷ es) h = at (t e) refl (above-filter t n es h.1)
-  where
-    at : (b : Bool) → t e ≡ b → Above n (filter t es) → Above n (filter t (e ∷ es))
-    at true is rest = rw is (h.0, rest)
-    at false is rest = rw is rest
+above-filter t n (e ∷ es) h =
+    elim (t e) as (λ b. Above n (cond b (e ∷ filter t es) (filter t es))) [
+      | true ↦ (h.0, above-filter t n es h.1)
+      | false ↦ above-filter t n es h.1
+    ]
 
 -- what a filter leaves rises
 pub rises-filter : (t : Entry → Bool) (es : List Entry) → EntriesRise es → EntriesRise (filter t es)
 rises-filter t [] h = tt
-rises-filter t (e ∷ es) h = at (t e) refl (rises-filter t es h.1)
-  where
-    at : (b : Bool) → t e ≡ b → EntriesRise (filter t es) → EntriesRise (filter t (e ∷ es))
-    at true is rest = rw is (above-filter t e.node es h.0, rest)
-    at false is rest = rw is rest
+rises-filter t (e ∷ es) h =
+    elim (t e) as (λ b. EntriesRise (cond b (e ∷ filter t es) (filter t es))) [
+      | true ↦ (above-filter t e.node es h.0, rises-filter t es h.1)
+      | false ↦ rises-filter t es h.1
+    ]
+
+-- with one more entry, if it passes, a node has that one or what it had
+at-cond : (n : ℕ) (b : Bool) (e : Entry) (es : List Entry) → entry_at n (cond b (e ∷ es) es)
+    ≡ cond b (cond (e.node == n) (Some e) (entry_at n es)) (entry_at n es)
+at-cond n true e es = refl
+at-cond n false e es = refl
 
 -- the entry found after a filter is the one found before it, if that passes
 pub at-filter : (t : Entry → Bool) (n : ℕ) (es : List Entry) → EntriesRise es
     → entry_at n (filter t es) ≡ option_filter t (entry_at n es)
 at-filter t n [] h = refl
-at-filter t n (e ∷ es) h = elim (cases_eq e.node n) [
-  | inl same ↦
-      let gone = at-above n (filter t es) (rw (← same) (above-filter t e.node es h.0)) in
-      here same gone (t e) refl
-  | inr differs ↦ let rest = at-filter t n es h.1 in there differs rest (t e) refl
-]
-  where
-    here : e.node ≡ n → entry_at n (filter t es) ≡ None → (b : Bool) → t e ≡ b
-        → entry_at n (filter t (e ∷ es)) ≡ option_filter t (entry_at n (e ∷ es))
-    here same gone true is = grind (arith, nat_tests)
-    here same gone false is = grind (arith, nat_tests)
-
-    there : (e.node ≡ n → ⊥)
-        → entry_at n (filter t es) ≡ option_filter t (entry_at n es) → (b : Bool) → t e ≡ b
-        → entry_at n (filter t (e ∷ es)) ≡ option_filter t (entry_at n (e ∷ es))
-    there differs rest true is = grind (arith, nat_tests)
-    there differs rest false is = grind (arith, nat_tests)
+at-filter t n (e ∷ es) h =
+    let step = at-cond n (t e) e (filter t es) in
+    elim (cases_eq e.node n) [
+      | inl same ↦
+          let gone = at-above n (filter t es) (rw (← same) (above-filter t e.node es h.0)) in
+          grind (arith, nat_tests)
+      | inr differs ↦ grind (arith, nat_tests, at-filter t n es h.1)
+    ]
 
 -- with its triple taken out, a node has no entry
 pub at-taken_out : (es : List Entry) (e : Entry) → EntriesRise es → entry_at e.node es ≡ Some e
@@ -136,25 +109,17 @@ at-taken_out es e h is = at-filter _ e.node es h ∙ rw (is, same-self e) refl
 pub at-put_in : (e : Entry) (n : ℕ) (es : List Entry) → entry_at e.node es ≡ None
     → entry_at n (put_in e es) ≡ (if e.node == n then Some e else entry_at n es)
 at-put_in e n [] none = refl
-at-put_in e n (f ∷ es) none = elim (cases_lt e.node f.node) [
-  | inl low ↦ grind (arith, nat_tests)
-  | inr high ↦ elim (cases_eq f.node e.node) [
-    | inl same ↦ grind (arith, nat_tests)
-    | inr differs ↦
-        let rest = at-put_in e n es (grind (arith, nat_tests)) in
-        grind (arith, nat_tests)
-  ]
-]
+at-put_in e n (f ∷ es) none = grind (arith, nat_tests, at-put_in e n es)
 
 -- with a triple above a node put in, all is above that node still
 above-put_in : (e : Entry) (n : ℕ) (es : List Entry) → n < e.node → Above n es
     → Above n (put_in e es)
 above-put_in e n [] lt h = (lt, tt)
-above-put_in e n (f ∷ es) lt h = at (nat_lt e.node f.node) refl (above-put_in e n es lt h.1)
-  where
-    at : (b : Bool) → nat_lt e.node f.node ≡ b → Above n (put_in e es) → Above n (put_in e (f ∷ es))
-    at true is rest = rw is (lt, h)
-    at false is rest = rw is (h.0, rest)
+above-put_in e n (f ∷ es) lt h =
+    elim (nat_lt e.node f.node) as (λ b. Above n (cond b (e ∷ f ∷ es) (f ∷ put_in e es))) [
+      | true ↦ (lt, h)
+      | false ↦ (h.0, above-put_in e n es lt h.1)
+    ]
 
 -- with a triple of a new node put in, the nodes still rise
 pub rises-put_in : (e : Entry) (es : List Entry) → EntriesRise es → entry_at e.node es ≡ None
@@ -170,6 +135,31 @@ rises-put_in e (f ∷ es) h none = elim (cases_lt e.node f.node) [
       let rest : entry_at e.node es ≡ None = grind (arith, nat_tests) in
       rw is (above-put_in e f.node es lt h.0, rises-put_in e es h.1 rest)
 ]
+
+-- a triple that is there is the entry found for its node
+pub at-has_entry : (e : Entry) (es : List Entry) → EntriesRise es → has_entry e es ≡ true
+    → entry_at e.node es ≡ Some e
+at-has_entry e es h has = found (entry_at e.node es) refl (sym (has_entry-at e es h) ∙ has)
+  where
+    found : (o : Option Entry) → entry_at e.node es ≡ o
+        → option_map_or (same_entry e) o false ≡ true → entry_at e.node es ≡ Some e
+    found None is same = cc
+    found (Some f) is same = is ∙ ap Some (sym (same-entry e f same))
+
+-- an option that has no value
+pub none-of : {A : Type 0} (o : Option A) → is_some o ≡ false → o ≡ None
+none-of None h = refl
+none-of (Some x) h = cc
+
+-- where a node isn't there no entry is found for it
+pub at-lacks : (n : ℕ) (es : List Entry) → has_node n es ≡ false → entry_at n es ≡ None
+at-lacks n es lacks = none-of (entry_at n es) (sym (has_node-at n es) ∙ lacks)
+
+-- with a triple of its node in place of one that is there, the nodes still rise
+pub rises-replaced : (e old : Entry) (es : List Entry) → EntriesRise es → has_entry old es ≡ true
+    → e.node ≡ old.node → EntriesRise (put_in e (taken_out old es))
+rises-replaced e old es h has node = rises-put_in e (taken_out old es) (rises-filter _ es h)
+    (rw node (at-taken_out es old h (at-has_entry old es h has)))
 
 -- entries that rise are those of their nodes
 pub entries-same : (es fs : List Entry) → EntriesRise es → EntriesRise fs
@@ -190,7 +180,7 @@ entries-same (e ∷ es) (f ∷ fs) h k same = elim (cases_lt e.node f.node) [
         let first : e ≡ f = let at = same e.node in grind (arith, nat_tests) in
         let rest : es ≡ fs = entries-same es fs h.1 k.1 (λ n. elim (cases_eq e.node n) [
           | inl is ↦ at-above n es (rw (← is) h.0) ∙ sym (at-above n fs (rw (← is, node) k.0))
-          | inr off ↦ let at = same n in grind (arith, nat_tests)
+          | inr off ↦ grind (arith, nat_tests, same n)
         ]) in
         rw (first, rest) refl
   ]

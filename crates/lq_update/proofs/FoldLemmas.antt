@@ -1,11 +1,12 @@
 -- Folding what two results differ by over the one gives the other.
 use Rattle.std.proofs.Common.{◌≡◌, ℕ, ◌+◌, ◌<◌, List, [], ◌∷◌, ◌++◌, refl, sym, ap, subst, ◌∙◌, Bool, true, false, arith, inl, inr}
-use Rattle.std.specs.Prelude.{Option, Some, None, is_some, map, not, ◌&&◌, ◌==◌, if◌then◌else◌}
+use Rattle.std.specs.Prelude.{Option, Some, None, is_some, map, not, ◌==◌, if◌then◌else◌}
 use Rattle.std.specs.Option.{option_map, option_map_or}
 use Rattle.std.specs.List.{AllByRecursion, list_any}
 use Rattle.std.proofs.lemmas.Map.Entries.{option_filter}
 use Rattle.std.proofs.lemmas.Bool.{cases_eq}
 use Rattle.std.proofs.lemmas.Bool.Decides.{nat_tests}
+use Rattle.std.proofs.lemmas.Slice.Eq.{bytes_eq-Decides}
 use Rattle.lq_value.specs.declared.entry.Entry.{Entry}
 use Rattle.lq_update.specs.declared.message.Opcode.{Opcode}
 use Rattle.lq_update.specs.declared.message.Opcode.TheVariants.{Created, Removed, Moved}
@@ -14,7 +15,7 @@ use Rattle.lq_update.specs.Diff.{same_entry, missing, has_node, messages_of}
 use Rattle.lq_update.specs.Touched.{left, told_first, told_last}
 use Rattle.lq_update.specs.Updates.{numbered}
 use Rattle.lq_update.specs.Fold.{EntriesRise, taken_out, old_entry, folded_by, fits_result, folded, folded_one, fits_in}
-use Rattle.lq_update.proofs.ToldLemmas.{alone_if, came_op, messages-split}
+use Rattle.lq_update.proofs.ToldLemmas.{alone_if, alone-false, came_op, messages-split}
 use Rattle.lq_update.proofs.EntryLemmas.{Above, entry_at, at-node, has_node-at, has_entry-at, at-filter, rises-filter, at-put_in, rises-put_in, at-taken_out, same-self, same-entry, entries-same}
 
 -- ---- one message, without its numbers
@@ -54,31 +55,19 @@ at-others e n r h differs = at-filter _ n r h ∙ at (entry_at n r) refl
   where
     at : (o : Option Entry) → entry_at n r ≡ o → option_filter (λ f. not (same_entry e f)) o ≡ o
     at None is = refl
-    at (Some f) is =
-        let node = at-node n r f is in
-        let off : same_entry e f ≡ false = grind (arith, nat_tests) in
-        rw off refl
+    at (Some f) is = grind (arith, nat_tests, at-node n r f is)
 
 -- after such a message its node has what it gives, and each other node what it had
 pub at-folded : (op : Opcode) (e : Entry) (r : List Entry)
     → EntriesRise r → entry_at e.node r ≡ needs op e → (n : ℕ)
     → entry_at n (folded_by op e r) ≡ (if e.node == n then gives op e else entry_at n r)
 at-folded Created e r h is n = at-put_in e n r is
-at-folded Removed e r h is n = elim (cases_eq e.node n) [
-  | inl same ↦
-      let gone : entry_at n (taken_out e r) ≡ None = rw (← same) (at-taken_out r e h is) in
-      grind (arith, nat_tests)
-  | inr differs ↦ let rest = at-others e n r h differs in grind (arith, nat_tests)
-]
+at-folded Removed e r h is n =
+    grind (arith, nat_tests, at-taken_out r e h is, at-others e n r h)
 at-folded (Moved dir name) e r h is n =
     let gone = at-taken_out r (old_entry dir name e) h is in
     let put = at-put_in e n (taken_out (old_entry dir name e) r) gone in
-    elim (cases_eq e.node n) [
-      | inl same ↦ grind (arith, nat_tests)
-      | inr differs ↦
-          let rest = at-others (old_entry dir name e) n r h differs in
-          grind (arith, nat_tests)
-    ]
+    grind (arith, nat_tests, at-others (old_entry dir name e) n r h)
 
 -- ---- messages of rising nodes
 
@@ -157,16 +146,9 @@ phase r (x ∷ xs) h k need =
       rise = rest.rise;
       at = λ n. rest.at n ∙ elim (cases_eq x.1.node n) [
         | inl same ↦
-            let none : op_at n xs ≡ None = op-above n xs (rw (← same) k.0) in
-            let on : (x.1.node == n) ≡ true = grind (arith, nat_tests) in
-            let now : entry_at n (folded_by x.0 x.1 r) ≡ gives x.0 x.1 =
-            at-folded x.0 x.1 r h here n ∙ rw on refl in
-            rw (none, on) now
-        | inr differs ↦
-            let off : (x.1.node == n) ≡ false = grind (arith, nat_tests) in
-            let now : entry_at n (folded_by x.0 x.1 r) ≡ entry_at n r = at-folded x.0 x.1 r h here n
-            ∙ rw off refl in
-            rw (off, now) refl
+            let none = op-above n xs (rw (← same) k.0) in
+            grind (arith, nat_tests, at-folded x.0 x.1 r h here n)
+        | inr differs ↦ grind (arith, nat_tests, at-folded x.0 x.1 r h here n)
       ];
     }
 
@@ -176,7 +158,7 @@ phase r (x ∷ xs) h k need =
 op_at-map : (op : Entry → Opcode) (n : ℕ) (es : List Entry)
     → op_at n (map (λ e. (op e, e)) es) ≡ option_map (λ e. (op e, e)) (entry_at n es)
 op_at-map op n [] = refl
-op_at-map op n (e ∷ es) = let rest = op_at-map op n es in grind (arith, nat_tests)
+op_at-map op n (e ∷ es) = grind (arith, nat_tests, op_at-map op n es)
 
 -- messages of entries above a node are above it
 above-map : (op : Entry → Opcode) (n : ℕ) (es : List Entry) → Above n es
@@ -191,7 +173,7 @@ rises-map op [] h = tt
 rises-map op (e ∷ es) h = (above-map op e.node es h.0, rises-map op es h.1)
 
 -- what is told of a node's entry that came, by what left there
-came-told : (moved : Bool) (n : ℕ) (gone come : List Entry)
+pub came-told : (moved : Bool) (n : ℕ) (gone come : List Entry)
     → option_map (λ f. (came_op moved gone f, f)) (entry_at n come)
     ≡ told_last moved (entry_at n gone) (entry_at n come)
 came-told moved n gone come = at (entry_at n come) refl
@@ -215,13 +197,6 @@ pub missing-at : (n : ℕ) (es fs : List Entry) → EntriesRise es → EntriesRi
     → entry_at n (missing es fs) ≡ left (entry_at n es) (entry_at n fs)
 missing-at n es fs h k = at-filter _ n es h ∙ at (entry_at n es) refl
   where
-    by : (e : Entry) (b : Bool) → list_any (same_entry e) fs ≡ b
-        → option_map_or (same_entry e) (entry_at n fs) false ≡ b
-        → option_filter (λ d. not (list_any (same_entry d) fs)) (Some e)
-        ≡ left (Some e) (entry_at n fs)
-    by e true is same = rw (is, same) refl
-    by e false is same = rw (is, same) refl
-
     at : (o : Option Entry) → entry_at n es ≡ o
         → option_filter (λ d. not (list_any (same_entry d) fs)) o ≡ left o (entry_at n fs)
     at None is = refl
@@ -229,32 +204,23 @@ missing-at n es fs h k = at-filter _ n es h ∙ at (entry_at n es) refl
         let node = at-node n es e is in
         let any : list_any (same_entry e) fs ≡ option_map_or (same_entry e) (entry_at n fs) false =
         rw (← node) (has_entry-at e fs k) in
-        by e (option_map_or (same_entry e) (entry_at n fs) false) any refl
+        grind (arith, nat_tests)
 
 -- the entry that stands alone at a node is its own, unless a move tells of both
-alone-at : (moved : Bool) (n : ℕ) (es fs : List Entry) → EntriesRise es
+pub alone-at : (moved : Bool) (n : ℕ) (es fs : List Entry) → EntriesRise es
     → entry_at n (alone_if moved es fs) ≡ told_first moved (entry_at n es) (entry_at n fs)
-alone-at moved n es fs h = at-filter _ n es h ∙ at (entry_at n es) refl
+alone-at false n es fs h = ap (entry_at n) (alone-false es fs)
+alone-at true n es fs h = at-filter _ n es h ∙ at (entry_at n es) refl (entry_at n fs) refl
   where
-    by : (moved : Bool) (e : Entry) (o : Option Entry) → has_node e.node fs ≡ is_some o
-        → option_filter (λ d. not (moved && has_node d.node fs)) (Some e)
-        ≡ told_first moved (Some e) o
-    by false e o is = refl
-    by true e None is = rw is refl
-    by true e (Some f) is = rw is refl
+    here : (e : Entry) → entry_at n es ≡ Some e → has_node e.node fs ≡ is_some (entry_at n fs)
+    here e is = has_node-at e.node fs ∙ ap (λ k. is_some (entry_at k fs)) (at-node n es e is)
 
-    none : (moved : Bool) (o : Option Entry) → None ≡ told_first moved None o
-    none false o = refl
-    none true None = refl
-    none true (Some f) = refl
-
-    at : (o : Option Entry)
-        → entry_at n es ≡ o → option_filter (λ d. not (moved && has_node d.node fs)) o
-        ≡ told_first moved o (entry_at n fs)
-    at None is = none moved (entry_at n fs)
-    at (Some e) is =
-        let node = at-node n es e is in
-        by moved e (entry_at n fs) (has_node-at e.node fs ∙ ap (λ k. is_some (entry_at k fs)) node)
+    at : (o : Option Entry) → entry_at n es ≡ o → (p : Option Entry) → entry_at n fs ≡ p
+        → option_filter (λ d. not (has_node d.node fs)) o ≡ told_first true o p
+    at None is None there = refl
+    at None is (Some f) there = refl
+    at (Some e) is None there = rw (here e is, there) refl
+    at (Some e) is (Some f) there = rw (here e is, there) refl
 
 -- ---- at one node, of what left there and what came
 
@@ -279,13 +245,13 @@ SameNode (Some e) None = Unit {0}
 SameNode (Some e) (Some f) = e.node ≡ f.node
 
 -- whether two entries are the same doesn't depend on their order
-same-swapped : (e f : Entry) (b : Bool) → same_entry e f ≡ b → same_entry f e ≡ b
-same-swapped e f true is = rw (same-entry e f is) (same-self f)
-same-swapped e f false is = back (same_entry f e) refl
-  where
-    back : (b : Bool) → same_entry f e ≡ b → same_entry f e ≡ false
-    back false k = k
-    back true k = let here : same_entry e f ≡ true = rw (same-entry f e k) (same-self e) in cc
+same-swapped : (e f : Entry) → same_entry f e ≡ same_entry e f
+same-swapped e f = grind (
+  arith,
+  nat_tests,
+  bytes_eq-Decides e.name f.name,
+  bytes_eq-Decides f.name e.name,
+)
 
 -- a node whose entry stays needs no message
 turns-same : (moved : Bool) (e f : Entry) → e ≡ f → Turns moved (Some e) (Some f) None None
@@ -311,14 +277,8 @@ turns moved (Some e) (Some f) s = both (same_entry e f) refl
   where
     both : (b : Bool) → same_entry e f ≡ b
         → Turns moved (Some e) (Some f) (left (Some e) (Some f)) (left (Some f) (Some e))
-    both true is =
-        let gone : left (Some e) (Some f) ≡ None = rw is refl in
-        let new : left (Some f) (Some e) ≡ None = rw (same-swapped e f true is) refl in
-        rw (gone, new) (turns-same moved e f (same-entry e f is))
-    both false is =
-        let gone : left (Some e) (Some f) ≡ Some e = rw is refl in
-        let new : left (Some f) (Some e) ≡ Some f = rw (same-swapped e f false is) refl in
-        rw (gone, new) (turns-apart moved e f s)
+    both true is = rw (same-swapped e f, is) (turns-same moved e f (same-entry e f is))
+    both false is = rw (same-swapped e f, is) (turns-apart moved e f s)
 
 -- ---- all of a difference
 
@@ -333,10 +293,6 @@ fit-append : (r : List Entry) (xs ys : List Op) → OpsFit r xs → OpsFit (ops_
     → OpsFit r (xs ++ ys)
 fit-append r [] ys p q = q
 fit-append r (x ∷ xs) ys p q = (p.0, fit-append (folded_by x.0 x.1 r) xs ys p.1 q)
-
--- what a message needs may be said of equal messages and entries
-need-same : (x y : Option Op) (o p : Option Entry) → x ≡ y → o ≡ p → NeedAt y p → NeedAt x o
-need-same x y o p is at need = rw (is, at) need
 
 -- the entries that a node has in two results have that node
 same-nodes : (n : ℕ) (es fs : List Entry) → SameNode (entry_at n es) (entry_at n fs)
@@ -358,6 +314,14 @@ module _ (moved : Bool) (es fs : List Entry) (h : EntriesRise es) (k : EntriesRi
   abbrev came_ops : List Op
   came_ops = map (λ f. (came_op moved (missing es fs) f, f)) (missing fs es)
 
+  -- what left at a node
+  abbrev gone_at : ℕ → Option Entry
+  gone_at n = left (entry_at n es) (entry_at n fs)
+
+  -- what came there
+  abbrev came_at : ℕ → Option Entry
+  came_at n = left (entry_at n fs) (entry_at n es)
+
   -- what left rises
   gone-rises : EntriesRise (missing es fs)
   gone-rises = rises-filter _ es h
@@ -367,47 +331,43 @@ module _ (moved : Bool) (es fs : List Entry) (h : EntriesRise es) (k : EntriesRi
   came-rises = rises-filter _ fs k
 
   -- the removed message of a node is the one by what left there and what came
-  removed-at : (n : ℕ) → op_at n removed_ops ≡ removed_op moved
-      (left (entry_at n es) (entry_at n fs)) (left (entry_at n fs) (entry_at n es))
+  removed-at : (n : ℕ) → op_at n removed_ops ≡ removed_op moved (gone_at n) (came_at n)
   removed-at n = op_at-map (λ _. Removed) n (alone_if moved (missing es fs) (missing fs es))
       ∙ ap (option_map (λ e. (Removed, e))) (alone-at moved n (missing es fs)
       (missing fs es) gone-rises ∙ rw (missing-at n es fs h k, missing-at n fs es k h) refl)
 
   -- and so is the one that is told last
-  came-at : (n : ℕ) → op_at n came_ops ≡ told_last moved
-      (left (entry_at n es) (entry_at n fs)) (left (entry_at n fs) (entry_at n es))
+  came-at : (n : ℕ) → op_at n came_ops ≡ told_last moved (gone_at n) (came_at n)
   came-at n = op_at-map (came_op moved (missing es fs)) n (missing fs es)
       ∙ (came-told moved n (missing es fs) (missing fs es)
       ∙ rw (missing-at n es fs h k, missing-at n fs es k h) refl)
 
   -- at each node they go from the first list's entry to the second's
-  turn : (n : ℕ) → Turns moved (entry_at n es) (entry_at n fs)
-      (left (entry_at n es) (entry_at n fs)) (left (entry_at n fs) (entry_at n es))
+  turn : (n : ℕ) → Turns moved (entry_at n es) (entry_at n fs) (gone_at n) (came_at n)
   turn n = turns moved (entry_at n es) (entry_at n fs) (same-nodes n es fs)
 
   -- the removed messages fit the first list
   first_phase : Phase es removed_ops
   first_phase = phase es removed_ops h (rises-map (λ _. Removed) _ (rises-filter _ _ gone-rises))
-      (λ n. need-same _ _ _ _ (removed-at n) refl (turn n).removed)
+      (λ n. rw (removed-at n) (turn n).removed)
 
   -- what they leave at each node
-  at-first : (n : ℕ) → entry_at n (ops_folded es removed_ops) ≡ outcome (removed_op moved
-      (left (entry_at n es) (entry_at n fs)) (left (entry_at n fs) (entry_at n es))) (entry_at n es)
+  at-first : (n : ℕ) → entry_at n (ops_folded es removed_ops)
+      ≡ outcome (removed_op moved (gone_at n) (came_at n)) (entry_at n es)
   at-first n = first_phase.at n ∙ ap (λ x. outcome x (entry_at n es)) (removed-at n)
 
   -- the messages of what came fit what those leave
   second_phase : Phase (ops_folded es removed_ops) came_ops
   second_phase = phase (ops_folded es removed_ops) came_ops first_phase.rise
       (rises-map (came_op moved (missing es fs)) _ came-rises)
-      (λ n. need-same _ _ _ _ (came-at n) (at-first n) (turn n).came)
+      (λ n. rw (came-at n, at-first n) (turn n).came)
 
   -- what they leave at each node is the second list's entry
   at-second : (n : ℕ)
       → entry_at n (ops_folded (ops_folded es removed_ops) came_ops) ≡ entry_at n fs
   at-second n = second_phase.at n
       ∙ (ap (λ x. outcome x (entry_at n (ops_folded es removed_ops))) (came-at n)
-      ∙ (ap (outcome (told_last moved (left (entry_at n es) (entry_at n fs))
-      (left (entry_at n fs) (entry_at n es)))) (at-first n) ∙ (turn n).end))
+      ∙ (ap (outcome (told_last moved (gone_at n) (came_at n))) (at-first n) ∙ (turn n).end))
 
   -- folding the difference over the first list gives the second
   pub told-folds : ops_folded es (messages_of moved (missing es fs) (missing fs es)) ≡ fs
@@ -428,15 +388,24 @@ abbrev pub MessagesFit : List Entry → List Message → Type 0
 MessagesFit r [] = Unit {0}
 MessagesFit r (m ∷ ms) = (fits_in r m ≡ true) × MessagesFit (folded_one r m) ms
 
--- the numbers of messages don't alter what they fold to
-pub folded-numbered : (seq change : ℕ) (r : List Entry) (xs : List Op)
-    → folded r (numbered seq change xs) ≡ ops_folded r xs
-folded-numbered seq change r [] = refl
-folded-numbered seq change r (x ∷ xs) = folded-numbered (seq + 1) change (folded_by x.0 x.1 r) xs
+-- messages that fit one after another lead from one result to another
+pub record Leads (r : List Entry) (ms : List Message) (end : List Entry) : Type 0 where
+  pub fit : MessagesFit r ms
+  pub folds : folded r ms ≡ end
 
--- messages that fit do so with their numbers
-pub fits-numbered : (seq change : ℕ) (r : List Entry) (xs : List Op) → OpsFit r xs
-    → MessagesFit r (numbered seq change xs)
-fits-numbered seq change r [] h = tt
-fits-numbered seq change r (x ∷ xs) h =
-    (h.0, fits-numbered (seq + 1) change (folded_by x.0 x.1 r) xs h.1)
+-- two lists of messages lead on, one after the other
+pub leads-append : (r : List Entry) (xs ys : List Message) (middle end : List Entry)
+    → Leads r xs middle → Leads middle ys end → Leads r (xs ++ ys) end
+leads-append r [] ys middle end p q = subst (λ o. Leads o ys end) (sym p.folds) q
+leads-append r (x ∷ xs) ys middle end p q =
+    let rest = leads-append (folded_one r x) xs ys middle end
+    (record { fit = p.fit.1; folds = p.folds }) q in
+    record { fit = (p.fit.0, rest.fit); folds = rest.folds }
+
+-- messages without their numbers that fit and fold to a result lead there with them
+pub leads-numbered : (seq change : ℕ) (r : List Entry) (xs : List Op) (end : List Entry)
+    → OpsFit r xs → ops_folded r xs ≡ end → Leads r (numbered seq change xs) end
+leads-numbered seq change r [] end fit folds = record { fit = tt; folds = folds }
+leads-numbered seq change r (x ∷ xs) end fit folds =
+    let rest = leads-numbered (seq + 1) change (folded_by x.0 x.1 r) xs end fit.1 folds in
+    record { fit = (fit.0, rest.fit); folds = rest.folds }

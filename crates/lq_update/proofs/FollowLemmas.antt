@@ -9,7 +9,7 @@ use Rattle.lq_update.specs.Fold.{Folding, fold_refusals, fits_in}
 use Rattle.lq_update.specs.FoldProgress.{may_follow}
 
 -- one that may follow is refused just where it doesn't fit
-pub refusal-following : (f : Folding) (m : Message) → may_follow f.seq f.change f.settled m ≡ true
-    → first_refusal (fold_refusals f m)
-    ≡ (if fits_in f.entries m then None else Some Mismatch)
-refusal-following f m follows = grind (arith, nat_tests)
+pub refusal-following : (f g : Folding) (m : Message) → f ≡ g
+    → may_follow f.seq f.change f.settled m ≡ true
+    → (if fits_in f.entries m then None else Some Mismatch) ≡ first_refusal (fold_refusals g m)
+refusal-following f g m same follows = rw (← same) (grind (arith, nat_tests))

@@ -1,7 +1,7 @@
--- Read in this order. Update lists: Lists. What a change tells: ToldLemmas, TouchedLemmas. A set of
--- entries: EntryLemmas, PlaceLemmas, LocationLemmas (in a map). Folding: FoldLemmas (one
--- difference), FoldLaws (many changes), FollowLemmas and Taking (what a rebuild refuses). Changes
--- that tell nothing: PassingOver. Example has books.
+-- Read in this order. Update lists: Lists. A set of entries: EntryLemmas, PlaceLemmas,
+-- LocationLemmas (in a map). Folding: ToldLemmas and FoldLemmas (one difference), FoldLaws (many
+-- changes), FollowLemmas and Taking (what a rebuild refuses, and settled fronts). What a change
+-- tells: TouchedLemmas. Changes that tell nothing: PassingOver. Example has books.
 pub mod Lists
 pub mod ToldLemmas
 pub mod TouchedLemmas

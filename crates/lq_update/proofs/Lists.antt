@@ -1,6 +1,5 @@
 -- A longer book adds to the end of an update list.
-use Rattle.std.proofs.Common.{◌≡◌, ◌≤◌, ℕ, ◌+◌, ◌-◌, Bool, List, [], ◌∷◌, ◌++◌, refl, arith, ap, length, take, drop, length-drop, ◌∙◌, append_assoc, append-nil, sym, inl, inr, zero, suc}
-use Rattle.std.proofs.lemmas.Bool.{cases_lt}
+use Rattle.std.proofs.Common.{◌≡◌, ◌≤◌, ℕ, ◌+◌, ◌-◌, Bool, List, [], ◌∷◌, ◌++◌, refl, arith, ap, length, take, drop, length-drop, ◌∙◌, append_assoc, append-nil, sym}
 use Rattle.std.proofs.lemmas.List.{length-append, take_all, take-append-le, take-take, take-append-drop, drop-append-le}
 use Rattle.lq_predicate.specs.Query.{Query}
 use Rattle.lq_volume.specs.declared.change.Change.{Change}
@@ -29,35 +28,6 @@ updates-join q moved s (c ∷ cs) ds seq =
     (updates_from q moved (after s c) cs (seq + length (step_of q moved s c seq)))
     (updates_from q moved (after s c) (cs ++ ds) (seq + length (step_of q moved s c seq))) seq
     (updates-join q moved (after s c) cs ds (seq + length (step_of q moved s c seq)))
-
--- one element more of a list is the next one
-take-plus : {A : Type 0} (n : ℕ) (xs : List A) → take (suc n) xs ≡ take n xs ++ take 1 (drop n xs)
-take-plus zero [] = refl
-take-plus zero (x ∷ xs) = refl
-take-plus (suc n) [] = refl
-take-plus (suc n) (x ∷ xs) = ap (λ ys. x ∷ ys) (take-plus n xs)
-
--- a longer book only adds to the end of an update list
-pub updates-grow : UpdatesGrow
-updates-grow q moved b m n =
-    let s = state_at b m in
-    let cs = drop (m - b.start.number) b.changes in
-    elim (cases_lt n m) [
-      | inl below ↦ (
-        [],
-        append-nil _ ∙ ap (λ k. updates_from q moved s (take k cs) 1)
-            (let e : n - m ≡ n + 1 - m = omega arith in e),
-      )
-      | inr reached ↦
-          let more = take 1 (drop (n - m) cs) in
-          let e : n + 1 - m ≡ suc (n - m) = omega arith in (
-            updates_from q moved (after_all s (take (n - m) cs)) more
-                (1 + length (updates_of q moved b m n)),
-            sym (ap (λ k. updates_from q moved s (take k cs) 1) e
-                ∙ (ap (λ ds. updates_from q moved s ds 1) (take-plus (n - m) cs)
-                ∙ updates-join q moved s (take (n - m) cs) more 1)),
-          )
-    ]
 
 -- the state after some changes and then more
 pub after_all-append : (s : State) (xs ys : List Change)
@@ -124,6 +94,10 @@ updates-prefixes q moved b m e n le =
       updates_from q moved (after_all s front) rest (1 + length (updates_from q moved s front 1)),
       sym (updates-join q moved s front rest 1) ∙ ap (λ cs. updates_from q moved s cs 1) split,
     )
+
+-- a longer book only adds to the end of an update list
+pub updates-grow : UpdatesGrow
+updates-grow q moved b m n = updates-prefixes q moved b m n (n + 1) (omega arith)
 
 -- before any change there is none
 pub updates-none : UpdatesBeginEmpty

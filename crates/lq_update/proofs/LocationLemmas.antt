@@ -1,6 +1,6 @@
 -- What an edit of a map from nodes to locations does to the entries.
-use Rattle.std.proofs.Common.{◌≡◌, ℕ, zero, suc, ◌+◌, ◌<◌, List, [], ◌∷◌, ◌++◌, length, take, get_or, refl, sym, ap, ◌∙◌, true, false, arith, inl, inr}
-use Rattle.std.specs.Prelude.{Option, Some, None, is_some, ◌==◌, ◌&&◌}
+use Rattle.std.proofs.Common.{◌≡◌, ℕ, zero, suc, ◌+◌, ◌<◌, List, [], ◌∷◌, ◌++◌, length, take, get_or, refl, sym, ap, ◌∙◌, false, arith, inl, inr}
+use Rattle.std.specs.Prelude.{Some, None, is_some, ◌==◌, ◌&&◌}
 use Rattle.std.specs.Option.{option_map, option_map_or}
 use Rattle.std.specs.List.{AllByRecursion}
 use Rattle.std.specs.Str.{bytes_eq}
@@ -15,7 +15,7 @@ use Rattle.lq_update.specs.declared.locations.Location.{Location}
 use Rattle.lq_update.specs.Diff.{same_entry, has_node}
 use Rattle.lq_update.specs.Fold.{EntriesRise, taken_out, put_in, has_entry}
 use Rattle.lq_update.specs.Locations.{entry_under, entries_of}
-use Rattle.lq_update.proofs.EntryLemmas.{Above, entry_at, same-self, same-entry, above-lower, at-above, has_node-at, has_entry-at, rises-filter, rises-put_in, at-taken_out}
+use Rattle.lq_update.proofs.EntryLemmas.{Above, entry_at, same-self, above-lower, at-above, has_entry-at}
 use Rattle.lq_update.proofs.PlaceLemmas.{above-get, taken_out-above, put_in-above}
 
 -- nodes with their locations
@@ -26,13 +26,13 @@ Located = List (ℕ × Location)
 pub entry_at-lookup : (n : ℕ) (ls : Located) → entry_at n (entries_of ls)
     ≡ option_map (λ l. entry_under (n, l)) (lookup (is_at (nat_cmp n)) ls)
 entry_at-lookup n [] = refl
-entry_at-lookup n (l ∷ ls) = let rest = entry_at-lookup n ls in grind (arith, nat_tests)
+entry_at-lookup n (l ∷ ls) = grind (arith, nat_tests, entry_at-lookup n ls)
 
 -- a node is there just where it has a location
 pub has_node-lookup : (n : ℕ) (ls : Located)
     → has_node n (entries_of ls) ≡ is_some (lookup (is_at (nat_cmp n)) ls)
 has_node-lookup n [] = refl
-has_node-lookup n (l ∷ ls) = let rest = has_node-lookup n ls in grind (arith, nat_tests)
+has_node-lookup n (l ∷ ls) = grind (arith, nat_tests, has_node-lookup n ls)
 
 -- a triple is there just where it is the entry of the location under its node
 has_entry-lookup : (e : Entry) (ls : Located) → EntriesRise (entries_of ls)
@@ -52,24 +52,6 @@ pub has_entry-some : (e : Entry) (ls : Located) (l : Location) → EntriesRise (
     → has_entry e (entries_of ls) ≡ ((e.dir == l.dir) && bytes_eq e.name l.name)
 has_entry-some e ls l h some = has_entry-lookup e ls h ∙ rw some (grind (arith, nat_tests))
 
--- a triple that is there is the entry found for its node
-pub at-has_entry : (e : Entry) (es : List Entry) → EntriesRise es → has_entry e es ≡ true
-    → entry_at e.node es ≡ Some e
-at-has_entry e es h has = found (entry_at e.node es) refl (sym (has_entry-at e es h) ∙ has)
-  where
-    found : (o : Option Entry) → entry_at e.node es ≡ o
-        → option_map_or (same_entry e) o false ≡ true → entry_at e.node es ≡ Some e
-    found None is same = cc
-    found (Some f) is same = is ∙ ap Some (sym (same-entry e f same))
-
--- where a node isn't there no entry is found for it
-at-lacks : (n : ℕ) (es : List Entry) → has_node n es ≡ false → entry_at n es ≡ None
-at-lacks n es lacks = none (entry_at n es) (sym (has_node-at n es) ∙ lacks)
-  where
-    none : (o : Option Entry) → is_some o ≡ false → o ≡ None
-    none None is = refl
-    none (Some e) is = cc
-
 -- a location under a node that had none puts its entry in
 pub insert-put : (ls : Located) (n : ℕ) (l : Location) → has_node n (entries_of ls) ≡ false
     → entries_of (insert_entry nat_cmp ls n l) ≡ put_in (entry_under (n, l)) (entries_of ls)
@@ -83,13 +65,9 @@ pub remove-taken : (ls : Located) (e : Entry) → EntriesRise (entries_of ls)
 remove-taken [] e h is = refl
 remove-taken (l ∷ ls) e h is = elim (cases_eq l.0 e.node) [
   | inl same ↦
-      let here : entry_under l ≡ e = grind (arith, nat_tests) in
-      let itself : same_entry e (entry_under l) ≡ true = ap (same_entry e) here ∙ same-self e in
       let rest = taken_out-above e (entries_of ls) (rw (← same) h.0) in
-      grind (arith, nat_tests)
-  | inr differs ↦
-      let rest = remove-taken ls e h.1 (grind (arith, nat_tests)) in
-      grind (arith, nat_tests)
+      grind (arith, nat_tests, same-self e)
+  | inr differs ↦ grind (arith, nat_tests, remove-taken ls e h.1 (grind (arith, nat_tests)))
 ]
 
 -- another location under a node puts its entry in for the triple that the node had
@@ -105,15 +83,11 @@ insert-replaced (k ∷ ls) e l h is = elim (cases_lt e.node k.0) [
       cc
   | inr high ↦ elim (cases_eq k.0 e.node) [
     | inl same ↦
-        let here : entry_under k ≡ e = grind (arith, nat_tests) in
-        let itself : same_entry e (entry_under k) ≡ true = ap (same_entry e) here ∙ same-self e in
         let above : Above e.node (entries_of ls) = rw (← same) h.0 in
         let rest = taken_out-above e (entries_of ls) above in
         let put = put_in-above (entry_under (e.node, l)) (entries_of ls) above in
-        grind (arith, nat_tests)
-    | inr differs ↦
-        let rest = insert-replaced ls e l h.1 (grind (arith, nat_tests)) in
-        grind (arith, nat_tests)
+        grind (arith, nat_tests, same-self e)
+    | inr differs ↦ grind (arith, nat_tests, insert-replaced ls e l h.1 (grind (arith, nat_tests)))
   ]
 ]
 
@@ -128,33 +102,8 @@ insert-back (k ∷ ls) n l before h is = elim (cases_lt n k.0) [
       let none = at-above n (entries_of (k ∷ ls)) (low, above) in
       let found = entry_at-lookup n (k ∷ ls) in
       cc
-  | inr high ↦ elim (cases_eq k.0 n) [
-    | inl same ↦ grind (arith, nat_tests)
-    | inr differs ↦
-        let rest = insert-back ls n l before h.1 (grind (arith, nat_tests)) in
-        grind (arith, nat_tests)
-  ]
+  | inr high ↦ grind (arith, nat_tests, insert-back ls n l before h.1)
 ]
-
--- the nodes rise still with a location under a new node
-pub rises-put : (ls : Located) (n : ℕ) (l : Location) → EntriesRise (entries_of ls)
-    → has_node n (entries_of ls) ≡ false → EntriesRise (entries_of (insert_entry nat_cmp ls n l))
-rises-put ls n l h lacks = rw (insert-put ls n l lacks)
-    (rises-put_in (entry_under (n, l)) (entries_of ls) h (at-lacks n (entries_of ls) lacks))
-
--- and without a node's location
-pub rises-taken : (ls : Located) (e : Entry) → EntriesRise (entries_of ls)
-    → entry_at e.node (entries_of ls) ≡ Some e
-    → EntriesRise (entries_of (remove_entry (is_at (nat_cmp e.node)) ls))
-rises-taken ls e h is = rw (remove-taken ls e h is) (rises-filter _ (entries_of ls) h)
-
--- and with another location under a node
-pub rises-replaced : (ls : Located) (e : Entry) (l : Location) → EntriesRise (entries_of ls)
-    → entry_at e.node (entries_of ls) ≡ Some e
-    → EntriesRise (entries_of (insert_entry nat_cmp ls e.node l))
-rises-replaced ls e l h is = rw (insert-replaced ls e l h is)
-    (rises-put_in (entry_under (e.node, l)) (taken_out e (entries_of ls))
-    (rises-filter _ (entries_of ls) h) (at-taken_out (entries_of ls) e h is))
 
 -- ---- one location after another, by rising node
 
@@ -173,18 +122,12 @@ below-get (e ∷ es) (suc i) d h lt =
 -- a node above all others isn't there
 has_node-below : (n : ℕ) (es : List Entry) → Below n es → has_node n es ≡ false
 has_node-below n [] h = refl
-has_node-below n (e ∷ es) h =
-    let low = h.0 in
-    let rest = has_node-below n es h.1 in
-    grind (arith, nat_tests)
+has_node-below n (e ∷ es) h = grind (arith, nat_tests, h.0, has_node-below n es h.1)
 
 -- an entry above all others is put in at the end
 put_in-below : (e : Entry) (es : List Entry) → Below e.node es → put_in e es ≡ es ++ e ∷ []
 put_in-below e [] h = refl
-put_in-below e (f ∷ es) h =
-    let low = h.0 in
-    let rest = put_in-below e es h.1 in
-    grind (arith, nat_tests)
+put_in-below e (f ∷ es) h = grind (arith, nat_tests, h.0, put_in-below e es h.1)
 
 -- with the location of the next entry, those so far are of one entry more
 pub insert-next : (ls : Located) (es : List Entry) (i : ℕ) (e : Entry) → EntriesRise es

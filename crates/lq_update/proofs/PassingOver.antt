@@ -1,26 +1,24 @@
 -- A change under names that a predicate doesn't go by leaves its result as it was.
 use Rattle.std.proofs.Common.{◌≡◌, ◌⊎◌, inl, inr, ℕ, ℤ, pos, List, [], ◌∷◌, ◌++◌, ◌<◌, refl, sym, ap, subst, ◌∙◌, Bool, true, false, arith}
-use Rattle.std.specs.Prelude.{Option, Some, None, map, filter, codes, cond, ◌==◌, nat_eq, option_and_then}
+use Rattle.std.specs.Prelude.{Option, Some, None, map, filter, codes, cond, ◌==◌, nat_eq, option_and_then, if◌then◌else◌}
 use Rattle.std.specs.List.{AllByRecursion, list_any}
 use Rattle.std.specs.Map.{lookup}
 use Rattle.std.specs.Option.{option_map}
 use Rattle.std.specs.Str.{bytes_eq}
-use Rattle.std.proofs.lemmas.Bool.{cases_eq}
 use Rattle.std.proofs.lemmas.Bool.Decides.{nat_tests}
 use Rattle.std.proofs.lemmas.Slice.Eq.{bytes_eq-Decides}
 use Rattle.lq_value.specs.declared.entry.Entry.{Entry}
-use Rattle.lq_value.specs.declared.field.Field.TheVariants.{Name, Size, LastModified, Attribute}
-use Rattle.lq_value.specs.declared.value.Value.{Value}
+use Rattle.lq_value.specs.declared.field.Field.TheVariants.{Attribute}
 use Rattle.lq_value.specs.Field.{field_of}
 use Rattle.lq_predicate.specs.Query.{Query}
-use Rattle.lq_predicate.specs.Laws.{BareRowsFail, TruthStaysBesideSpans}
+use Rattle.lq_predicate.specs.Laws.{BareRowsFail, GoesBy, TruthStaysBesideSpans}
 use Rattle.lq_predicate.specs.Span.{StaysBeside, is_beside, span_of}
 use Rattle.lq_predicate.specs.Truth.{truth}
+use Rattle.lq_volume.specs.declared.change.Change.{Change}
 use Rattle.lq_volume.specs.declared.change.Change.TheVariants.{Create, Remove, Move, Write, SetAttr, RemoveAttr}
 use Rattle.lq_volume.specs.AttributeLaws.{ValuesAreFound}
 use Rattle.lq_volume.specs.State.{State, Record, IsVolume, record_at}
-use Rattle.lq_volume.specs.Change.{after, altered, rewritten, set_attr, remove_attr}
-use Rattle.lq_volume.specs.Laws.{ChangesKeepTrees, ClobberedGo, UntouchedStay}
+use Rattle.lq_volume.specs.Change.{after, altered, altered_at, rewritten, set_attr, remove_attr}
 use Rattle.lq_volume.specs.Result.{result_of, entry_of, entry_if, match_at, shown}
 use Rattle.lq_update.specs.Diff.{missing, messages_of, diff}
 use Rattle.lq_update.specs.Fold.{EntriesRise}
@@ -29,69 +27,50 @@ use Rattle.lq_update.specs.Touched.{is_match}
 use Rattle.lq_update.proofs.EntryLemmas.{entry_at, entries-same, rises-filter}
 use Rattle.lq_update.proofs.FoldLaws.{results-rise}
 use Rattle.lq_update.proofs.FoldLemmas.{missing-at}
-use Rattle.lq_update.proofs.TouchedLemmas.{Entries, left-same, told-unmatched}
+use Rattle.lq_update.proofs.TouchedLemmas.{TouchFew, left-same, told-unmatched}
 
 -- another name of the predicate has the test's answer too
 same-name : (names : List (List ℕ)) (name other : List ℕ) → list_any (bytes_eq name) names ≡ true
     → list_any (bytes_eq other) names ≡ false → bytes_eq name other ≡ false
-same-name names name other among not_among = at (bytes_eq name other) refl
-  where
-    at : (b : Bool) → bytes_eq name other ≡ b → bytes_eq name other ≡ false
-    at false is = is
-    at true is =
-        let same : name ≡ other = (bytes_eq-Decides name other).0 is in
-        let both : list_any (bytes_eq other) names ≡ true =
-        ap (λ n. list_any (bytes_eq n) names) (sym same) ∙ among in
-        cc
+same-name names name other among not_among =
+    grind (arith, nat_tests, bytes_eq-Decides name other)
 
--- what an altered record shows under another name
-shown-written : (size : ℕ) (time : ℤ) (r : Record) (name : List ℕ)
-    → bytes_eq name (codes "size") ≡ false → bytes_eq name (codes "last_modified") ≡ false
-    → shown (rewritten size time r) name ≡ shown r name
-shown-written size time r name p q = rw (p, q) refl
+-- so it is of each of some names
+same-names : (names own : List (List ℕ)) (name : List ℕ) → list_any (bytes_eq name) names ≡ true
+    → AllByRecursion (λ other. list_any (bytes_eq other) names ≡ false) own
+    → AllByRecursion (λ other. bytes_eq name other ≡ false) own
+same-names names [] name among off = tt
+same-names names (other ∷ own) name among off =
+    (same-name names name other among off.0, same-names names own name among off.1)
 
--- a setting leaves what a record shows under every other name
-shown-set_attr : ValuesAreFound → (attr : List ℕ) (value : Value) (r : Record) (name : List ℕ)
-    → bytes_eq name attr ≡ false → shown (set_attr attr value r) name ≡ shown r name
-shown-set_attr found attr value r name off = rw (found.set r.attrs attr name value, off) refl
-
--- and so does a removal
-shown-remove_attr : ValuesAreFound → (attr : List ℕ) (r : Record) (name : List ℕ)
-    → bytes_eq name attr ≡ false → shown (remove_attr attr r) name ≡ shown r name
-shown-remove_attr found attr r name off = rw (found.removed r.attrs attr name, off) refl
+-- what is the same with the record of one node altered is the same of each entry
+at-altered : {X : Type 0} (h : ℕ × Record → X) (node : ℕ) (f : Record → Record)
+    → ((n : ℕ) (r : Record) → h (n, f r) ≡ h (n, r)) → (e : ℕ × Record)
+    → h (altered_at node f e) ≡ h e
+at-altered h node f same e =
+    elim (e.0 == node) as (λ b. h (e.0, (if b then f e.1 else e.1)) ≡ h e) [
+      | true ↦ same e.0 e.1
+      | false ↦ refl
+    ]
 
 -- a change of records that keeps their places and the truth of the query keeps the result
-module _ (test : Record → Bool) (node : ℕ) (f : Record → Record)
-    (same : (r : Record) → test (f r) ≡ test r)
-    (place : (n : ℕ) (r : Record) → entry_of (n, f r) ≡ entry_of (n, r)) where
-  -- such a change of one record leaves the entries of the result
-  altered-passes : (es : List (ℕ × Record))
-      → map entry_of (filter (λ e. test e.1) (altered node f es))
-      ≡ map entry_of (filter (λ e. test e.1) es)
-  altered-passes [] = refl
-  altered-passes (e ∷ es) = at (e.0 == node) refl (test e.1) refl (altered-passes es)
-    where
-      at : (b : Bool) → (e.0 == node) ≡ b
-          → (t : Bool) → test e.1 ≡ t → map entry_of (filter (λ d. test d.1) (altered node f es))
-          ≡ map entry_of (filter (λ d. test d.1) es)
-          → map entry_of (filter (λ d. test d.1) (altered node f (e ∷ es)))
-          ≡ map entry_of (filter (λ d. test d.1) (e ∷ es))
-      at true is true holds rest =
-          let then : test (f e.1) ≡ true = same e.1 ∙ holds in
-          rw is (rw (then, holds, place e.0 e.1, rest) refl)
-      at true is false holds rest =
-          let then : test (f e.1) ≡ false = same e.1 ∙ holds in
-          rw is (rw (then, holds) rest)
-      at false is true holds rest = rw is (rw (holds, rest) refl)
-      at false is false holds rest = rw is (rw holds rest)
-
--- what a list misses of itself rises
-rises-missing : (es : List Entry) → EntriesRise es → EntriesRise (missing es es)
-rises-missing es h = rises-filter _ es h
+altered-passes : (test : ℕ × Record → Bool) (g : ℕ × Record → ℕ × Record)
+    → ((e : ℕ × Record) → test (g e) ≡ test e) → ((e : ℕ × Record) → entry_of (g e) ≡ entry_of e)
+    → (es : List (ℕ × Record))
+    → map entry_of (filter test (map g es)) ≡ map entry_of (filter test es)
+altered-passes test g same place [] = refl
+altered-passes test g same place (e ∷ es) =
+    let rest = altered-passes test g same place es in
+    rw (same e) (elim (test e) as (λ b.
+    map entry_of (cond b (g e ∷ filter test (map g es)) (filter test (map g es)))
+    ≡ map entry_of (cond b (e ∷ filter test es) (filter test es))) [
+      | true ↦ λ i. place e i ∷ rest i
+      | false ↦ rest
+    ])
 
 -- a list misses nothing of itself
 missing-self : (es : List Entry) → EntriesRise es → missing es es ≡ []
-missing-self es h = entries-same (missing es es) [] (rises-missing es h) tt
+missing-self es h = entries-same (missing es es) [] (rises-filter _ es h) tt
     (λ n. missing-at n es es h h ∙ left-same (entry_at n es))
 
 -- where nothing left and nothing came, nothing is told
@@ -115,35 +94,39 @@ inside x (Some y) = y
 some-inside : {X : Type 0} {x y : X} → Some x ≡ Some y → x ≡ y
 some-inside {X} {x} is = ap (inside x) is
 
+-- a change of one node's record that keeps its place, and what it shows under all names but these,
+-- tells nothing to a query that goes by none of these
+passes-over : (q : Query) (moved : Bool) (s : State) (c : Change) (node : ℕ) (f : Record → Record)
+    (names own other : List (List ℕ)) → IsVolume s → GoesBy names q → Some own ≡ Some other
+    → AllByRecursion (λ name. list_any (bytes_eq name) names ≡ false) other
+    → (after s c).records ≡ altered node f s.records
+    → ((n : ℕ) (r : Record) → entry_of (n, f r) ≡ entry_of (n, r))
+    → ((r : Record) (name : List ℕ) → AllByRecursion (λ a. bytes_eq name a ≡ false) own
+    → shown (f r) name ≡ shown r name) → diff q moved s (after s c) ≡ []
+passes-over q moved s c node f names own other v by is off records_are place shows =
+    let off_own : AllByRecursion (λ name. list_any (bytes_eq name) names ≡ false) own =
+    rw (some-inside is) off in
+    diff-same q moved s (after s c) v
+    (ap (λ es. map entry_of (filter (λ e. truth q (shown e.1)) es)) records_are
+    ∙ altered-passes (λ e. truth q (shown e.1)) (altered_at node f)
+    (at-altered (λ e. truth q (shown e.1)) node f (λ n r. by (shown (f r)) (shown r)
+    (λ name among. shows r name (same-names names own name among off_own))))
+    (at-altered entry_of node f place) s.records)
+
 -- a change under names that a query doesn't go by tells it nothing
 pub changes-pass : ValuesAreFound → ChangesPassOver
 changes-pass found q moved s (Create dir name kind size time) names altered v by is off = cc
 changes-pass found q moved s (Remove node) names altered v by is off = cc
 changes-pass found q moved s (Move node dir name clobber) names altered v by is off = cc
 changes-pass found q moved s (Write node size time) names altered v by is off =
-    let off_both = subst (AllByRecursion (λ name. list_any (bytes_eq name) names ≡ false))
-    (sym (some-inside is)) off in
-    diff-same q moved s (after s (Write node size time)) v
-    (altered-passes (λ r. truth q (shown r)) node (rewritten size time)
-    (λ r. by (shown (rewritten size time r)) (shown r) (λ name among.
-    shown-written size time r name (same-name names name (codes "size") among off_both.0)
-    (same-name names name (codes "last_modified") among off_both.1.0))) (λ n r. refl) s.records)
+    passes-over q moved s (Write node size time) node (rewritten size time) names _ altered v by
+    is off refl (λ n r. refl) (λ r name off. rw (off.0, off.1.0) refl)
 changes-pass found q moved s (SetAttr node attr value) names altered v by is off =
-    let off_one = subst (AllByRecursion (λ name. list_any (bytes_eq name) names ≡ false))
-    (sym (some-inside is)) off in
-    diff-same q moved s (after s (SetAttr node attr value)) v
-    (altered-passes (λ r. truth q (shown r)) node (set_attr attr value)
-    (λ r. by (shown (set_attr attr value r)) (shown r) (λ name among.
-    shown-set_attr found attr value r name (same-name names name attr among off_one.0)))
-    (λ n r. refl) s.records)
+    passes-over q moved s (SetAttr node attr value) node (set_attr attr value) names _ altered v by
+    is off refl (λ n r. refl) (λ r name off. rw (found.set r.attrs attr name value, off.0) refl)
 changes-pass found q moved s (RemoveAttr node attr) names altered v by is off =
-    let off_one = subst (AllByRecursion (λ name. list_any (bytes_eq name) names ≡ false))
-    (sym (some-inside is)) off in
-    diff-same q moved s (after s (RemoveAttr node attr)) v
-    (altered-passes (λ r. truth q (shown r)) node (remove_attr attr)
-    (λ r. by (shown (remove_attr attr r)) (shown r) (λ name among.
-    shown-remove_attr found attr r name (same-name names name attr among off_one.0)))
-    (λ n r. refl) s.records)
+    passes-over q moved s (RemoveAttr node attr) node (remove_attr attr) names _ altered v by is off
+    refl (λ n r. refl) (λ r name off. rw (found.removed r.attrs attr name, off.0) refl)
 
 -- ---- a write of numbers that stay beside those of the query
 
@@ -151,10 +134,7 @@ changes-pass found q moved s (RemoveAttr node attr) names altered v by is off =
 lookup-altered : (node : ℕ) (f : Record → Record) (es : List (ℕ × Record))
     → lookup (nat_eq node) (altered node f es) ≡ option_map f (lookup (nat_eq node) es)
 lookup-altered node f [] = refl
-lookup-altered node f (e ∷ es) = elim (cases_eq e.0 node) [
-  | inl same ↦ grind (arith, nat_tests)
-  | inr differs ↦ grind (arith, nat_tests, lookup-altered node f es)
-]
+lookup-altered node f (e ∷ es) = grind (arith, nat_tests, lookup-altered node f es)
 
 -- what a written record shows is the same, or stays beside the numbers of the query
 shown-beside : (q : Query) (r : Record) (size : ℕ) (time : ℤ)
@@ -172,8 +152,7 @@ shown-beside q r size time sizes times name =
     by : (b : Bool) → bytes_eq name (codes "size") ≡ b
         → (d : Bool) → bytes_eq name (codes "last_modified") ≡ d → Goal name
     by true is d other =
-        let same : name ≡ codes "size" = (bytes_eq-Decides name (codes "size")).0 is in
-        subst Goal (sym same) (inr (record {
+        subst Goal (sym ((bytes_eq-Decides name (codes "size")).0 is)) (inr (record {
           from = pos r.size;
           to = pos size;
           was = refl;
@@ -181,16 +160,14 @@ shown-beside q r size time sizes times name =
           beside = sizes;
         }))
     by false is true other =
-        let same : name ≡ codes "last_modified" =
-        (bytes_eq-Decides name (codes "last_modified")).0 other in
-        subst Goal (sym same) (inr (record {
+        subst Goal (sym ((bytes_eq-Decides name (codes "last_modified")).0 other)) (inr (record {
           from = r.time;
           to = time;
           was = refl;
           is = refl;
           beside = times;
         }))
-    by false is false other = inl (sym (shown-written size time r name is other))
+    by false is false other = inl (rw (is, other) refl)
 
 -- a write that leaves the truth of a query leaves its match at the node
 pub match-written : TruthStaysBesideSpans
@@ -211,7 +188,7 @@ match-written law q s r node size time is sizes times =
 -- ---- a creation, where the query needs an attribute
 
 -- a new node has no record, and then the one that is put last
-created-last : (es : Entries) (k : ℕ) (r : Record) → AllByRecursion (λ e. e.0 < k) es
+created-last : (es : List (ℕ × Record)) (k : ℕ) (r : Record) → AllByRecursion (λ e. e.0 < k) es
     → (lookup (nat_eq k) es ≡ None) × (lookup (nat_eq k) (es ++ (k, r) ∷ []) ≡ Some r)
 created-last [] k r below = grind (arith, nat_tests)
 created-last (e ∷ es) k r below =
@@ -221,27 +198,14 @@ created-last (e ∷ es) k r below =
 -- a record without attributes shows nothing under the name of one
 shown-bare : (r : Record) → r.attrs ≡ [] → (name : List ℕ) → field_of name ≡ Attribute
     → shown r name ≡ None
-shown-bare r bare name is = by (bytes_eq name (codes "name")) refl
-    (bytes_eq name (codes "size")) refl (bytes_eq name (codes "last_modified")) refl
-  where
-    by : (a : Bool) → bytes_eq name (codes "name") ≡ a → (b : Bool)
-        → bytes_eq name (codes "size") ≡ b → (c : Bool)
-        → bytes_eq name (codes "last_modified") ≡ c → shown r name ≡ None
-    by true n b sz c t = let no : Name ≡ Attribute = rw n at is in cc
-    by false n true sz c t = let no : Size ≡ Attribute = rw (n, sz) at is in cc
-    by false n false sz true t = let no : LastModified ≡ Attribute = rw (n, sz, t) at is in cc
-    by false n false sz false t = rw (n, sz, t, bare) refl
+shown-bare r bare name is = grind (arith, nat_tests)
 
 -- a creation tells nothing to a query that needs an attribute
-pub bare-creates : BareRowsFail → ChangesKeepTrees → UntouchedStay → ClobberedGo
-    → BareCreatesTellNothing
-bare-creates fail trees stay go q moved s dir name kind size time seq v lawful needs =
-    let c = Create dir name kind size time in
+pub bare-creates : BareRowsFail → TouchFew → BareCreatesTellNothing
+bare-creates fail laws q moved s dir name kind size time seq v lawful needs =
     let r : Record =
     record { dir = dir; name = name; kind = kind; size = size; time = time; attrs = [] } in
     let last = created-last s.records s.next r v.numbered.below in
-    let before : is_match q (record_at s s.next) ≡ false = ap (is_match q) last.0 in
-    let now : is_match q (record_at (after s c) s.next) ≡ false =
-    ap (is_match q) last.1 ∙ fail q (shown r) needs (shown-bare r refl) in
-    told-unmatched q moved s c seq v (trees s c v lawful)
-    (λ n off. stay s c n v lawful off) (λ n is. go s c n v is) refl before now
+    told-unmatched laws q moved s (Create dir name kind size time) seq v lawful refl
+    (ap (is_match q) last.0)
+    (ap (is_match q) last.1 ∙ fail q (shown r) needs (shown-bare r refl))

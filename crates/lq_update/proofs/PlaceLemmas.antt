@@ -1,7 +1,6 @@
 -- What a search among entries that rise by node finds, and what an edit at that place does.
 use Rattle.std.proofs.Common.{◌≡◌, ℕ, zero, suc, ◌<◌, ◌≤◌, List, [], ◌∷◌, length, get_or, set, refl, sym, ap, ◌∙◌, Bool, true, false, arith, inl, inr, Result, Ok, Err, IfOk, IfErr}
-use Rattle.std.specs.Prelude.{Option, Some, None, is_some, is_ok}
-use Rattle.std.specs.Option.{option_map_or}
+use Rattle.std.specs.Prelude.{Some, None, is_some, is_ok}
 use Rattle.std.specs.List.{insert, remove}
 use Rattle.std.specs.List.Sorted.{IsSearchInRange, IsBinarySearchResult, IsNonDecreasingBy}
 use Rattle.std.specs.Ordering.{nat_cmp, ordering_index}
@@ -13,7 +12,7 @@ use Rattle.lq_value.specs.declared.entry.Entry.{Entry}
 use Rattle.lq_update.specs.Diff.{same_entry, has_node}
 use Rattle.lq_update.specs.Fold.{EntriesRise, taken_out, put_in, has_entry}
 use Rattle.lq_update.specs.Place.{IsEntryAt, IsTripleAt, IsGapFor}
-use Rattle.lq_update.proofs.EntryLemmas.{Above, entry_at, same-self, same-entry, at-above, has_node-at, has_entry-at, rises-filter, rises-put_in, at-taken_out}
+use Rattle.lq_update.proofs.EntryLemmas.{Above, at-lacks, entry_at, same-self, same-entry, at-above, has_node-at, has_entry-at}
 
 -- each entry of a list above a node is above it
 pub above-get : (n : ℕ) (es : List Entry) (i : ℕ) (d : Entry) → Above n es → i < length es
@@ -80,18 +79,14 @@ at-gap [] n i g = refl
 at-gap (e ∷ es) n zero g =
     at-above n (e ∷ es) (all-higher (e ∷ es) n (λ j d lt. g.higher j d (omega arith) lt))
 at-gap (e ∷ es) n (suc i) g =
-    let lt = g.lower 0 e (omega arith) in
-    let rest = at-gap es n i (gap-tail e es n i g) in
-    grind (arith, nat_tests)
+    grind (arith, nat_tests, g.lower 0 e (omega arith), at-gap es n i (gap-tail e es n i g))
 
 -- an entry inserted at the gap for its node is put in
 pub insert-gap : (e : Entry) (es : List Entry) (i : ℕ) → IsGapFor es e.node i
     → insert es i e ≡ put_in e es
 insert-gap e [] zero g = refl
 insert-gap e [] (suc i) g = absurd (omega (arith, g.within))
-insert-gap e (f ∷ es) zero g =
-    let low = g.higher 0 f (omega arith) (omega arith) in
-    grind (arith, nat_tests)
+insert-gap e (f ∷ es) zero g = grind (arith, nat_tests, g.higher 0 f (omega arith) (omega arith))
 insert-gap e (f ∷ es) (suc i) g =
     let low = g.lower 0 f (omega arith) in
     let rest = insert-gap e es i (gap-tail f es e.node i g) in
@@ -101,31 +96,21 @@ insert-gap e (f ∷ es) (suc i) g =
 pub at-place : (es : List Entry) (n i : ℕ) (d : Entry) → EntriesRise es → IsEntryAt es n i
     → entry_at n es ≡ Some (get_or es i d)
 at-place [] n i d h g = absurd (omega (arith, g.within))
-at-place (e ∷ es) n zero d h g = let here = g.has_node e in grind (arith, nat_tests)
+at-place (e ∷ es) n zero d h g = grind (arith, nat_tests, g.has_node e)
 at-place (e ∷ es) n (suc i) d h g =
     let within : i < length es = omega (arith, g.within) in
-    let above = above-get e.node es i d h.0 within in
-    let here = g.has_node d in
     let rest = at-place es n i d h.1 (record { within = within; has_node = λ c. g.has_node c }) in
-    grind (arith, nat_tests)
+    grind (arith, nat_tests, above-get e.node es i d h.0 within, g.has_node d)
 
 -- a triple's place is its node's
 pub triple-place : (es : List Entry) (e : Entry) (i : ℕ) → IsTripleAt es e i → IsEntryAt es e.node i
 triple-place es e i g =
     record { within = g.within; has_node = λ d. ap (λ (f : Entry). f.node) (g.same d) }
 
--- a triple at a place is the entry found for its node
-pub at-triple : (es : List Entry) (e : Entry) (i : ℕ) → EntriesRise es → IsTripleAt es e i
-    → entry_at e.node es ≡ Some e
-at-triple es e i h g = at-place es e.node i e h (triple-place es e i g) ∙ ap Some (g.same e)
-
 -- taking a triple out of entries above its node leaves them all
 pub taken_out-above : (e : Entry) (es : List Entry) → Above e.node es → taken_out e es ≡ es
 taken_out-above e [] h = refl
-taken_out-above e (f ∷ es) h =
-    let low = h.0 in
-    let rest = taken_out-above e es h.1 in
-    grind (arith, nat_tests)
+taken_out-above e (f ∷ es) h = grind (arith, nat_tests, h.0, taken_out-above e es h.1)
 
 -- a triple behind the first entry is one of the list without it
 triple-tail : (f : Entry) (es : List Entry) (e : Entry) (i : ℕ) → IsTripleAt (f ∷ es) e (suc i)
@@ -145,9 +130,7 @@ pub remove-triple : (es : List Entry) (e : Entry) (i : ℕ) → EntriesRise es �
 remove-triple [] e i h g = absurd (omega (arith, g.within))
 remove-triple (f ∷ es) e zero h g =
     let is : f ≡ e = g.same e in
-    let same : same_entry e f ≡ true = rw is (same-self e) in
-    let rest = taken_out-above e es (rw (← is) h.0) in
-    grind (arith, nat_tests)
+    grind (arith, nat_tests, same-self e, taken_out-above e es (rw (← is) h.0))
 remove-triple (f ∷ es) e (suc i) h g =
     let lt = triple-above f es e i h g in
     let rest = remove-triple es e i h.1 (triple-tail f es e i g) in
@@ -156,7 +139,7 @@ remove-triple (f ∷ es) e (suc i) h g =
 -- a triple put in below all others goes to the front
 pub put_in-above : (e : Entry) (es : List Entry) → Above e.node es → put_in e es ≡ e ∷ es
 put_in-above e [] h = refl
-put_in-above e (f ∷ es) h = let low = h.0 in grind (arith, nat_tests)
+put_in-above e (f ∷ es) h = grind (arith, nat_tests, h.0)
 
 -- an entry at its node's place in place of another
 pub set-triple : (es : List Entry) (e f : Entry) (i : ℕ) → EntriesRise es → IsTripleAt es e i
@@ -164,10 +147,8 @@ pub set-triple : (es : List Entry) (e f : Entry) (i : ℕ) → EntriesRise es �
 set-triple [] e f i h g node = absurd (omega (arith, g.within))
 set-triple (d ∷ es) e f zero h g node =
     let is : d ≡ e = g.same e in
-    let same : same_entry e d ≡ true = rw is (same-self e) in
     let rest = taken_out-above e es (rw (← is) h.0) in
-    let put = put_in-above f es (rw (node, ← is) h.0) in
-    grind (arith, nat_tests)
+    grind (arith, nat_tests, same-self e, put_in-above f es (rw (node, ← is) h.0))
 set-triple (d ∷ es) e f (suc i) h g node =
     let lt = triple-above d es e i h g in
     let rest = set-triple es e f i h.1 (triple-tail d es e i g) node in
@@ -192,43 +173,13 @@ has_entry-read es e f i b h g read same = has_entry-at e es h
 -- where a node has no entry, no triple of it is there
 pub has_entry-lacks : (es : List Entry) (e : Entry) → EntriesRise es → has_node e.node es ≡ false
     → has_entry e es ≡ false
-has_entry-lacks es e h lacks = has_entry-at e es h
-    ∙ at (entry_at e.node es) (sym (has_node-at e.node es) ∙ lacks)
-  where
-    at : (o : Option Entry) → is_some o ≡ false → option_map_or (same_entry e) o false ≡ false
-    at None none = refl
-    at (Some f) none = cc
-
--- a node with a gap isn't there
-pub has_node-gap : (es : List Entry) (n i : ℕ) → IsGapFor es n i → has_node n es ≡ false
-has_node-gap es n i g = has_node-at n es ∙ ap is_some (at-gap es n i g)
-
--- a node with a place is there
-pub has_node-place : (es : List Entry) (n i : ℕ) (d : Entry) → EntriesRise es → IsEntryAt es n i
-    → has_node n es ≡ true
-has_node-place es n i d h g = has_node-at n es ∙ ap is_some (at-place es n i d h g)
+has_entry-lacks es e h lacks = has_entry-at e es h ∙ rw (at-lacks e.node es lacks) refl
 
 -- a search says whether a node is there
 pub has_node-search : (es : List Entry) (n : ℕ) (r : Result ℕ ℕ) → EntriesRise es
     → IfOk r (IsEntryAt es n) → IfErr r (IsGapFor es n) → has_node n es ≡ is_ok r
 has_node-search [] n (Ok i) h found absent = absurd (omega (arith, found.within))
-has_node-search (e ∷ es) n (Ok i) h found absent = has_node-place (e ∷ es) n i e h found
-has_node-search es n (Err i) h found absent = has_node-gap es n i absent
-
--- the nodes still rise after an insertion at the gap
-pub rises-insert : (e : Entry) (es : List Entry) (i : ℕ) → EntriesRise es → IsGapFor es e.node i
-    → EntriesRise (insert es i e)
-rises-insert e es i h g = rw (insert-gap e es i g) (rises-put_in e es h (at-gap es e.node i g))
-
--- the nodes still rise after a removal
-pub rises-remove : (es : List Entry) (e : Entry) (i : ℕ) → EntriesRise es → IsTripleAt es e i
-    → EntriesRise (remove es i)
-rises-remove es e i h g = rw (remove-triple es e i h g) (rises-filter _ es h)
-
--- the nodes still rise after an entry is written over by one of its node
-pub rises-set : (es : List Entry) (e f : Entry) (i : ℕ) → EntriesRise es → IsTripleAt es e i
-    → f.node ≡ e.node → EntriesRise (set es i f)
-rises-set es e f i h g node =
-    let none : entry_at f.node (taken_out e es) ≡ None =
-    rw node (at-taken_out es e h (at-triple es e i h g)) in
-    rw (set-triple es e f i h g node) (rises-put_in f (taken_out e es) (rises-filter _ es h) none)
+has_node-search (e ∷ es) n (Ok i) h found absent =
+    has_node-at n (e ∷ es) ∙ ap is_some (at-place (e ∷ es) n i e h found)
+has_node-search es n (Err i) h found absent =
+    has_node-at n es ∙ ap is_some (at-gap es n i absent)

@@ -1,26 +1,33 @@
--- What a removed and a created entry of one node tell, among removed ones of other nodes.
-use Rattle.std.proofs.Common.{◌≡◌, ◌≢◌, ℕ, List, [], ◌∷◌, ◌++◌, refl, sym, ap, ◌∙◌, Bool, true, false, arith, append-nil, append_assoc}
-use Rattle.std.specs.Prelude.{map, filter, not, ◌&&◌, ◌==◌, Option, Some, None}
-use Rattle.std.specs.Option.{option_map, option_map_or, option_to_list}
-use Rattle.std.specs.List.{AllByRecursion, find, list_any}
+-- The messages of what left and what came, with moves and without, in one form.
+use Rattle.std.proofs.Common.{◌≡◌, List, [], ◌∷◌, ◌++◌, refl, ap, ◌∙◌, Bool, true, false, arith}
+use Rattle.std.specs.Prelude.{cond, map, filter, not, ◌&&◌, Option, Some, None}
+use Rattle.std.specs.Option.{option_map, option_map_or}
+use Rattle.std.specs.List.{find, list_any}
 use Rattle.std.proofs.lemmas.Bool.Decides.{nat_tests}
+use Rattle.std.proofs.lemmas.Simd.{map-map}
 use Rattle.std.proofs.lemmas.List.{map-append}
 use Rattle.std.proofs.lemmas.List.Elements.{filter-append}
 use Rattle.lq_value.specs.declared.entry.Entry.{Entry}
 use Rattle.lq_update.specs.declared.message.Opcode.{Opcode}
 use Rattle.lq_update.specs.declared.message.Opcode.TheVariants.{Created, Removed, Moved}
 use Rattle.lq_update.specs.Diff.{as_moved, has_node, is_move, messages_of, without_moves}
-use Rattle.lq_update.specs.Touched.{told_first, told_last}
 use Rattle.lq_update.proofs.EntryLemmas.{entry_at}
 
--- the entry, if there is one, has the node
-abbrev pub Has : ℕ → Option Entry → Type 0
-Has n None = Unit {0}
-Has n (Some e) = e.node ≡ n
+-- to filter what a function gives is to filter by what it gives
+filter-map : {X Y : Type 0} (f : X → Y) (p : Y → Bool) (xs : List X)
+    → filter p (map f xs) ≡ map f (filter (λ x. p (f x)) xs)
+filter-map f p [] = refl
+filter-map f p (x ∷ xs) =
+    elim (p (f x)) as (λ b. cond b (f x ∷ filter p (map f xs)) (filter p (map f xs))
+    ≡ map f (cond b (x ∷ filter (λ y. p (f y)) xs) (filter (λ y. p (f y)) xs))) [
+      | true ↦ ap (λ rest. f x ∷ rest) (filter-map f p xs)
+      | false ↦ filter-map f p xs
+    ]
 
--- no entry has it
-abbrev pub Lacks : ℕ → List Entry → Type 0
-Lacks n es = AllByRecursion (λ e. e.node ≢ n) es
+-- a filter that all pass leaves all
+filter-true : {X : Type 0} (xs : List X) → filter (λ _. true) xs ≡ xs
+filter-true [] = refl
+filter-true (x ∷ xs) = ap (λ rest. x ∷ rest) (filter-true xs)
 
 -- the entries whose node is in none of the others
 abbrev pub alone : List Entry → List Entry → List Entry
@@ -31,9 +38,8 @@ abbrev pub alone_if : Bool → List Entry → List Entry → List Entry
 alone_if moved entries others = filter (λ e. not (moved && has_node e.node others)) entries
 
 -- without moves these are all entries
-alone-false : (es fs : List Entry) → alone_if false es fs ≡ es
-alone-false [] fs = refl
-alone-false (e ∷ es) fs = ap (λ rest. e ∷ rest) (alone-false es fs)
+pub alone-false : (es fs : List Entry) → alone_if false es fs ≡ es
+alone-false es fs = filter-true es
 
 -- what is told of an entry that came: that it was created, or moved from where its node was
 abbrev pub came_op : Bool → List Entry → Entry → Opcode
@@ -45,28 +51,16 @@ came_op true gone f =
 removed-any : (e : Entry) (gone come : List Entry)
     → list_any (is_move (Removed, e)) (without_moves gone come) ≡ has_node e.node come
 removed-any e [] [] = refl
-removed-any e [] (f ∷ come) = let rest = removed-any e [] come in grind (arith, nat_tests)
+removed-any e [] (f ∷ come) = grind (arith, nat_tests, removed-any e [] come)
 removed-any e (g ∷ gone) come = removed-any e gone come
 
 -- so those of the entries that stand alone stay
 removed-kept : (es gone come : List Entry)
     → filter (λ m. not (list_any (is_move m) (without_moves gone come)))
-        (map (λ e. (Removed, e)) es)
+    (map (λ e. (Removed, e)) es)
     ≡ map (λ e. (Removed, e)) (alone es come)
-removed-kept [] gone come = refl
-removed-kept (e ∷ es) gone come =
-    by (has_node e.node come) refl (removed-any e gone come) (removed-kept es gone come)
-  where
-    keeps : Opcode × Entry → Bool
-    keeps m = not (list_any (is_move m) (without_moves gone come))
-
-    by : (b : Bool) → has_node e.node come ≡ b
-        → list_any (is_move (Removed, e)) (without_moves gone come) ≡ has_node e.node come
-        → filter keeps (map (λ e. (Removed, e)) es) ≡ map (λ e. (Removed, e)) (alone es come)
-        → filter keeps (map (λ e. (Removed, e)) (e ∷ es))
-        ≡ map (λ e. (Removed, e)) (alone (e ∷ es) come)
-    by true is any rest = rw (any, is, rest) refl
-    by false is any rest = rw (any, is, rest) refl
+removed-kept es gone come = filter-map (λ e. (Removed, e)) _ es
+    ∙ (λ i. map (λ e. (Removed, e)) (filter (λ e. not (removed-any e gone come i)) es))
 
 -- a created message is no first of a move
 created-any : (f : Entry) (ms : List (Opcode × Entry)) → list_any (is_move (Created, f)) ms ≡ false
@@ -77,9 +71,9 @@ created-any f (m ∷ ms) = created-any f ms
 created-kept : (ms : List (Opcode × Entry)) (fs : List Entry)
     → filter (λ m. not (list_any (is_move m) ms)) (map (λ f. (Created, f)) fs)
     ≡ map (λ f. (Created, f)) fs
-created-kept ms [] = refl
-created-kept ms (f ∷ fs) =
-    rw (created-any f ms) (ap (λ rest. (Created, f) ∷ rest) (created-kept ms fs))
+created-kept ms fs = filter-map (λ f. (Created, f)) _ fs
+    ∙ ((λ i. map (λ f. (Created, f)) (filter (λ f. not (created-any f ms i)) fs))
+    ∙ ap (map (λ f. (Created, f))) (filter-true fs))
 
 -- a removed message is no second of a move
 find-none : (e : Entry) (ms : List (Opcode × Entry)) → find (λ m. is_move m (Removed, e)) ms ≡ None
@@ -91,9 +85,9 @@ find-none e ((Moved dir name, d) ∷ ms) = find-none e ms
 -- so it becomes no moved one
 removed-stay : (ms : List (Opcode × Entry)) (es : List Entry)
     → map (as_moved ms) (map (λ e. (Removed, e)) es) ≡ map (λ e. (Removed, e)) es
-removed-stay ms [] = refl
-removed-stay ms (e ∷ es) =
-    rw (find-none e ms) (ap (λ rest. (Removed, e) ∷ rest) (removed-stay ms es))
+removed-stay ms es = map-map (as_moved ms) (λ e. (Removed, e)) es
+    ∙ (λ i. map (λ e. option_map_or (λ m. (Moved m.1.dir m.1.name, e)) (find-none e ms i)
+    (Removed, e)) es)
 
 -- a created message makes a move with the removed one of its node
 find-came : (f : Entry) (gone come : List Entry)
@@ -101,33 +95,25 @@ find-came : (f : Entry) (gone come : List Entry)
     ≡ option_map (λ e. (Removed, e)) (entry_at f.node gone)
 find-came f [] [] = refl
 find-came f [] (d ∷ come) = find-came f [] come
-find-came f (e ∷ gone) come = by (e.node == f.node) refl (find-came f gone come)
-  where
-    by : (b : Bool) → (e.node == f.node) ≡ b
-        → find (λ m. is_move m (Created, f)) (without_moves gone come)
-        ≡ option_map (λ e. (Removed, e)) (entry_at f.node gone)
-        → find (λ m. is_move m (Created, f)) (without_moves (e ∷ gone) come)
-        ≡ option_map (λ e. (Removed, e)) (entry_at f.node (e ∷ gone))
-    by true is rest = rw is refl
-    by false is rest = rw is rest
+find-came f (e ∷ gone) come = grind (arith, nat_tests, find-came f gone come)
 
 -- so it becomes what is told of its entry
 created-told : (gone come fs : List Entry)
     → map (as_moved (without_moves gone come)) (map (λ f. (Created, f)) fs)
     ≡ map (λ f. (came_op true gone f, f)) fs
-created-told gone come [] = refl
-created-told gone come (f ∷ fs) =
-    by (entry_at f.node gone) refl (find-came f gone come) (created-told gone come fs)
+created-told gone come fs = map-map (as_moved (without_moves gone come)) (λ f. (Created, f)) fs
+    ∙ (λ i. map (λ f. told f i) fs)
   where
-    by : (o : Option Entry) → entry_at f.node gone ≡ o
-        → find (λ m. is_move m (Created, f)) (without_moves gone come)
-        ≡ option_map (λ e. (Removed, e)) (entry_at f.node gone)
-        → map (as_moved (without_moves gone come)) (map (λ f. (Created, f)) fs)
-        ≡ map (λ f. (came_op true gone f, f)) fs
-        → map (as_moved (without_moves gone come)) (map (λ f. (Created, f)) (f ∷ fs))
-        ≡ map (λ f. (came_op true gone f, f)) (f ∷ fs)
-    by None is found rest = rw (found, is, rest) refl
-    by (Some e) is found rest = rw (found, is, rest) refl
+    by : (f : Entry) (o : Option Entry) → ◌≡◌ {A = Opcode × Entry}
+        (option_map_or (λ (m : Opcode × Entry). (Moved m.1.dir m.1.name, f))
+        (option_map (λ e. (Removed, e)) o)
+        (Created, f)) (option_map_or (λ e. Moved e.dir e.name) o Created, f)
+    by f None = refl
+    by f (Some e) = refl
+
+    told : (f : Entry) → ◌≡◌ {A = Opcode × Entry} (as_moved (without_moves gone come) (Created, f))
+        (came_op true gone f, f)
+    told f = rw (find-came f gone come) (by f (entry_at f.node gone))
 
 -- the messages with moves and those without, in one form
 pub messages-split : (moved : Bool) (gone come : List Entry) → messages_of moved gone come
@@ -142,81 +128,3 @@ messages-split true gone come =
     ∙ (λ i. removed-kept gone gone come i ++ created-kept ms come i))
     ∙ (map-append (as_moved ms) (map (λ e. (Removed, e)) (alone gone come)) created
     ∙ (λ i. removed-stay ms (alone gone come) i ++ created-told gone come come i))
-
--- where nothing came, all that left stand alone
-alone-nil : (es : List Entry) → alone es [] ≡ es
-alone-nil [] = refl
-alone-nil (e ∷ es) = ap (λ rest. e ∷ rest) (alone-nil es)
-
--- entries of other nodes than the one that came stand alone
-alone-off : (f : Entry) (es : List Entry) → Lacks f.node es → alone es (f ∷ []) ≡ es
-alone-off f [] off = refl
-alone-off f (e ∷ es) off =
-    let differs = off.0 in
-    let rest = alone-off f es off.1 in
-    grind (arith, nat_tests)
-
--- a node that two lists lack isn't in both together
-lacks-append : (n : ℕ) (es fs : List Entry) → Lacks n es → Lacks n fs → Lacks n (es ++ fs)
-lacks-append n [] fs p q = q
-lacks-append n (e ∷ es) fs p q = (p.0, lacks-append n es fs p.1 q)
-
--- a node that a list lacks has no entry there
-at-none : (n : ℕ) (es : List Entry) → Lacks n es → entry_at n es ≡ None
-at-none n [] off = refl
-at-none n (e ∷ es) off =
-    let differs = off.0 in
-    let rest = at-none n es off.1 in
-    grind (arith, nat_tests)
-
--- and behind it, the next one of that node
-at-behind : (n : ℕ) (e : Entry) (es fs : List Entry) → Lacks n es → e.node ≡ n
-    → entry_at n (es ++ e ∷ fs) ≡ Some e
-at-behind n e [] fs off at = grind (arith, nat_tests)
-at-behind n e (d ∷ es) fs off at =
-    let differs = off.0 in
-    let rest = at-behind n e es fs off.1 at in
-    grind (arith, nat_tests)
-
--- the test of a node, turned round
-same_node : (e f : Entry) → e.node ≡ f.node → (f.node == e.node) ≡ true
-same_node e f at = grind (arith, nat_tests)
-
--- what is told where one entry came, among removed ones of other nodes
-pub told-among : (moved : Bool) (n : ℕ) (o c : Option Entry) (es fs : List Entry) → Has n o
-    → Has n c → Lacks n es → Lacks n fs
-    → messages_of moved (es ++ option_to_list o ++ fs) (option_to_list c)
-    ≡ map (λ e. (Removed, e)) (es ++ option_to_list (told_first moved o c) ++ fs)
-    ++ option_to_list (told_last moved o c)
-told-among false n o c es fs p q off end = at o c
-  where
-    at : (o c : Option Entry) → map (λ e. (Removed, e)) (es ++ option_to_list o ++ fs)
-        ++ map (λ e. (Created, e)) (option_to_list c)
-        ≡ map (λ e. (Removed, e)) (es ++ option_to_list (told_first false o c) ++ fs)
-        ++ option_to_list (told_last false o c)
-    at o None = refl
-    at None (Some f) = refl
-    at (Some e) (Some f) = refl
-told-among true n o None es fs p q off end =
-    messages-split true (es ++ option_to_list o ++ fs) []
-    ∙ rw (alone-nil (es ++ option_to_list o ++ fs)) refl
-told-among true n None (Some f) es fs p q off end =
-    let lacks : Lacks f.node (es ++ [] ++ fs) =
-    rw (append-nil es, q) (lacks-append n es fs off end) in
-    messages-split true (es ++ [] ++ fs) (f ∷ [])
-    ∙ rw (alone-off f (es ++ [] ++ fs) lacks, at-none f.node (es ++ [] ++ fs) lacks) refl
-told-among true n (Some e) (Some f) es fs p q off end =
-    let before : Lacks f.node es = rw q off in
-    let behind : Lacks f.node fs = rw q end in
-    let here = same_node e f (p ∙ sym q) in
-    let left_is : alone (es ++ (e ∷ []) ++ fs) (f ∷ []) ≡ es ++ [] ++ fs =
-    filter-append _ (es ++ e ∷ []) fs
-    ∙ rw (
-      filter-append (λ d. not (has_node d.node (f ∷ []))) es (e ∷ []),
-      alone-off f es before,
-      alone-off f fs behind,
-      here,
-    ) refl in
-    let there : entry_at f.node (es ++ (e ∷ []) ++ fs) ≡ Some e = ap (entry_at f.node)
-    (append_assoc es (e ∷ []) fs) ∙ at-behind f.node e es fs before (p ∙ sym q) in
-    messages-split true (es ++ (e ∷ []) ++ fs) (f ∷ []) ∙ rw (left_is, there) refl

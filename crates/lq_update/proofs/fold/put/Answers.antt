@@ -1,7 +1,9 @@
-use Rattle.std.proofs.Common.{◌∙◌}
+use Rattle.std.proofs.Common.{◌∙◌, sym, ap}
+use Rattle.lq_update.specs.Diff.{has_node}
 use Rattle.lq_update.specs.Fold.{message_entry}
 use Rattle.lq_update.specs.Place.{IsGapFor}
-use Rattle.lq_update.proofs.PlaceLemmas.{insert-gap, rises-insert}
+use Rattle.lq_update.proofs.EntryLemmas.{at-lacks, rises-put_in}
+use Rattle.lq_update.proofs.PlaceLemmas.{insert-gap}
 use Rattle.lq_update.proofs.fold.put.Goals as goal
 
 pub returns-clause-ok : goal.returns-clause-ok
@@ -12,8 +14,6 @@ returns-clause-ok c =
     ∙ rw c.in_ok-entry.ensures.value (insert-gap (message_entry c.args.message.now) _ _ gap)
 
 pub returns-clause-rise : goal.returns-clause-rise
-returns-clause-rise c =
-    let gap : IsGapFor c.args.entries.now.items c.args.message.now.node c.in-Err.place =
-    rw (← c.deref.ensures.value) c.in-Err.ensures.absent in
-    rw (c.in_ok-insert.ensures.items, c.in_ok-entry.ensures.value)
-    (rises-insert (message_entry c.args.message.now) _ _ c.requires gap)
+returns-clause-rise c = rw (returns-clause-ok c) (rises-put_in (message_entry c.args.message.now) _
+    c.requires (at-lacks c.args.message.now.node c.args.entries.now.items
+    (ap (has_node c.args.message.now.node) (sym c.deref.ensures.value) ∙ c.in-Err.ensures.has)))

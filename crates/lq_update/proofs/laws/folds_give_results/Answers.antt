@@ -1,4 +1,4 @@
-use Rattle.lq_update.proofs.FoldLaws.{folds-give}
+use Rattle.lq_update.proofs.Taking.{folds-give}
 use Rattle.lq_update.proofs.laws.folds_give_results.Goals as goal
 
 pub returns : goal.returns

@@ -6,8 +6,7 @@ use Rattle.lq_update.proofs.locations.is_at.Goals as goal
 
 pub returns-in-None : goal.returns-in-None
 returns-in-None c =
-    let e : Entry = record { dir = c.args.dir; name = c.args.name.now; node = c.args.node } in
-    sym (has_entry-none e c.args.locations.now.entries c.requires (sym c.in-None.ensures.value))
+    sym (has_entry-none _ c.args.locations.now.entries c.requires (sym c.in-None.ensures.value))
 
 pub returns-then-dir-location : goal.returns-then-dir-location
 returns-then-dir-location c =

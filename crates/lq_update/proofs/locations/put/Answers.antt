@@ -2,7 +2,8 @@ use Rattle.std.proofs.Common.{◌≡◌, ap, refl, sym, ◌∙◌, true, false}
 use Rattle.std.specs.Prelude.{is_some}
 use Rattle.lq_update.specs.Diff.{has_node}
 use Rattle.lq_update.specs.Locations.{entries_of}
-use Rattle.lq_update.proofs.LocationLemmas.{has_node-lookup, insert-back, insert-put, rises-put}
+use Rattle.lq_update.proofs.LocationLemmas.{has_node-lookup, insert-back, insert-put}
+use Rattle.lq_update.proofs.EntryLemmas.{at-lacks, rises-put_in}
 use Rattle.lq_update.proofs.locations.put.Goals as goal
 
 -- where nothing stood under the node it wasn't there
@@ -34,9 +35,8 @@ returns-in-Ok-None-clause-ok c = ap entries_of c.in-Ok-None.ensures.entries
     (record { dir = c.args.message.now.dir; name = c.args.message.now.name }) (lacking c))
 
 pub returns-in-Ok-None-clause-rise : goal.returns-in-Ok-None-clause-rise
-returns-in-Ok-None-clause-rise c = rw c.in-Ok-None.ensures.entries
-    (rises-put c.args.locations.now.entries c.args.message.now.node c.in-Ok.location
-    c.requires (lacking c))
+returns-in-Ok-None-clause-rise c = rw (returns-in-Ok-None-clause-ok c)
+    (rises-put_in _ _ c.requires (at-lacks c.args.message.now.node _ (lacking c)))
 
 pub returns-in-Ok-Some-clause-refused : goal.returns-in-Ok-Some-clause-refused
 returns-in-Ok-Some-clause-refused c = rw (having c) (tt, refl)

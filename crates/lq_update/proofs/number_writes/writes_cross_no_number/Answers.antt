@@ -1,4 +1,4 @@
-use Rattle.std.proofs.Common.{◌≡◌, ◌+◌, ◌∙◌, sym, ap, refl, true, pos, Some, None, rules, FitsSigned, w64, to_z, of_z}
+use Rattle.std.proofs.Common.{◌≡◌, ◌∙◌, sym, ap, refl, true, pos, Some, None, rules, FitsSigned, w64, to_z, of_z}
 use Rattle.std.specs.Prelude.{codes}
 use Rattle.std.specs.Option.{option_copied}
 use Rattle.std.proofs.lemmas.Int.{to_z-of_z}
@@ -8,9 +8,9 @@ use Rattle.lq_volume.specs.declared.change.Change.TheVariants.{Write}
 use Rattle.lq_volume.specs.State.{record_at}
 use Rattle.lq_volume.specs.Change.{after, clobbered, node_of}
 use Rattle.lq_volume.specs.Result.{match_at}
-use Rattle.lq_update.specs.Touched.{left, left_at}
+use Rattle.lq_update.specs.Touched.{left}
 use Rattle.lq_update.proofs.PassingOver.{match-written}
-use Rattle.lq_update.proofs.TouchedLemmas.{left-same, told-alone, told-nothing}
+use Rattle.lq_update.proofs.TouchedLemmas.{left-same, told-left}
 use Rattle.lq_update.proofs.number_writes.writes_cross_no_number.Goals as goal
 
 pub returns-then-is_beside_sizes : goal.returns-then-is_beside_sizes
@@ -45,15 +45,8 @@ returns-then-is_beside_sizes c q moved seq is spans_are =
     ∙ match-written c.truth_stays_beside_spans.ensures q s view c.in-Write.node size time here
     sizes times
     ∙ sym (ap (λ d. match_at q s (node_of s d)) write) in
-    let left_is : left_at q s (after s change) node ≡ None =
-    ap (left (match_at q s node)) same ∙ left-same (match_at q s node) in
-    let came_is : left_at q (after s change) s node ≡ None =
-    ap (λ o. left o (match_at q s node)) same ∙ left-same (match_at q s node) in
-    let nothing = told-nothing moved _ _ left_is came_is in
-    let none : clobbered s change ≡ None = ap (clobbered s) write in
-    let volume = c.applied.ensures.volume in
-    let lawful = c.applied.ensures.lawful in
-    let kept = c.changes_touch_few.ensures.trees s change volume lawful in
-    sym (told-alone q moved s change seq (s.number + 1) None None
-    volume kept (λ n off. c.changes_touch_few.ensures.stay s change n volume lawful off)
-    (λ n is. c.changes_touch_few.ensures.go s change n volume is) refl nothing.0 nothing.1 none)
+    sym (told-left c.changes_touch_few.ensures q moved s change seq c.applied.ensures.volume
+    c.applied.ensures.lawful _ None refl
+    (ap (left (match_at q s node)) same ∙ left-same (match_at q s node))
+    (ap (λ o. left o (match_at q s node)) same ∙ left-same (match_at q s node))
+    (ap (clobbered s) write))
