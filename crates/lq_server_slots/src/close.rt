@@ -12,7 +12,7 @@ ghost use Rattle.lq_server_slots.specs.Opening.{asks_after, name_or};
 use crate::identity::Identity;
 use crate::slots::ServerSlots;
 use crate::subscription::{Subscription, close};
-use crate::sync::{meet_same, meet_under, notice_by};
+use crate::sync::{meet_slot_at, meet_under, notice_by};
 use lq_board::{Board, Keeper, Seat};
 
 // Closes a subscription, once the keeper and its seat have met.
@@ -104,7 +104,7 @@ fn close_at(
         ≤ asks_of slot.old (slot_at keeper.old.slots seat.old.slot) }
     ensures kept { is_some slot.new ≡ is_some slot.old }
 {
-    let number = meet_same(board, keeper, seat);
+    let number = meet_slot_at(board, keeper, slot, seat);
     let Some(taken) = slot else { unreachable!() };
     if close_slot(board, keeper, taken, seat, number) {
         Some(number)
@@ -210,6 +210,12 @@ pub fn free_in(board: &Board<Identity>, slots: &mut ServerSlots, seat: Seat<Iden
 {
     let place = seat.slot() as usize;
     let keeper = &mut slots.keeper;
-    free_at(board, keeper, &mut slots.subscriptions[place], seat, asked);
+    free_at(
+        board,
+        keeper,
+        &mut slots.subscriptions[place],
+        seat,
+        asked,
+    );
     take_out(&mut slots.taken, place);
 }

@@ -104,7 +104,7 @@ fn begin(
 }
 
 // The slot's seat, under a name given for contracts alone, which is this subscription's.
-fn sit_named(
+fn sit(
     board: &Board<Identity>,
     keeper: &mut Keeper<Identity>,
     slot: &Subscription,
@@ -134,35 +134,6 @@ fn sit_named(
     // For the contract alone, which names the subscription.
     let _ = slot;
     board.slot_seat(keeper, place)
-}
-
-// The slot's seat, under the name of this subscription.
-fn sit(
-    board: &Board<Identity>,
-    keeper: &mut Keeper<Identity>,
-    slot: &Subscription,
-    place: u64,
-) -> Seat<Identity>
-    requires board { keeper.old.board ≡ board.now }
-    requires place { (0 < place) × (place < 65) }
-    requires free { (slot_at keeper.old.slots place).out ≡ false }
-    ensures board { keeper.new.board ≡ keeper.old.board }
-    ensures counted { keeper.new.register.openings ≡ keeper.old.register.openings + 1 }
-    ensures book { keeper.new.book ≡ keeper.old.book }
-    ensures slots { keeper.new.slots
-        ≡ gone_out keeper.old.slots place (Some (identity_of slot.now)) }
-    ensures seat { result ≡ record {
-      board = keeper.old.board;
-      slot = place;
-      book = keeper.old.book;
-      asks = (slot_at keeper.old.slots place).asks;
-      name = Some (identity_of slot.now);
-      author = new_author keeper.old.register;
-      moments = [];
-    } }
-    ensures signs { result.author.signs ≡ keeper.old.board.free }
-{
-    sit_named(board, keeper, slot, place)
 }
 
 // Puts a subscription into a free place, and gives out the seat of the place. Everything that takes

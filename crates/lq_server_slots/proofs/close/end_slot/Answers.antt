@@ -1,9 +1,7 @@
-use Rattle.std.proofs.Common.{◌≡◌, false, true≢false, Option, Some, None, refl, sym, ap, ◌∙◌, subst}
+use Rattle.std.proofs.Common.{◌≡◌, false, true≢false, Option, Some, None, refl, sym, ◌∙◌, subst}
 use Rattle.std.specs.Prelude.{IsSome, is_none}
 use Rattle.lq_board.specs.Slot.{slot_at}
-use Rattle.lq_board.specs.declared.token_views.KnownSlot.{KnownSlot}
 use Rattle.lq_update.specs.declared.mark.Mark.{Mark}
-use Rattle.lq_server_slots.specs.declared.identity.Identity.{Identity}
 use Rattle.lq_server_slots.specs.Slots.{IsTakenSlot}
 use Rattle.lq_server_slots.proofs.SyncLemmas.{taken_closed}
 use Rattle.lq_server_slots.proofs.close.end_slot.Goals as goal
@@ -29,6 +27,3 @@ not_none None h = absurd (true≢false (sym h))
 pub returns-clause-late : goal.returns-clause-late
 returns-clause-late c = λ some.
     c.close-closed.ensures.closes ∙ not_none c.args.slot.now.sub.held.mark some
-
-pub returns-clause-known : goal.returns-clause-known
-returns-clause-known c = ap (λ (p : KnownSlot Identity). p.asks) c.meet_under.ensures.place
