@@ -140,12 +140,12 @@ seat_then old mid new b c is same then = then
     ∙ (λ i. record (is i) { book = same i; name = new.name })
 
 -- the name after a close, by an equal name before, and an equal number of changes
-pub close_then : (o p q : Option Identity) (asked : Bool) (m n : ℕ) → p ≡ q → m ≡ n
-    → o ≡ Some (record (name_or p) { first_close = after_close (name_or p).first_close asked m })
-    → o ≡ Some (record (name_or q) { first_close = after_close (name_or q).first_close asked n })
-close_then o p q asked m n same number is = is
+pub close_then : (o p q : Option Identity) (closed : Bool) (m n : ℕ) → p ≡ q → m ≡ n
+    → o ≡ Some (record (name_or p) { first_close = after_close (name_or p).first_close closed m })
+    → o ≡ Some (record (name_or q) { first_close = after_close (name_or q).first_close closed n })
+close_then o p q closed m n same number is = is
     ∙ (λ i. Some (record (name_or (same i)) {
-      first_close = after_close (name_or (same i)).first_close asked (number i);
+      first_close = after_close (name_or (same i)).first_close closed (number i);
     }))
 
 -- a taken slot stands on once its seat has met the keeper

@@ -143,11 +143,11 @@ fn free_at(
     keeper: &mut Keeper<Identity>,
     slot: &mut Option<Subscription>,
     seat: Seat<Identity>,
-    asked: bool,
+    hang_up_asked: bool,
 )
     requires board { (keeper.old.board ≡ board.now) × (seat.board ≡ board.now) }
     requires place { (0 < seat.slot) × (seat.slot < 65) × (length keeper.old.slots ≡ 65) }
-    requires seat { IsSomeAnd seat.name (λ t. seat.asks ≡ asks_after t.asks asked) }
+    requires seat { IsSomeAnd seat.name (λ t. seat.asks ≡ asks_after t.asks hang_up_asked) }
     requires fits { SlotStands slot.old (slot_at keeper.old.slots seat.slot) keeper.old.book }
     ensures board { keeper.new.board ≡ keeper.old.board }
     ensures counted { keeper.new.register.openings ≡ keeper.old.register.openings }
@@ -161,7 +161,7 @@ fn free_at(
     ensures later { Extends keeper.old.book seat.book }
 {
     // For the contract alone, which says how often the seat has asked.
-    let _ = asked;
+    let _ = hang_up_asked;
     board.join(keeper, seat);
     *slot = None;
 }
@@ -191,10 +191,15 @@ fn take_out(taken: &mut Vec<usize>, place: usize)
 }
 
 /// Takes a slot's seat back and frees the slot. The other slots keep their subscriptions.
-pub fn free_in(board: &Board<Identity>, slots: &mut ServerSlots, seat: Seat<Identity>, asked: bool)
+pub fn free_in(
+    board: &Board<Identity>,
+    slots: &mut ServerSlots,
+    seat: Seat<Identity>,
+    hang_up_asked: bool,
+)
     requires board { (slots.old.keeper.board ≡ board.now) × (seat.board ≡ board.now) }
     requires seat { (0 < seat.slot)
-        × IsSomeAnd seat.name (λ t. seat.asks ≡ asks_after t.asks asked) }
+        × IsSomeAnd seat.name (λ t. seat.asks ≡ asks_after t.asks hang_up_asked) }
     requires holding { AreConsistent slots.old slots.old.keeper.book }
     ensures board { slots.new.keeper.board ≡ slots.old.keeper.board }
     ensures counted { slots.new.keeper.register.openings
@@ -215,7 +220,7 @@ pub fn free_in(board: &Board<Identity>, slots: &mut ServerSlots, seat: Seat<Iden
         keeper,
         &mut slots.subscriptions[place],
         seat,
-        asked,
+        hang_up_asked,
     );
     take_out(&mut slots.taken, place);
 }

@@ -65,33 +65,33 @@ fn begin(
     alloc: Global,
     keeper: &Keeper<Identity>,
     volume: &Volume,
-    asked: &OpenRequest,
+    request: &OpenRequest,
 ) -> Result<(Subscription, Reading), Refusal>
     requires volume { volume.now ≡ state_of keeper.now.book }
     requires full { IsFullBook keeper.now.book }
-    requires port { (0 < asked.now.port) × (asked.now.port ≤ 1024) }
+    requires port { (0 < request.now.port) × (request.now.port ≤ 1024) }
     ensures refused { FailsOnlyForMemory result }
     ensures begun { IfOk result (λ r. IsNewSubscription r.0 r.1 keeper.now.book
-        asked.now.predicate.now asked.now.moved asked.now.port asked.now.backlog) }
+        request.now.predicate.now request.now.moved request.now.port request.now.backlog) }
     ensures keeper { IfOk result (λ r. r.1.port.floor.book.value ≡ keeper.now) }
 {
     // For the proof: a result's nodes rise, and a new subscription stands over the book.
     results_rise();
     new_subscriptions_stand();
     let at = volume.changes();
-    let entries = volume.fetch(asked.predicate)?;
-    let sub = Sub::new(alloc, asked.predicate, at, asked.backlog, asked.moved)?;
+    let entries = volume.fetch(request.predicate)?;
+    let sub = Sub::new(alloc, request.predicate, at, request.backlog, request.moved)?;
     let opening_at = Opening {
-        query: GhostCopy::of(asked.predicate),
-        moved: asked.moved,
+        query: GhostCopy::of(request.predicate),
+        moved: request.moved,
         opened: at,
         book: GhostCopy::of(keeper),
     };
-    let (input, output) = make::<Delivery>(alloc, asked.port, &opening_at)?;
+    let (input, output) = make::<Delivery>(alloc, request.port, &opening_at)?;
     let slot = Subscription {
         sub,
         input,
-        places: asked.port,
+        places: request.port,
         asks: 0,
         told: GhostCopy::of(&Told::Live {
             change: at,
@@ -190,7 +190,7 @@ pub fn open_in(
     board: &Board<Identity>,
     slots: &mut ServerSlots,
     volume: &Volume,
-    asked: &OpenRequest,
+    request: &OpenRequest,
 ) -> Result<Opened, Refusal>
     requires board { slots.old.keeper.board ≡ board.now }
     requires stands { IsConsistentWith slots.old volume.now }
@@ -204,19 +204,19 @@ pub fn open_in(
     ensures err { OnErr result (AreUnchanged slots.old slots.new) }
     ensures holding { AreConsistent slots.new slots.new.keeper.book }
     ensures opened { IfOk result (λ o. IsOpened o slots.old.keeper.board slots.old.keeper.book
-        asked.now.predicate.now asked.now.moved asked.now.port asked.now.backlog) }
+        request.now.predicate.now request.now.moved request.now.port request.now.backlog) }
 
     // The reader's floor has the keeper that gave the slot.
     ensures keeper { IfOk result (λ o. o.reading.port.floor.book.value ≡ slots.old.keeper) }
 
     // The first refusal that fits and no other, or the lowest free slot.
-    ensures answered { IsOpeningAnswer slots.old volume.now.limit asked.now.port asked.now.backlog
-        result }
+    ensures answered { IsOpeningAnswer slots.old volume.now.limit request.now.port
+        request.now.backlog result }
 {
-    if asked.port == 0 || asked.port > MAX_PLACES {
+    if request.port == 0 || request.port > MAX_PLACES {
         return Err(Refusal::BadPort);
     }
-    if asked.backlog > MAX_BACKLOG {
+    if request.backlog > MAX_BACKLOG {
         return Err(Refusal::BadBacklog);
     }
     let Some(place) = free_place(&slots.subscriptions) else {
@@ -225,6 +225,6 @@ pub fn open_in(
     if volume.limit() <= slots.openings {
         return Err(Refusal::Exhausted);
     }
-    let (slot, reading) = begin(alloc, &slots.keeper, volume, asked)?;
+    let (slot, reading) = begin(alloc, &slots.keeper, volume, request)?;
     settle(board, slots, place, slot, reading)
 }

@@ -88,8 +88,8 @@ pub(crate) fn notice_slot(
         → slot.new.sub.held.mark ≡ slot.old.sub.held.mark }
 {
     let asks = board.asks(keeper, place as u64);
-    let asked = asks > slot.asks;
-    notice(slot, asked, number);
+    let hang_up_asked = asks > slot.asks;
+    notice(slot, hang_up_asked, number);
     asks
 }
 
