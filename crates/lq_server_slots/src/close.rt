@@ -4,7 +4,6 @@ ghost use Rattle.lq_volume.specs.Book.{Extends};
 ghost use Rattle.lq_board.specs.Slot.{slot_at};
 ghost use Rattle.lq_server_slots.specs.declared.identity.FirstClose.TheVariants.{Never};
 ghost use Rattle.lq_server_slots.specs.Marking.{after_close};
-ghost use Rattle.lq_server_slots.specs.Identity.{identity_of};
 ghost use Rattle.lq_server_slots.specs.Closing.{IsClosed};
 ghost use Rattle.lq_server_slots.specs.Slots.{IsTakenSlot, SlotStands, AreConsistent, IsSlotIn, IsDropped, taken_slot, OnlyAt, asks_of, slot_in};
 ghost use Rattle.lq_server_slots.specs.Opening.{asks_after, name_or};
@@ -15,7 +14,8 @@ use crate::subscription::{Subscription, close};
 use crate::sync::{meet_slot_at, meet_under, notice_by};
 use lq_board::{Board, Keeper, Seat};
 
-// Closes a subscription, once the keeper and its seat have met.
+// Closes a subscription, once the keeper and its seat have met, and gives its seat the name that
+// says so. The notice comes first.
 fn close_slot(
     board: &Board<Identity>,
     keeper: &mut Keeper<Identity>,
@@ -45,37 +45,6 @@ fn close_slot(
     }) }
 {
     notice_by(board, keeper, slot, seat, number);
-    end_slot(board, keeper, slot, seat, number)
-}
-
-// Closes a subscription, and gives its seat the name that says so. Its notice comes before.
-fn end_slot(
-    board: &Board<Identity>,
-    keeper: &mut Keeper<Identity>,
-    slot: &mut Subscription,
-    seat: &mut Seat<Identity>,
-    number: u64,
-) -> bool
-    requires board { (keeper.old.board ≡ board.now) × (seat.old.board ≡ board.now) }
-    requires place { (0 < seat.old.slot) × (seat.old.slot < 65)
-        × (length keeper.old.slots ≡ 65) }
-    requires number { number ≡ length keeper.old.book.changes }
-    requires taken { IsTakenSlot slot.old (slot_at keeper.old.slots seat.old.slot) keeper.old.book }
-    ensures closes { result ≡ true → (name_or seat.old.name).first_close ≡ Never }
-    ensures late { IsSome slot.old.sub.held.mark → result ≡ false }
-    ensures board { keeper.new.board ≡ keeper.old.board }
-    ensures counted { keeper.new.register.openings ≡ keeper.old.register.openings }
-    ensures book { keeper.new.book ≡ keeper.old.book }
-    ensures only { OnlyAt keeper.old.slots keeper.new.slots seat.old.slot }
-    ensures taken { IsTakenSlot slot.new (slot_at keeper.new.slots seat.old.slot) keeper.new.book }
-    ensures asks { slot.new.asks ≡ slot.old.asks }
-    ensures known { (slot_at keeper.new.slots seat.old.slot).asks ≡ seat.old.asks }
-    ensures named { seat.new.name ≡ Some (identity_of slot.new) }
-    ensures seat { seat.new ≡ record seat.old { book = keeper.old.book; name = seat.new.name } }
-    ensures name { seat.new.name ≡ Some (record (name_or seat.old.name) {
-      first_close = after_close (name_or seat.old.name).first_close result number;
-    }) }
-{
     let closed = close(slot, number);
     meet_under(board, keeper, seat, slot);
     closed
