@@ -1,5 +1,5 @@
 -- A change, committed in one slot after another.
-use Rattle.std.proofs.Common.{◌≡◌, ◌≢◌, ⊎_elim, ℕ, ◌+◌, ◌<◌, ◌≤◌, true, false, true≢false, List, [], ◌∷◌, length, Option, None, sym, ap, ◌∙◌, subst, arith, length-set, slice_set}
+use Rattle.std.proofs.Common.{◌≡◌, ◌≢◌, ⊎_elim, ℕ, ◌+◌, ◌<◌, ◌≤◌, true, false, true≢false, List, [], ◌∷◌, length, Option, Some, None, sym, ap, ◌∙◌, subst, arith, length-set, slice_set}
 use Rattle.std.specs.Prelude.{IsSome, is_some}
 use mathlib.Core.Logic.{dite}
 use native.Mathlib.Decide.{ℕ_discrete}
@@ -15,7 +15,7 @@ use Rattle.lq_server_slots.specs.declared.identity.Identity.{Identity}
 use Rattle.lq_server_slots.specs.declared.subscription.Subscription.{Subscription}
 use Rattle.lq_server_slots.specs.Marking.{hung_mark}
 use Rattle.lq_server_slots.specs.Standing.{IsConsistentAt, IsReady, SameButHeld, SameButPuts, CannotPut}
-use Rattle.lq_server_slots.specs.Slots.{SlotStands, asks_of, slot_in, taken_slot, AllStand, IsListed, IsReadyAt, AllReady, before_of, PartlyCommitted, OnlyAt, SlotIs, SlotsAre, IsNoticed, IsServed, IsGrown, IsTakenSlot, IsToFill}
+use Rattle.lq_server_slots.specs.Slots.{SlotStands, asks_of, slot_in, taken_slot, AllStand, IsListed, IsReadyAt, AllReady, before_of, PartlyCommitted, OnlyAt, SlotIs, SlotsAre, IsNoticed, IsServed, IsGrown, IsToFill}
 use Rattle.lq_server_slots.proofs.SlotLemmas.{in_here, in_else, counted_here, to_fill_then, seen_others, identity_others}
 use Rattle.lq_server_slots.proofs.TakenLemmas.{free_or_taken, some_ap, listed-set}
 
@@ -174,18 +174,20 @@ served_filled s t p noticed alike stuck =
     }
 
 -- a change was committed in a taken slot, whose port is still to be filled
-pub committed : (s t : Subscription) (p : KnownSlot Identity) (book : Book) (c : Change)
-    → IsGrown book c → IsReady s.sub (state_of (before_of book)) c
-    → IsTakenSlot s p (before_of book)
+pub committed : (o : Option Subscription) (s t : Subscription) (p : KnownSlot Identity)
+    (book : Book) (c : Change) → o ≡ Some s → IsGrown book c
+    → IsReadyAt o (state_of (before_of book)) c → SlotStands o p (before_of book)
     → (IsConsistentAt s (before_of book) → IsReady s.sub (state_of (before_of book)) c
     → IsLawful (state_of (before_of book)) c → IsFullBook (grown (before_of book) (c ∷ []))
     → IsConsistentAt t (grown (before_of book) (c ∷ [])))
     → SameButHeld s t → t.first_close ≡ s.first_close
     → (hung_mark t.sub.held.mark → hung_mark s.sub.held.mark) → IsToFill t p book
-committed s t p book c grown ready taken stands others first_close hung =
+committed o s t p book c is grown ready fits stands others first_close hung =
+    let taken = subst (λ z. SlotStands z p (before_of book)) is fits in
+    let fit = subst (λ z. IsReadyAt z (state_of (before_of book)) c) is ready in
     to_fill_then s t p (before_of book) book taken
     (subst (IsConsistentAt t) (sym grown.book)
-    (stands taken.stands ready grown.lawful (subst IsFullBook grown.book grown.full)))
+    (stands taken.stands fit grown.lawful (subst IsFullBook grown.book grown.full)))
     (seen_others s t others taken.seen) (identity_others s t others first_close) hung
 
 -- after a notice the keeper knows just as many asks as were read

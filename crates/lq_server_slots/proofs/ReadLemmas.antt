@@ -204,11 +204,12 @@ module _ (law : RebuildsTakeAll) (e : End Delivery Opening) (result : Folding) (
   )
 
   -- a read of the message in hand
-  pub hand_step : (result' : Folding) (hand' : Option Message) (read : Result Read Refusal)
-      → FailsOnlyForMemory read → OnOk read ((result' ≡ folding_after result m) × (hand' ≡ None))
+  pub hand_step : (w : Bool) (result' : Folding) (hand' : Option Message)
+      (read : Result Read Refusal) → FailsOnlyForMemory read
+      → OnOk read ((result' ≡ folding_after result m) × (hand' ≡ None))
       → OnErr read ((result' ≡ result) × (hand' ≡ Some m)) → IfOk read (λ a. a ≡ Update m)
-      → IsReadStep true (hold e (Some m) result) (hold e hand' result') read
-  hand_step result' hand' read refused ok err gave =
+      → IsReadStep w (hold e (Some m) result) (hold e hand' result') read
+  hand_step w result' hand' read refused ok err gave =
       record {
         refused = refused;
         same = (refl, refl, refl);
@@ -221,7 +222,7 @@ module _ (law : RebuildsTakeAll) (e : End Delivery Opening) (result : Folding) (
         fails = on_err read _ _ err (fails_hand result' hand');
         hand = on_err read _ _ err (λ f. subst IsSome (sym f.1) refl);
         over = λ some. absurd (hand_first e result (Some m) m ended r refl some);
-        waits = not_empty read m gave;
+        waits = never_empty w read (λ _. not_empty read m gave);
       }
 
 -- the end after a parcel was taken
@@ -437,46 +438,42 @@ module _ (d e : End Delivery Opening) (x : Delivery) (same : IsSamePort d e) (lo
 -- a read that changes nothing
 module _ (w : Bool) (e : End Delivery Opening) (hand : Option Message) (result : Folding)
     (ended : Bool) (r : ReadsPort e result hand ended) where
-  -- the mark was read before
-  pub ended_step : ended ≡ true
-      → IsReadStep w (hold e hand result) (hold e hand result) (Ok Ended)
-  ended_step over =
+  -- by its answer
+  idle_step : (read : Read) → Gives (hold e hand result) (hold e hand result) read
+      → (IsSome (mark_in e.taken) → read ≡ Ended) → (w ≡ true → read ≢ Empty)
+      → IsReadStep w (hold e hand result) (hold e hand result) (Ok read)
+  idle_step read gives over waits =
       record {
         refused = (refl, tt);
         same = (refl, refl, refl);
         received = received_front e hand result ended r;
         known = extends_self (known_by e.floor e.taken);
-        gives = (
-          refl,
-          ap (λ (o : Option Message). map (λ m. told_update m) (option_to_list o) ++ map what_of
-              e.ahead) (r.no_hand over),
-          sym r.over ∙ over,
-        );
+        gives = gives;
         fails = tt;
         hand = tt;
-        over = λ _. refl;
-        waits = never_empty w (Ok Ended) (λ _ e. cc);
+        over = λ some. ap Ok (over some);
+        waits = never_empty w (Ok read)
+            (λ is same. let empty : read ≡ Empty = cc in waits is empty);
       }
+
+  -- the mark was read before
+  pub ended_step : ended ≡ true
+      → IsReadStep w (hold e hand result) (hold e hand result) (Ok Ended)
+  ended_step over = idle_step Ended (
+    refl,
+    ap (λ (o : Option Message). map (λ m. told_update m) (option_to_list o) ++ map what_of e.ahead)
+        (r.no_hand over),
+    sym r.over ∙ over,
+  ) (λ _. refl) (λ _ same. cc)
 
   -- nothing is there, and the read doesn't wait
   pub empty_step : hand ≡ None → ended ≡ false → e.ahead ≡ [] → (w ≡ true → ⊥)
       → IsReadStep w (hold e hand result) (hold e hand result) (Ok Empty)
-  empty_step none live ahead stays =
-      record {
-        refused = (refl, tt);
-        same = (refl, refl, refl);
-        received = received_front e hand result ended r;
-        known = extends_self (known_by e.floor e.taken);
-        gives = (
-          refl,
-          (λ i. map (λ m. told_update m) (option_to_list (none i)) ++ map what_of (ahead i)),
-          none-of (mark_in e.taken) (sym r.over ∙ live),
-        );
-        fails = tt;
-        hand = tt;
-        over = λ some. absurd (live_unmarked e result hand ended r live some);
-        waits = never_empty w (Ok Empty) (λ is _. stays is);
-      }
+  empty_step none live ahead stays = idle_step Empty (
+    refl,
+    (λ i. map (λ m. told_update m) (option_to_list (none i)) ++ map what_of (ahead i)),
+    none-of (mark_in e.taken) (sym r.over ∙ live),
+  ) (λ some. absurd (live_unmarked e result hand ended r live some)) (λ is _. stays is)
 
 -- a new reading received nothing
 pub reads_new : (e : End Delivery Opening) (result : Folding) → e.taken ≡ []
@@ -599,20 +596,3 @@ marked_result law follow r told shown now (Some k) is =
     ∙ (λ i. folded (result_of (query_of f) (sym state i)) (got i))
     ∙ law (query_of f) f.moved b f.opened k.change legal_list.full.start legal_list.full.lawful
     (omega arith) after
-
--- a read that gave something is also one that may have waited
-pub any_step : (w : Bool) (old new : ReadingHold) (read : Result Read Refusal)
-    → IsReadStep true old new read → IsReadStep w old new read
-any_step true old new read s = s
-any_step false old new read s =
-    record {
-      refused = s.refused;
-      same = s.same;
-      received = s.received;
-      known = s.known;
-      gives = s.gives;
-      fails = s.fails;
-      hand = s.hand;
-      over = s.over;
-      waits = tt;
-    }

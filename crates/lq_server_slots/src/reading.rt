@@ -1,5 +1,5 @@
 //! Reading: the end of a subscription that takes its parcels and folds them.
-ghost use Rattle.std.specs.Prelude.{◌≡◌, ◌≤◌, [], length, IfSome, None, is_some, IsSome, IsTrue, true, false, ◌↔◌};
+ghost use Rattle.std.specs.Prelude.{◌≡◌, ◌≤◌, Bool, [], length, IfSome, None, is_some, IsSome, IsTrue, true, false, ◌↔◌};
 ghost use mathlib.Core.List.{IsPrefix};
 ghost use Rattle.lq_volume.specs.Book.{state_of, state_at};
 ghost use Rattle.lq_volume.specs.Result.{result_of};
@@ -213,11 +213,12 @@ impl Reading {
         }
     }
 
-    // Gives the message in hand. Few reads have one, and the others then move none.
+    // Gives the message in hand, whether the read may wait or not. Few reads have one, and the
+    // others then move none.
     #[inline(never)]
     fn read_hand(&mut self) -> Result<Read, Refusal>
         requires hand { IsSome self.old.hand }
-        ensures { IsReadStep true self.old self.new result }
+        ensures { (waits : Bool) → IsReadStep waits self.old self.new result }
     {
         // For the proof: a fold takes each message of the update list.
         rebuilds_take_all();

@@ -1,7 +1,6 @@
 use Rattle.std.proofs.Common.{subst}
-use Rattle.lq_volume.specs.Book.{state_of}
 use Rattle.lq_board.specs.Slot.{slot_at}
-use Rattle.lq_server_slots.specs.Slots.{SlotStands, SlotIs, IsNoticed, IsReadyAt, before_of}
+use Rattle.lq_server_slots.specs.Slots.{SlotIs, IsNoticed, before_of}
 use Rattle.lq_server_slots.proofs.SlotLemmas.{taken_filled}
 use Rattle.lq_server_slots.proofs.CommitLemmas.{committed, noticed_still, served_filled}
 use Rattle.lq_server_slots.proofs.prepare_commit.commit_at.Goals as goal
@@ -10,25 +9,19 @@ pub fill-requires : goal.fill-requires
 fill-requires g c =
     let m = c.commit.ensures in
     let book = c.args.keeper.now.book in
-    let p = slot_at c.args.keeper.now.slots c.args.place in
-    let ready = subst (λ z. IsReadyAt z (state_of (before_of book)) c.args.change.now)
-    c.in-Some.is c.requires.ready in
-    let taken = subst (λ z. SlotStands z p (before_of book)) c.in-Some.is c.requires.fits in
-    (committed c.in-Some.taken c.commit.new.slot p book c.args.change.now c.requires.grown ready
-    taken (m.stands (before_of book)) m.others m.first_close m.hung).stands
+    (committed c.args.slot.now c.in-Some.taken c.commit.new.slot _ book c.args.change.now
+    c.in-Some.is c.requires.grown c.requires.ready c.requires.fits (m.stands (before_of book))
+    m.others m.first_close m.hung).stands
 
 pub returns-clause-fits : goal.returns-clause-fits
 returns-clause-fits g c =
     let m = c.commit.ensures in
     let f = c.fill.ensures in
     let book = c.args.keeper.now.book in
-    let p = slot_at c.args.keeper.now.slots c.args.place in
-    let ready = subst (λ z. IsReadyAt z (state_of (before_of book)) c.args.change.now)
-    c.in-Some.is c.requires.ready in
-    let taken = subst (λ z. SlotStands z p (before_of book)) c.in-Some.is c.requires.fits in
-    taken_filled c.commit.new.slot c.fill.new.slot p book
-    (committed c.in-Some.taken c.commit.new.slot p book c.args.change.now c.requires.grown ready
-    taken (m.stands (before_of book)) m.others m.first_close m.hung)
+    taken_filled c.commit.new.slot c.fill.new.slot _ book
+    (committed c.args.slot.now c.in-Some.taken c.commit.new.slot _ book c.args.change.now
+    c.in-Some.is c.requires.grown c.requires.ready c.requires.fits (m.stands (before_of book))
+    m.others m.first_close m.hung)
     f.stands f.alike f.taken f.stuck
 
 pub returns-clause-served : goal.returns-clause-served

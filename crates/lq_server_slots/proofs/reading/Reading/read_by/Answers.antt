@@ -7,7 +7,7 @@ use Rattle.lq_server_slots.specs.Reading.{ReadingHold, ReadsPort}
 use Rattle.lq_server_slots.specs.ReadStep.{IsReadStep}
 use Rattle.lq_desk_sub.specs.declared.read.Read.TheVariants.{Fin, Empty, Ended}
 use Rattle.lq_server_slots.proofs.PortLemmas.{none-of}
-use Rattle.lq_server_slots.proofs.ReadLemmas.{hold, update_fits, took, took_in_hand, took_mark, opened_then, either, any_step, ended_step, empty_step, mark_step, update_step}
+use Rattle.lq_server_slots.proofs.ReadLemmas.{hold, update_fits, took, took_in_hand, took_mark, opened_then, either, ended_step, empty_step, mark_step, update_step}
 use Rattle.lq_server_slots.proofs.reading.Reading.read_by.Goals as goal
 
 pub invariant_of-self-in-Fin : goal.invariant_of-self-in-Fin
@@ -48,9 +48,7 @@ invariant_of-self-in-Update g c =
     )
 
 pub returns-then-is_some : goal.returns-then-is_some
-returns-then-is_some g c =
-    any_step c.args.waits c.args.self.now c.read_hand.new.self c.read_hand.result
-    c.read_hand.ensures
+returns-then-is_some g c = c.read_hand.ensures c.args.waits
 
 pub returns-then-self : goal.returns-then-self
 returns-then-self g c =

@@ -1,4 +1,4 @@
-use Rattle.std.proofs.Common.{◌≡◌, true, Some, Option, sym, subst}
+use Rattle.std.proofs.Common.{◌≡◌, Some, Option, sym, subst}
 use Rattle.lq_update.specs.declared.message.Message.{Message}
 use Rattle.lq_server_slots.specs.Reading.{ReadingHold, ReadsPort}
 use Rattle.lq_server_slots.specs.ReadStep.{IsReadStep}
@@ -30,15 +30,15 @@ invariant_of-self c =
     )
 
 pub returns : goal.returns
-returns c =
+returns c = λ w.
     let i = c.self.inside in
     let k = c.keep in
     let there : i.hand ≡ Some c.in-Some.message = cc in
     let r = subst (λ (z : Option Message). ReadsPort i.output i.rebuild z i.ended) there
     c.self.invariant.0 in
     let new = hold i.output k.new.hand k.new.rebuild in
-    subst (λ (z : ReadingHold). IsReadStep true z new k.result) c.self.view_is
-    (subst (λ (z : Option Message). IsReadStep true (hold i.output z i.rebuild) new k.result)
+    subst (λ (z : ReadingHold). IsReadStep w z new k.result) c.self.view_is
+    (subst (λ (z : Option Message). IsReadStep w (hold i.output z i.rebuild) new k.result)
     (sym there)
-    (hand_step c.rebuilds_take_all.ensures i.output i.rebuild c.in-Some.message i.ended r
+    (hand_step c.rebuilds_take_all.ensures i.output i.rebuild c.in-Some.message i.ended r w
     k.new.rebuild k.new.hand k.result k.ensures.refused k.ensures.ok k.ensures.err k.ensures.read))
