@@ -88,6 +88,7 @@ pub(crate) fn ready_all(
 }
 
 // For a slot that may be free: commits the change that was just added, and fills the port.
+#[tactic(auto, using(crate::proofs::CommitLemmas::noticed_still))]
 fn commit_at<R: Wait>(
     rt: &R,
     keeper: &Keeper<Identity>,

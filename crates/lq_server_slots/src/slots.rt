@@ -94,6 +94,7 @@ pub(crate) fn notice_slot(
 }
 
 // For a slot that may be free: ends the subscription where its reader asked, and fills its port.
+#[tactic(auto, using(crate::proofs::CommitLemmas::served_filled))]
 fn serve_at<R: Wait>(
     rt: &R,
     board: &Board<Identity>,

@@ -1,8 +1,6 @@
-use Rattle.std.proofs.Common.{subst}
-use Rattle.lq_board.specs.Slot.{slot_at}
-use Rattle.lq_server_slots.specs.Slots.{SlotIs, IsNoticed, before_of}
+use Rattle.lq_server_slots.specs.Slots.{before_of}
 use Rattle.lq_server_slots.proofs.SlotLemmas.{taken_filled}
-use Rattle.lq_server_slots.proofs.CommitLemmas.{committed, noticed_still, served_filled}
+use Rattle.lq_server_slots.proofs.CommitLemmas.{committed}
 use Rattle.lq_server_slots.proofs.prepare_commit.commit_at.Goals as goal
 
 pub fill-requires : goal.fill-requires
@@ -23,12 +21,3 @@ returns-clause-fits g c =
     c.in-Some.is c.requires.grown c.requires.ready c.requires.fits (m.stands (before_of book))
     m.others m.first_close m.hung)
     f.stands f.alike f.taken f.stuck
-
-pub returns-clause-served : goal.returns-clause-served
-returns-clause-served g c =
-    let m = c.commit.ensures in
-    let p = slot_at c.args.keeper.now.slots c.args.place in
-    let noticed = subst (λ z. SlotIs IsNoticed z p) c.in-Some.is c.requires.noticed in
-    served_filled c.commit.new.slot c.fill.new.slot p
-    (noticed_still c.in-Some.taken c.commit.new.slot p noticed m.others.asks m.still)
-    c.fill.ensures.alike c.fill.ensures.stuck
