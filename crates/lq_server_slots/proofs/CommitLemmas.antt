@@ -1,18 +1,22 @@
 -- A change, committed in one slot after another.
-use Rattle.std.proofs.Common.{◌≡◌, ◌≢◌, ⊎_elim, ℕ, ◌+◌, ◌<◌, ◌≤◌, true, false, true≢false, List, length, Option, None, sym, ap, ◌∙◌, subst, arith, length-set, slice_set}
+use Rattle.std.proofs.Common.{◌≡◌, ◌≢◌, ⊎_elim, ℕ, ◌+◌, ◌<◌, ◌≤◌, true, false, true≢false, List, [], ◌∷◌, length, Option, Some, None, sym, ap, ◌∙◌, subst, arith, length-set, slice_set}
 use Rattle.std.specs.Prelude.{IsSome, is_some}
 use mathlib.Core.Logic.{dite}
 use native.Mathlib.Decide.{ℕ_discrete}
 use Rattle.lq_volume.specs.declared.change.Change.{Change}
-use Rattle.lq_volume.specs.Book.{state_of}
+use Rattle.lq_volume.specs.Book.{Book, state_of, grown}
+use Rattle.lq_volume.specs.Change.{IsLawful}
 use Rattle.lq_board.specs.declared.token_views.KnownSlot.{KnownSlot}
+use Rattle.lq_board.specs.Book.{IsFullBook}
 use Rattle.lq_board.specs.Slot.{slot_at, counted}
 use Rattle.lq_board.specs.Token.{KeeperToken}
 use Rattle.lq_update.specs.declared.mark.Mark.{Mark}
 use Rattle.lq_server_slots.specs.declared.identity.Identity.{Identity}
 use Rattle.lq_server_slots.specs.declared.subscription.Subscription.{Subscription}
-use Rattle.lq_server_slots.specs.Slots.{SlotStands, asks_of, slot_in, taken_slot, AllStand, IsListed, IsReadyAt, AllReady, before_of, PartlyCommitted, OnlyAt, SlotIs, SlotsAre, IsNoticed}
-use Rattle.lq_server_slots.proofs.SlotLemmas.{in_here, in_else, counted_here}
+use Rattle.lq_server_slots.specs.Marking.{hung_mark}
+use Rattle.lq_server_slots.specs.Standing.{IsConsistentAt, IsReady, SameButHeld, SameButPuts, CannotPut}
+use Rattle.lq_server_slots.specs.Slots.{SlotStands, asks_of, slot_in, taken_slot, AllStand, IsListed, IsReadyAt, AllReady, before_of, PartlyCommitted, OnlyAt, SlotIs, SlotsAre, IsNoticed, IsServed, IsGrown, IsToFill}
+use Rattle.lq_server_slots.proofs.SlotLemmas.{in_here, in_else, counted_here, to_fill_then, seen_others, identity_others}
 use Rattle.lq_server_slots.proofs.TakenLemmas.{free_or_taken, some_ap, listed-set}
 
 -- it is committed in none yet
@@ -159,6 +163,32 @@ pub noticed_still : (s t : Subscription) (p : KnownSlot Identity) → IsNoticed 
 noticed_still s t p noticed asks still = λ lt.
     let some = noticed (subst (λ (n : ℕ). n < p.asks) asks lt) in
     subst (λ (o : Option Mark). IsSome o) (sym (still some)) some
+
+-- and it is served once its port is filled
+pub served_filled : (s t : Subscription) (p : KnownSlot Identity) → IsNoticed s p → SameButPuts s t
+    → CannotPut t → IsServed t p
+served_filled s t p noticed alike stuck =
+    record {
+      noticed = noticed_still s t p noticed alike.asks (λ some. alike.held.mark);
+      stuck = stuck;
+    }
+
+-- a change was committed in a taken slot, whose port is still to be filled
+pub committed : (o : Option Subscription) (s t : Subscription) (p : KnownSlot Identity)
+    (book : Book) (c : Change) → o ≡ Some s → IsGrown book c
+    → IsReadyAt o (state_of (before_of book)) c → SlotStands o p (before_of book)
+    → (IsConsistentAt s (before_of book) → IsReady s.sub (state_of (before_of book)) c
+    → IsLawful (state_of (before_of book)) c → IsFullBook (grown (before_of book) (c ∷ []))
+    → IsConsistentAt t (grown (before_of book) (c ∷ [])))
+    → SameButHeld s t → t.first_close ≡ s.first_close
+    → (hung_mark t.sub.held.mark → hung_mark s.sub.held.mark) → IsToFill t p book
+committed o s t p book c is grown ready fits stands others first_close hung =
+    let taken = subst (λ z. SlotStands z p (before_of book)) is fits in
+    let fit = subst (λ z. IsReadyAt z (state_of (before_of book)) c) is ready in
+    to_fill_then s t p (before_of book) book taken
+    (subst (IsConsistentAt t) (sym grown.book)
+    (stands taken.stands fit grown.lawful (subst IsFullBook grown.book grown.full)))
+    (seen_others s t others taken.seen) (identity_others s t others first_close) hung
 
 -- after a notice the keeper knows just as many asks as were read
 pub noticed_then : (s t : Subscription) (ps qs : List (KnownSlot Identity)) (k n : ℕ)

@@ -1,9 +1,10 @@
 -- The steps of a read.
-use Rattle.std.proofs.Common.{◌≡◌, ◌↔◌, ℕ, ◌-◌, Bool, true, false, true≢false, List, [], ◌∷◌, ◌++◌, length, take, map, Option, Some, None, refl, sym, ap, ◌∙◌, subst, arith, append_assoc, append-nil, length-append}
+use Rattle.std.proofs.Common.{◌≡◌, ◌≢◌, ◌↔◌, ℕ, ◌-◌, Bool, true, false, true≢false, List, [], ◌∷◌, ◌++◌, length, take, map, Option, Some, None, refl, sym, ap, ◌∙◌, subst, arith, append_assoc, append-nil, length-append}
 use Rattle.std.specs.Prelude.{IfSome, IsSome, is_some, option_to_list, Result, Ok, Err, OnErr, OnOk, IfOk}
 use Rattle.std.proofs.lemmas.List.{take_all, take-append-le}
 use mathlib.Core.List.{IsPrefix}
-use Rattle.lq_value.specs.Refusal.{first_refusal}
+use Rattle.lq_value.specs.declared.refusal.Refusal.{Refusal}
+use Rattle.lq_value.specs.Refusal.{first_refusal, FailsOnlyForMemory}
 use Rattle.lq_value.specs.declared.entry.Entry.{Entry}
 use Rattle.lq_volume.specs.State.{State}
 use Rattle.lq_volume.specs.Book.{Book, Extends, state_of, state_at, after_all}
@@ -16,7 +17,8 @@ use Rattle.lq_update.specs.declared.parcel.Parcel.TheVariants.{Update as told_up
 use Rattle.lq_update.specs.Fold.{Folding, folded, last_change, settled_after, fold_refusals, folding_after, folding_after_all, opened_at}
 use Rattle.lq_update.specs.Laws.{RebuildsTakeAll, FoldsGiveResults, FoldingsFollow, SettledIsTested, WholeFoldsGiveResults}
 use Rattle.lq_update.specs.Updates.{IsSettled, updates_of}
-use Rattle.lq_desk_sub.specs.declared.read.Read.TheVariants.{Update, Fin}
+use Rattle.lq_desk_sub.specs.declared.read.Read.{Read}
+use Rattle.lq_desk_sub.specs.declared.read.Read.TheVariants.{Update, Fin, Empty, Ended}
 use Rattle.lq_port.specs.End.{End, IsSamePort, IsFront, Loses}
 use Rattle.lq_server_slots.specs.declared.delivery.Delivery.{Delivery}
 use Rattle.lq_server_slots.specs.declared.delivery.Opening.{Opening}
@@ -24,8 +26,9 @@ use Rattle.lq_server_slots.specs.Updates.{updates}
 use Rattle.lq_server_slots.specs.Rule.{book_of, floor_of, query_of, message_of, mark_or, messages_in, mark_in, all_updates, IsMark, MayFollow}
 use Rattle.lq_server_slots.specs.LegalList.{known_by, LegalList}
 use Rattle.lq_server_slots.specs.Reading.{ReadingHold, ReadsPort, opening_of, known, received, ready, mark_read, what_of, Gives, Fails, IsTold}
-use Rattle.lq_server_slots.proofs.Books.{extends_length}
-use Rattle.lq_server_slots.proofs.PortLemmas.{prefix_trans, messages_in-snoc, mark_in-append, last_book-snoc, legal_list-none, legal_list-step}
+use Rattle.lq_server_slots.specs.ReadStep.{NeverEmpty, IsReadStep}
+use Rattle.lq_server_slots.proofs.Books.{extends_length, extends_self}
+use Rattle.lq_server_slots.proofs.PortLemmas.{none-of, prefix_trans, messages_in-snoc, mark_in-append, last_book-snoc, legal_list-none, legal_list-step}
 
 -- what a contract sees of a reading's parts
 abbrev pub hold : End Delivery Opening → Option Message → Folding → ReadingHold
@@ -93,6 +96,47 @@ front_of : (ps : List Delivery) (x : Delivery) (rest : List Delivery) → IsFron
 front_of [] x rest e = ap (map what_of) e
 front_of (p ∷ ps) x rest e = (ap what_of e.0, ap (map what_of) e.1)
 
+-- a result's cases
+module _ {A E : Type 0} where
+  -- what follows from what holds of an error holds of it
+  on_err : (r : Result A E) (P Q : Type 0) → OnErr r P → (P → Q) → OnErr r Q
+  on_err (Ok a) P Q h f = tt
+  on_err (Err e) P Q h f = f h
+
+  -- what follows from what holds of an answer, which is known, holds of it
+  ok_with : (r : Result A E) (P : Type 0) (x : A) (Q : A → Type 0) → OnOk r P
+      → IfOk r (λ a. a ≡ x) → (P → Q x) → IfOk r Q
+  ok_with (Ok a) P x Q h is f = subst Q (sym is) (f h)
+  ok_with (Err e) P x Q h is f = tt
+
+  -- what follows from what holds of an answer, and of an error, holds
+  pub either : (r : Result A E) (P P' Q : Type 0) → OnOk r P → OnErr r P' → (P → Q) → (P' → Q) → Q
+  either (Ok a) P P' Q h h' f f' = f h
+  either (Err e) P P' Q h h' f f' = f' h'
+
+-- with a message in hand, the mark was not read
+hand_first : (e : End Delivery Opening) (result : Folding) (hand : Option Message) (m : Message)
+    (ended : Bool) → ReadsPort e result hand ended → hand ≡ Some m → IsSome (mark_in e.taken) → ⊥
+hand_first e result hand m ended r is some =
+    let none : hand ≡ None = r.no_hand (r.over ∙ some) in cc
+
+-- before the end, the mark was not read
+live_unmarked : (e : End Delivery Opening) (result : Folding) (hand : Option Message)
+    (ended : Bool) → ReadsPort e result hand ended → ended ≡ false → IsSome (mark_in e.taken) → ⊥
+live_unmarked e result hand ended r live some = true≢false (sym (r.over ∙ some) ∙ live)
+
+-- an answer that is no `Empty` is one of a read that may wait
+never_empty : (w : Bool) (read : Result Read Refusal) → (w ≡ true → read ≢ Ok Empty)
+    → NeverEmpty w read
+never_empty true read h = h refl
+never_empty false read h = tt
+
+-- a message that was given, or a refusal, is no `Empty`
+not_empty : (read : Result Read Refusal) (m : Message) → IfOk read (λ a. a ≡ Update m)
+    → read ≢ Ok Empty
+not_empty (Ok a) m is e = cc
+not_empty (Err x) m is e = cc
+
 -- the message in hand is folded, or stays
 module _ (law : RebuildsTakeAll) (e : End Delivery Opening) (result : Folding) (m : Message)
     (ended : Bool) (r : ReadsPort e result (Some m) ended) where
@@ -158,6 +202,28 @@ module _ (law : RebuildsTakeAll) (e : End Delivery Opening) (result : Folding) (
     (refl, refl),
     refl,
   )
+
+  -- a read of the message in hand
+  pub hand_step : (w : Bool) (result' : Folding) (hand' : Option Message)
+      (read : Result Read Refusal) → FailsOnlyForMemory read
+      → OnOk read ((result' ≡ folding_after result m) × (hand' ≡ None))
+      → OnErr read ((result' ≡ result) × (hand' ≡ Some m)) → IfOk read (λ a. a ≡ Update m)
+      → IsReadStep w (hold e (Some m) result) (hold e hand' result') read
+  hand_step w result' hand' read refused ok err gave =
+      record {
+        refused = refused;
+        same = (refl, refl, refl);
+        received = received_front e hand' result' ended (either read _ _
+            (ReadsPort e result' hand' ended) ok err (kept_hand result' hand')
+            (stays_hand result' hand'));
+        known = extends_self (known_by e.floor e.taken);
+        gives = ok_with read _ (Update m) (Gives (hold e (Some m) result) (hold e hand' result'))
+            ok gave (gives_hand result' hand');
+        fails = on_err read _ _ err (fails_hand result' hand');
+        hand = on_err read _ _ err (λ f. subst IsSome (sym f.1) refl);
+        over = λ some. absurd (hand_first e result (Some m) m ended r refl some);
+        waits = never_empty w read (λ _. not_empty read m gave);
+      }
 
 -- the end after a parcel was taken
 module _ (d e : End Delivery Opening) (x : Delivery) (same : IsSamePort d e) (loses : Loses d x e)
@@ -286,6 +352,28 @@ module _ (d e : End Delivery Opening) (x : Delivery) (same : IsSamePort d e) (lo
             mark_then ∙ ap (λ w. mark_or w None) is ∙ sym comes.open_yet,
           )
 
+      -- a read that takes a message
+      pub update_step : (w : Bool) (result' : Folding) (hand' : Option Message)
+          (read : Result Read Refusal) → FailsOnlyForMemory read
+          → OnOk read ((result' ≡ folding_after result m) × (hand' ≡ None))
+          → OnErr read ((result' ≡ result) × (hand' ≡ Some m)) → IfOk read (λ a. a ≡ Update m)
+          → IsReadStep w (hold d hand result) (hold e hand' result') read
+      update_step w result' hand' read refused ok err gave =
+          record {
+            refused = refused;
+            same = same;
+            received = received_front e hand' result' ended (either read _ _
+                (ReadsPort e result' hand' ended) ok err (took result' hand')
+                (took_in_hand result' hand'));
+            known = later;
+            gives = ok_with read _ (Update m) (Gives (hold d hand result) (hold e hand' result'))
+                ok gave (took_gives result' hand');
+            fails = on_err read _ _ err (took_fails result' hand');
+            hand = on_err read _ _ err (λ f. subst IsSome (sym f.1) refl);
+            over = λ some. absurd (live_unmarked d result hand ended r live some);
+            waits = never_empty w read (λ _. not_empty read m gave);
+          }
+
     module _ (k : Mark) (is : x.what ≡ told_fin k) where
       -- the mark was taken
       marked : mark_in e.taken ≡ Some k
@@ -331,16 +419,61 @@ module _ (d e : End Delivery Opening) (x : Delivery) (same : IsSamePort d e) (lo
                 (fin_then ∙ sym (received_is e hand' result r.got t.all)) fits,
           )
 
--- with a message in hand, the mark was not read
-pub hand_first : (e : End Delivery Opening) (result : Folding) (hand : Option Message) (m : Message)
-    (ended : Bool) → ReadsPort e result hand ended → hand ≡ Some m → IsSome (mark_in e.taken) → ⊥
-hand_first e result hand m ended r is some =
-    let none : hand ≡ None = r.no_hand (r.over ∙ some) in cc
+      -- a read that takes the mark
+      pub mark_step : (w : Bool)
+          → IsReadStep w (hold d hand result) (hold e hand result) (Ok (Fin k))
+      mark_step w =
+          record {
+            refused = (refl, tt);
+            same = same;
+            received = received_front e hand result true (took_mark hand none);
+            known = later;
+            gives = gives_mark hand none;
+            fails = tt;
+            hand = tt;
+            over = λ some. absurd (live_unmarked d result hand ended r live some);
+            waits = never_empty w (Ok (Fin k)) (λ _ e. cc);
+          }
 
--- before the end, the mark was not read
-pub live_unmarked : (e : End Delivery Opening) (result : Folding) (hand : Option Message)
-    (ended : Bool) → ReadsPort e result hand ended → ended ≡ false → IsSome (mark_in e.taken) → ⊥
-live_unmarked e result hand ended r live some = true≢false (sym (r.over ∙ some) ∙ live)
+-- a read that changes nothing
+module _ (w : Bool) (e : End Delivery Opening) (hand : Option Message) (result : Folding)
+    (ended : Bool) (r : ReadsPort e result hand ended) where
+  -- by its answer
+  idle_step : (read : Read) → Gives (hold e hand result) (hold e hand result) read
+      → (IsSome (mark_in e.taken) → read ≡ Ended) → (w ≡ true → read ≢ Empty)
+      → IsReadStep w (hold e hand result) (hold e hand result) (Ok read)
+  idle_step read gives over waits =
+      record {
+        refused = (refl, tt);
+        same = (refl, refl, refl);
+        received = received_front e hand result ended r;
+        known = extends_self (known_by e.floor e.taken);
+        gives = gives;
+        fails = tt;
+        hand = tt;
+        over = λ some. ap Ok (over some);
+        waits = never_empty w (Ok read)
+            (λ is same. let empty : read ≡ Empty = cc in waits is empty);
+      }
+
+  -- the mark was read before
+  pub ended_step : ended ≡ true
+      → IsReadStep w (hold e hand result) (hold e hand result) (Ok Ended)
+  ended_step over = idle_step Ended (
+    refl,
+    ap (λ (o : Option Message). map (λ m. told_update m) (option_to_list o) ++ map what_of e.ahead)
+        (r.no_hand over),
+    sym r.over ∙ over,
+  ) (λ _. refl) (λ _ same. cc)
+
+  -- nothing is there, and the read doesn't wait
+  pub empty_step : hand ≡ None → ended ≡ false → e.ahead ≡ [] → (w ≡ true → ⊥)
+      → IsReadStep w (hold e hand result) (hold e hand result) (Ok Empty)
+  empty_step none live ahead stays = idle_step Empty (
+    refl,
+    (λ i. map (λ m. told_update m) (option_to_list (none i)) ++ map what_of (ahead i)),
+    none-of (mark_in e.taken) (sym r.over ∙ live),
+  ) (λ some. absurd (live_unmarked e result hand ended r live some)) (λ is _. stays is)
 
 -- a new reading received nothing
 pub reads_new : (e : End Delivery Opening) (result : Folding) → e.taken ≡ []
@@ -463,21 +596,3 @@ marked_result law follow r told shown now (Some k) is =
     ∙ (λ i. folded (result_of (query_of f) (sym state i)) (got i))
     ∙ law (query_of f) f.moved b f.opened k.change legal_list.full.start legal_list.full.lawful
     (omega arith) after
-
--- a result's cases
-module _ {A E : Type 0} where
-  -- what follows from what holds of an error holds of it
-  pub on_err : (r : Result A E) (P Q : Type 0) → OnErr r P → (P → Q) → OnErr r Q
-  on_err (Ok a) P Q h f = tt
-  on_err (Err e) P Q h f = f h
-
-  -- what follows from what holds of an answer, which is known, holds of it
-  pub ok_with : (r : Result A E) (P : Type 0) (x : A) (Q : A → Type 0) → OnOk r P
-      → IfOk r (λ a. a ≡ x) → (P → Q x) → IfOk r Q
-  ok_with (Ok a) P x Q h is f = subst Q (sym is) (f h)
-  ok_with (Err e) P x Q h is f = tt
-
-  -- what follows from what holds of an answer, and of an error, holds
-  pub either : (r : Result A E) (P P' Q : Type 0) → OnOk r P → OnErr r P' → (P → Q) → (P' → Q) → Q
-  either (Ok a) P P' Q h h' f f' = f h
-  either (Err e) P P' Q h h' f f' = f' h'

@@ -111,10 +111,25 @@ to_fill_then s t p book0 book taken stands seen identity hung =
       hung = λ h. subst (λ n. n < p.asks) (sym asks) (taken.hung (hung h));
     }
 
--- and it stands whole once its port is filled
+-- what was known to be taken still is, while the end of the port stays
+pub seen_others : (s t : Subscription) → SameButHeld s t → IsSeen s → IsSeen t
+seen_others s t others seen =
+    subst (λ (z : Told × End Delivery Opening). seen_of z.0 ≤ length z.1.taken)
+    (λ i. ((sym others.told i).value, sym others.input i)) seen
+
+-- and while only puts change that end
+seen_alike : (s t : Subscription) → SameButPuts s t → t.input.taken ≡ s.input.taken
+    → IsSeen s → IsSeen t
+seen_alike s t alike taken seen =
+    subst (λ (z : Told × List Delivery). seen_of z.0 ≤ length z.1)
+    (λ i. ((sym alike.told i).value, sym taken i)) seen
+
+-- a taken slot stands whole once its port is filled
 pub taken_filled : (s t : Subscription) (p : KnownSlot Identity) (book : Book) → IsToFill s p book
-    → IsConsistentAt t book → IsSeen t → CannotPut t → SameButPuts s t → IsTakenSlot t p book
-taken_filled s t p book was stands seen stuck alike =
+    → IsConsistentAt t book → SameButPuts s t → t.input.taken ≡ s.input.taken → CannotPut t
+    → IsTakenSlot t p book
+taken_filled s t p book was stands alike same stuck =
+    let seen = seen_alike s t alike same was.seen in
     record {
       stands = stands;
       filled = stuck_filled t book stands seen stuck;
@@ -125,18 +140,16 @@ taken_filled s t p book was stands seen stuck alike =
           (was.hung (subst hung_mark alike.held.mark h));
     }
 
--- what was known to be taken still is, while the end of the port stays
-pub seen_others : (s t : Subscription) → SameButHeld s t → IsSeen s → IsSeen t
-seen_others s t others seen =
-    subst (λ (z : Told × End Delivery Opening). seen_of z.0 ≤ length z.1.taken)
-    (λ i. ((sym others.told i).value, sym others.input i)) seen
-
--- and while only puts change that end
-pub seen_alike : (s t : Subscription) → SameButPuts s t → t.input.taken ≡ s.input.taken
-    → IsSeen s → IsSeen t
-seen_alike s t alike taken seen =
-    subst (λ (z : Told × List Delivery). seen_of z.0 ≤ length z.1)
-    (λ i. ((sym alike.told i).value, sym taken i)) seen
+-- its port may be filled
+pub to_fill : (s : Subscription) (p : KnownSlot Identity) (book : Book) → IsTakenSlot s p book
+    → IsToFill s p book
+to_fill s p book taken = record {
+  stands = taken.stands;
+  seen = taken.seen;
+  out = taken.out;
+  name = taken.name;
+  hung = taken.hung;
+}
 
 -- the keeper knows more of a taken slot's asks, and the subscription may have ended
 pub taken_noticed : (s t : Subscription) (p q : KnownSlot Identity) (n : ℕ) (asked : Bool)

@@ -6,7 +6,8 @@ use Rattle.lq_volume.specs.declared.change.Change.{Change}
 use Rattle.lq_volume.specs.Book.{Book, Extends, grown}
 use Rattle.lq_board.specs.declared.token_views.KnownSlot.{KnownSlot}
 use Rattle.lq_board.specs.Slot.{slot_at, unused, gone_out, go_out, come_back}
-use Rattle.lq_board.specs.Token.{SeatToken}
+use Rattle.lq_board.specs.Token.{KeeperToken, SeatToken}
+use Rattle.lq_board.specs.Meeting.{HasMet}
 use Rattle.lq_update.specs.declared.message.Message.{Message}
 use Rattle.lq_update.specs.declared.mark.Mark.{Mark}
 use Rattle.lq_port.specs.End.{End, all_put}
@@ -20,7 +21,7 @@ use Rattle.lq_server_slots.specs.Marking.{hung_mark, after_close}
 use Rattle.lq_server_slots.specs.Identity.{identity_of, port_id_inj}
 use Rattle.lq_server_slots.specs.Reading.{ReadingHold}
 use Rattle.lq_server_slots.specs.Standing.{Stands, IsConsistentAt, IsDrained, IsSeen, CannotPut, SameButHeld, seen_of, told_by}
-use Rattle.lq_server_slots.specs.Slots.{IsTakenSlot, SlotStands, asks_of, OnlyAt}
+use Rattle.lq_server_slots.specs.Slots.{IsTakenSlot, SlotStands, IsSlotMet, asks_of, OnlyAt}
 use Rattle.lq_server_slots.specs.Opening.{IdentityFits, name_or}
 use Rattle.lq_server_slots.specs.Progress.{IsShown}
 use Rattle.lq_server_slots.specs.declared.sync.Progress.{Progress}
@@ -42,12 +43,12 @@ later_same was now mid met is =
     ([], is ∙ sym met ∙ ap with (sym (append-nil was.changes)))
 
 -- the name that is there
-pub some_name : (o : Option Identity) → IsSome o → Some (name_or o) ≡ o
+some_name : (o : Option Identity) → IsSome o → Some (name_or o) ≡ o
 some_name (Some t) h = refl
 some_name None h = absurd (true≢false (sym h))
 
 -- what the keeper knows of a slot whose seat came back and went out
-pub met_place : (ps : List (KnownSlot Identity)) (k n : ℕ) (was name : Option Identity) → 0 < k
+met_place : (ps : List (KnownSlot Identity)) (k n : ℕ) (was name : Option Identity) → 0 < k
     → k < length ps → slot_at (gone_out (come_back ps k n was) k name) k ≡ record
     { out = true; asks = n; name = name }
 met_place ps zero n was name pos lt = absurd (omega arith)
@@ -63,7 +64,7 @@ met_place ps (suc j) n was name pos lt =
     record { out = true; asks = p.asks; name = name } in r) one
 
 -- and nothing of the others changed
-pub met_only : (ps : List (KnownSlot Identity)) (k n : ℕ) (was name : Option Identity)
+met_only : (ps : List (KnownSlot Identity)) (k n : ℕ) (was name : Option Identity)
     → OnlyAt ps (gone_out (come_back ps k n was) k name) k
 met_only ps zero n was name =
     let q : KnownSlot Identity =
@@ -80,6 +81,42 @@ met_only ps (suc k) n was name =
           λ j ne. get_or-set_other qs (suc k) j q unused ne ∙ get_or-set_other ps (suc k) j b unused
           ne;
     }
+
+-- a slot's seat met the keeper of 65 slots
+pub slot_met : (old new : KeeperToken Identity) (s t : SeatToken Identity)
+    (named : Option Identity) (n : ℕ) → HasMet old new s t named → n ≡ length t.book.changes
+    → old.board ≡ s.board → (0 < s.slot) × (s.slot < 65) × (length old.slots ≡ 65)
+    → IsSlotMet old new s t named n
+slot_met old new s t named n met counts same place =
+    let at : slot_at new.slots s.slot ≡ record { out = true; asks = s.asks; name = named } =
+    ap (λ (k : KeeperToken Identity). slot_at k.slots s.slot) met.keeper
+    ∙ met_place old.slots s.slot s.asks s.name named place.0
+    (subst (λ (m : ℕ). s.slot < m) (sym place.2) place.1) in
+    let knows : t.book ≡ old.book = ap (λ (x : SeatToken Identity). x.book) met.seat in
+    record {
+      number = counts ∙ ap (λ (b : Book). length b.changes) knows;
+      board = ap (λ (k : KeeperToken Identity). k.board) met.keeper;
+      counted = ap (λ (k : KeeperToken Identity). k.register.openings) met.keeper;
+      book = ap (λ (k : KeeperToken Identity). k.book) met.keeper;
+      only = subst (λ (k : KeeperToken Identity). OnlyAt old.slots k.slots s.slot)
+          (sym met.keeper) (met_only old.slots s.slot s.asks s.name named);
+      place = at;
+      known = ap (λ (p : KnownSlot Identity). p.asks) at;
+      seat = met.seat ∙ (λ i. record s { board = same i; book = old.book; name = named });
+      later = subst (λ (b : Book). Extends b s.book) knows met.later;
+      name = met.was_out.name;
+      asks = met.was_out.asks;
+      out = met.was_out.out;
+    }
+
+-- and it keeps the name that it has
+pub slot_met_same : (old new : KeeperToken Identity) (s t : SeatToken Identity) (n : ℕ)
+    → HasMet old new s t (Some (name_or s.name)) → n ≡ length t.book.changes
+    → old.board ≡ s.board → (0 < s.slot) × (s.slot < 65) × (length old.slots ≡ 65)
+    → IsSome s.name → IsSlotMet old new s t s.name n
+slot_met_same old new s t n met counts same place some =
+    subst (λ (o : Option Identity). IsSlotMet old new s t o n) (some_name s.name some)
+    (slot_met old new s t (Some (name_or s.name)) n met counts same place)
 
 -- two changes at one place
 pub only_trans : (ps qs rs : List (KnownSlot Identity)) (k : ℕ) → OnlyAt ps qs k → OnlyAt qs rs k
@@ -103,12 +140,12 @@ seat_then old mid new b c is same then = then
     ∙ (λ i. record (is i) { book = same i; name = new.name })
 
 -- the name after a close, by an equal name before, and an equal number of changes
-pub close_then : (o p q : Option Identity) (asked : Bool) (m n : ℕ) → p ≡ q → m ≡ n
-    → o ≡ Some (record (name_or p) { first_close = after_close (name_or p).first_close asked m })
-    → o ≡ Some (record (name_or q) { first_close = after_close (name_or q).first_close asked n })
-close_then o p q asked m n same number is = is
+pub close_then : (o p q : Option Identity) (closed : Bool) (m n : ℕ) → p ≡ q → m ≡ n
+    → o ≡ Some (record (name_or p) { first_close = after_close (name_or p).first_close closed m })
+    → o ≡ Some (record (name_or q) { first_close = after_close (name_or q).first_close closed n })
+close_then o p q closed m n same number is = is
     ∙ (λ i. Some (record (name_or (same i)) {
-      first_close = after_close (name_or (same i)).first_close asked (number i);
+      first_close = after_close (name_or (same i)).first_close closed (number i);
     }))
 
 -- a taken slot stands on once its seat has met the keeper
@@ -196,13 +233,14 @@ same_port s name e is fits = let f = subst (λ o. IsSomeAnd o (λ t. IdentityFit
     (port_id_inj s.input.port e.port f.port)
 
 -- a slot stands as before once its seat has met the keeper
-pub fits_met : (o : Option Subscription) (p q : KnownSlot Identity) (book : Book) (n : ℕ)
-    (name : Option Identity) → SlotStands o p book → p.out ≡ true
-    → q ≡ record { out = true; asks = n; name = name } → p.name ≡ name → p.asks ≤ n
-    → SlotStands o q book
-fits_met None p q book n name free out is same le = absurd (true≢false (sym out ∙ free))
-fits_met (Some s) p q book n name taken out is same le = taken_met s p q book n name taken is same
-    le
+pub fits_met : (o : Option Subscription) (old new : KeeperToken Identity)
+    (s t : SeatToken Identity) (n : ℕ) → SlotStands o (slot_at old.slots s.slot) old.book
+    → IsSlotMet old new s t s.name n → SlotStands o (slot_at new.slots s.slot) new.book
+fits_met None old new s t n free met = absurd (true≢false (sym met.out ∙ free))
+fits_met (Some x) old new s t n taken met =
+    subst (IsTakenSlot x (slot_at new.slots s.slot)) (sym met.book)
+    (taken_met x (slot_at old.slots s.slot) (slot_at new.slots s.slot) old.book s.asks s.name taken
+    met.place met.name met.asks)
 
 -- and counts as many asks
 pub asks_met : (o : Option Subscription) (p q : KnownSlot Identity) (book : Book)

@@ -303,3 +303,11 @@ asks_rise first old new place only more before k =
     (omega (arith, was, more)))
     (λ ne. subst (λ (q : KnownSlot Identity). (slot_at first k).asks ≤ q.asks)
     (sym (only.others k ne)) (before k))
+
+-- a place that was read in the list is one of 64
+pub listed_place : (taken : List ℕ) (slots : List (Option Subscription)) (i place : ℕ)
+    → IsListed taken slots → i < length taken → place ≡ slice_index_or taken i place
+    → (0 < place) × (place < 65) × (place ≡ taken_slot taken i)
+listed_place taken slots i place l lt is =
+    let read : place ≡ taken_slot taken i = get_or_read taken i place lt is 0 in
+    (subst (λ k. 0 < k) (sym read) (l.low i lt), subst (λ k. k < 65) (sym read) (l.high i lt), read)

@@ -4,11 +4,11 @@ use Rattle.std.specs.List.{remove}
 use Rattle.lq_volume.specs.State.{State}
 use Rattle.lq_volume.specs.declared.change.Change.{Change}
 use Rattle.lq_volume.specs.Change.{IsLawful}
-use Rattle.lq_volume.specs.Book.{Book, grown, state_of}
+use Rattle.lq_volume.specs.Book.{Book, Extends, grown, state_of}
 use Rattle.lq_board.specs.declared.token_views.KnownSlot.{KnownSlot}
 use Rattle.lq_board.specs.Book.{IsFullBook}
 use Rattle.lq_board.specs.Slot.{slot_at}
-use Rattle.lq_board.specs.Token.{KeeperToken}
+use Rattle.lq_board.specs.Token.{KeeperToken, SeatToken}
 use Rattle.lq_server_slots.specs.declared.identity.Identity.{Identity}
 use Rattle.lq_server_slots.specs.declared.subscription.Subscription.{Subscription}
 use Rattle.lq_server_slots.specs.Marking.{hung_mark}
@@ -134,6 +134,24 @@ pub record SameButKnown (old new : ServerSlots) : Type 0 where
 pub record OnlyAt (old new : List (KnownSlot Identity)) (place : ℕ) : Type 0 where
   pub wide : length new ≡ length old
   pub others : (k : ℕ) → k ≢ place → slot_at new k ≡ slot_at old k
+
+-- A slot's seat, s before and t after, met the keeper, which had this number of changes. It knows
+-- the keeper's book, the keeper knows how often it has asked, and both have this name. It was out
+-- under the name that the keeper knew.
+pub record IsSlotMet (old new : KeeperToken Identity) (s t : SeatToken Identity)
+    (named : Option Identity) (changes : ℕ) : Type 0 where
+  pub number : changes ≡ length old.book.changes
+  pub board : new.board ≡ old.board
+  pub counted : new.register.openings ≡ old.register.openings
+  pub book : new.book ≡ old.book
+  pub only : OnlyAt old.slots new.slots s.slot
+  pub place : slot_at new.slots s.slot ≡ record { out = true; asks = s.asks; name = named }
+  pub known : (slot_at new.slots s.slot).asks ≡ s.asks
+  pub seat : t ≡ record s { book = old.book; name = named }
+  pub later : Extends old.book s.book
+  pub name : (slot_at old.slots s.slot).name ≡ s.name
+  pub asks : (slot_at old.slots s.slot).asks ≤ s.asks
+  pub out : (slot_at old.slots s.slot).out ≡ true
 
 -- each of these slots is taken
 abbrev pub all_taken : List (Option Subscription) → Bool

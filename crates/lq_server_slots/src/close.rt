@@ -4,7 +4,6 @@ ghost use Rattle.lq_volume.specs.Book.{Extends};
 ghost use Rattle.lq_board.specs.Slot.{slot_at};
 ghost use Rattle.lq_server_slots.specs.declared.identity.FirstClose.TheVariants.{Never};
 ghost use Rattle.lq_server_slots.specs.Marking.{after_close};
-ghost use Rattle.lq_server_slots.specs.Identity.{identity_of};
 ghost use Rattle.lq_server_slots.specs.Closing.{IsClosed};
 ghost use Rattle.lq_server_slots.specs.Slots.{IsTakenSlot, SlotStands, AreConsistent, IsSlotIn, IsDropped, taken_slot, OnlyAt, asks_of, slot_in};
 ghost use Rattle.lq_server_slots.specs.Opening.{asks_after, name_or};
@@ -12,10 +11,11 @@ ghost use Rattle.lq_server_slots.specs.Opening.{asks_after, name_or};
 use crate::identity::Identity;
 use crate::slots::ServerSlots;
 use crate::subscription::{Subscription, close};
-use crate::sync::{meet_same, meet_under, notice_by};
+use crate::sync::{meet_slot_at, meet_under, notice_by};
 use lq_board::{Board, Keeper, Seat};
 
-// Closes a subscription, once the keeper and its seat have met.
+// Closes a subscription, once the keeper and its seat have met, and gives its seat the name that
+// says so. The notice comes first.
 fn close_slot(
     board: &Board<Identity>,
     keeper: &mut Keeper<Identity>,
@@ -45,37 +45,6 @@ fn close_slot(
     }) }
 {
     notice_by(board, keeper, slot, seat, number);
-    end_slot(board, keeper, slot, seat, number)
-}
-
-// Closes a subscription, and gives its seat the name that says so. Its notice comes before.
-fn end_slot(
-    board: &Board<Identity>,
-    keeper: &mut Keeper<Identity>,
-    slot: &mut Subscription,
-    seat: &mut Seat<Identity>,
-    number: u64,
-) -> bool
-    requires board { (keeper.old.board ≡ board.now) × (seat.old.board ≡ board.now) }
-    requires place { (0 < seat.old.slot) × (seat.old.slot < 65)
-        × (length keeper.old.slots ≡ 65) }
-    requires number { number ≡ length keeper.old.book.changes }
-    requires taken { IsTakenSlot slot.old (slot_at keeper.old.slots seat.old.slot) keeper.old.book }
-    ensures closes { result ≡ true → (name_or seat.old.name).first_close ≡ Never }
-    ensures late { IsSome slot.old.sub.held.mark → result ≡ false }
-    ensures board { keeper.new.board ≡ keeper.old.board }
-    ensures counted { keeper.new.register.openings ≡ keeper.old.register.openings }
-    ensures book { keeper.new.book ≡ keeper.old.book }
-    ensures only { OnlyAt keeper.old.slots keeper.new.slots seat.old.slot }
-    ensures taken { IsTakenSlot slot.new (slot_at keeper.new.slots seat.old.slot) keeper.new.book }
-    ensures asks { slot.new.asks ≡ slot.old.asks }
-    ensures known { (slot_at keeper.new.slots seat.old.slot).asks ≡ seat.old.asks }
-    ensures named { seat.new.name ≡ Some (identity_of slot.new) }
-    ensures seat { seat.new ≡ record seat.old { book = keeper.old.book; name = seat.new.name } }
-    ensures name { seat.new.name ≡ Some (record (name_or seat.old.name) {
-      first_close = after_close (name_or seat.old.name).first_close result number;
-    }) }
-{
     let closed = close(slot, number);
     meet_under(board, keeper, seat, slot);
     closed
@@ -104,7 +73,7 @@ fn close_at(
         ≤ asks_of slot.old (slot_at keeper.old.slots seat.old.slot) }
     ensures kept { is_some slot.new ≡ is_some slot.old }
 {
-    let number = meet_same(board, keeper, seat);
+    let number = meet_slot_at(board, keeper, slot, seat);
     let Some(taken) = slot else { unreachable!() };
     if close_slot(board, keeper, taken, seat, number) {
         Some(number)
@@ -143,11 +112,11 @@ fn free_at(
     keeper: &mut Keeper<Identity>,
     slot: &mut Option<Subscription>,
     seat: Seat<Identity>,
-    asked: bool,
+    hang_up_asked: bool,
 )
     requires board { (keeper.old.board ≡ board.now) × (seat.board ≡ board.now) }
     requires place { (0 < seat.slot) × (seat.slot < 65) × (length keeper.old.slots ≡ 65) }
-    requires seat { IsSomeAnd seat.name (λ t. seat.asks ≡ asks_after t.asks asked) }
+    requires seat { IsSomeAnd seat.name (λ t. seat.asks ≡ asks_after t.asks hang_up_asked) }
     requires fits { SlotStands slot.old (slot_at keeper.old.slots seat.slot) keeper.old.book }
     ensures board { keeper.new.board ≡ keeper.old.board }
     ensures counted { keeper.new.register.openings ≡ keeper.old.register.openings }
@@ -161,7 +130,7 @@ fn free_at(
     ensures later { Extends keeper.old.book seat.book }
 {
     // For the contract alone, which says how often the seat has asked.
-    let _ = asked;
+    let _ = hang_up_asked;
     board.join(keeper, seat);
     *slot = None;
 }
@@ -191,10 +160,15 @@ fn take_out(taken: &mut Vec<usize>, place: usize)
 }
 
 /// Takes a slot's seat back and frees the slot. The other slots keep their subscriptions.
-pub fn free_in(board: &Board<Identity>, slots: &mut ServerSlots, seat: Seat<Identity>, asked: bool)
+pub fn free_in(
+    board: &Board<Identity>,
+    slots: &mut ServerSlots,
+    seat: Seat<Identity>,
+    hang_up_asked: bool,
+)
     requires board { (slots.old.keeper.board ≡ board.now) × (seat.board ≡ board.now) }
     requires seat { (0 < seat.slot)
-        × IsSomeAnd seat.name (λ t. seat.asks ≡ asks_after t.asks asked) }
+        × IsSomeAnd seat.name (λ t. seat.asks ≡ asks_after t.asks hang_up_asked) }
     requires holding { AreConsistent slots.old slots.old.keeper.book }
     ensures board { slots.new.keeper.board ≡ slots.old.keeper.board }
     ensures counted { slots.new.keeper.register.openings
@@ -210,6 +184,12 @@ pub fn free_in(board: &Board<Identity>, slots: &mut ServerSlots, seat: Seat<Iden
 {
     let place = seat.slot() as usize;
     let keeper = &mut slots.keeper;
-    free_at(board, keeper, &mut slots.subscriptions[place], seat, asked);
+    free_at(
+        board,
+        keeper,
+        &mut slots.subscriptions[place],
+        seat,
+        hang_up_asked,
+    );
     take_out(&mut slots.taken, place);
 }

@@ -65,33 +65,33 @@ fn begin(
     alloc: Global,
     keeper: &Keeper<Identity>,
     volume: &Volume,
-    asked: &OpenRequest,
+    request: &OpenRequest,
 ) -> Result<(Subscription, Reading), Refusal>
     requires volume { volume.now ≡ state_of keeper.now.book }
     requires full { IsFullBook keeper.now.book }
-    requires port { (0 < asked.now.port) × (asked.now.port ≤ 1024) }
+    requires port { (0 < request.now.port) × (request.now.port ≤ 1024) }
     ensures refused { FailsOnlyForMemory result }
     ensures begun { IfOk result (λ r. IsNewSubscription r.0 r.1 keeper.now.book
-        asked.now.predicate.now asked.now.moved asked.now.port asked.now.backlog) }
+        request.now.predicate.now request.now.moved request.now.port request.now.backlog) }
     ensures keeper { IfOk result (λ r. r.1.port.floor.book.value ≡ keeper.now) }
 {
     // For the proof: a result's nodes rise, and a new subscription stands over the book.
     results_rise();
     new_subscriptions_stand();
     let at = volume.changes();
-    let entries = volume.fetch(asked.predicate)?;
-    let sub = Sub::new(alloc, asked.predicate, at, asked.backlog, asked.moved)?;
+    let entries = volume.fetch(request.predicate)?;
+    let sub = Sub::new(alloc, request.predicate, at, request.backlog, request.moved)?;
     let opening_at = Opening {
-        query: GhostCopy::of(asked.predicate),
-        moved: asked.moved,
+        query: GhostCopy::of(request.predicate),
+        moved: request.moved,
         opened: at,
         book: GhostCopy::of(keeper),
     };
-    let (input, output) = make::<Delivery>(alloc, asked.port, &opening_at)?;
+    let (input, output) = make::<Delivery>(alloc, request.port, &opening_at)?;
     let slot = Subscription {
         sub,
         input,
-        places: asked.port,
+        places: request.port,
         asks: 0,
         told: GhostCopy::of(&Told::Live {
             change: at,
@@ -104,7 +104,7 @@ fn begin(
 }
 
 // The slot's seat, under a name given for contracts alone, which is this subscription's.
-fn sit_named(
+fn sit(
     board: &Board<Identity>,
     keeper: &mut Keeper<Identity>,
     slot: &Subscription,
@@ -134,35 +134,6 @@ fn sit_named(
     // For the contract alone, which names the subscription.
     let _ = slot;
     board.slot_seat(keeper, place)
-}
-
-// The slot's seat, under the name of this subscription.
-fn sit(
-    board: &Board<Identity>,
-    keeper: &mut Keeper<Identity>,
-    slot: &Subscription,
-    place: u64,
-) -> Seat<Identity>
-    requires board { keeper.old.board ≡ board.now }
-    requires place { (0 < place) × (place < 65) }
-    requires free { (slot_at keeper.old.slots place).out ≡ false }
-    ensures board { keeper.new.board ≡ keeper.old.board }
-    ensures counted { keeper.new.register.openings ≡ keeper.old.register.openings + 1 }
-    ensures book { keeper.new.book ≡ keeper.old.book }
-    ensures slots { keeper.new.slots
-        ≡ gone_out keeper.old.slots place (Some (identity_of slot.now)) }
-    ensures seat { result ≡ record {
-      board = keeper.old.board;
-      slot = place;
-      book = keeper.old.book;
-      asks = (slot_at keeper.old.slots place).asks;
-      name = Some (identity_of slot.now);
-      author = new_author keeper.old.register;
-      moments = [];
-    } }
-    ensures signs { result.author.signs ≡ keeper.old.board.free }
-{
-    sit_named(board, keeper, slot, place)
 }
 
 // Puts a subscription into a free place, and gives out the seat of the place. Everything that takes
@@ -219,7 +190,7 @@ pub fn open_in(
     board: &Board<Identity>,
     slots: &mut ServerSlots,
     volume: &Volume,
-    asked: &OpenRequest,
+    request: &OpenRequest,
 ) -> Result<Opened, Refusal>
     requires board { slots.old.keeper.board ≡ board.now }
     requires stands { IsConsistentWith slots.old volume.now }
@@ -233,19 +204,19 @@ pub fn open_in(
     ensures err { OnErr result (AreUnchanged slots.old slots.new) }
     ensures holding { AreConsistent slots.new slots.new.keeper.book }
     ensures opened { IfOk result (λ o. IsOpened o slots.old.keeper.board slots.old.keeper.book
-        asked.now.predicate.now asked.now.moved asked.now.port asked.now.backlog) }
+        request.now.predicate.now request.now.moved request.now.port request.now.backlog) }
 
     // The reader's floor has the keeper that gave the slot.
     ensures keeper { IfOk result (λ o. o.reading.port.floor.book.value ≡ slots.old.keeper) }
 
     // The first refusal that fits and no other, or the lowest free slot.
-    ensures answered { IsOpeningAnswer slots.old volume.now.limit asked.now.port asked.now.backlog
-        result }
+    ensures answered { IsOpeningAnswer slots.old volume.now.limit request.now.port
+        request.now.backlog result }
 {
-    if asked.port == 0 || asked.port > MAX_PLACES {
+    if request.port == 0 || request.port > MAX_PLACES {
         return Err(Refusal::BadPort);
     }
-    if asked.backlog > MAX_BACKLOG {
+    if request.backlog > MAX_BACKLOG {
         return Err(Refusal::BadBacklog);
     }
     let Some(place) = free_place(&slots.subscriptions) else {
@@ -254,6 +225,6 @@ pub fn open_in(
     if volume.limit() <= slots.openings {
         return Err(Refusal::Exhausted);
     }
-    let (slot, reading) = begin(alloc, &slots.keeper, volume, asked)?;
+    let (slot, reading) = begin(alloc, &slots.keeper, volume, request)?;
     settle(board, slots, place, slot, reading)
 }

@@ -1,12 +1,13 @@
 //! The two passes of a change over the slots: its messages are prepared, and then committed.
-ghost use Rattle.std.specs.Prelude.{◌≡◌, ◌<◌, ◌≤◌, ℕ, length, Some, is_some, OnOk};
+ghost use Rattle.std.specs.Prelude.{◌≡◌, ◌<◌, ◌≤◌, ℕ, length, is_some, OnOk};
 ghost use Rattle.lq_value.specs.Refusal.{FailsOnlyForMemory};
 ghost use Rattle.lq_volume.specs.Book.{state_of};
 ghost use Rattle.lq_board.specs.Slot.{slot_at};
-ghost use Rattle.lq_server_slots.specs.Slots.{IsTakenSlot, IsToFill, SlotStands, asks_of, AreConsistent, OnlyAt, IsReadyAt, AllReady, before_of, IsGrown, IsNoticed, IsServed, SlotIs, SlotsAre};
+ghost use Rattle.lq_server_slots.specs.Slots.{SlotStands, asks_of, AreConsistent, OnlyAt, IsReadyAt, AllReady, before_of, IsGrown, IsNoticed, IsServed, SlotIs, SlotsAre};
 
+use crate::fill_port::fill;
 use crate::identity::Identity;
-use crate::slots::{ServerSlots, fill_slot, notice_slot, place_of};
+use crate::slots::{ServerSlots, notice_slot};
 use crate::subscription::{Subscription, commit, ready};
 use lq_board::{Board, Keeper};
 use lq_value::Refusal;
@@ -73,7 +74,7 @@ pub(crate) fn ready_all(
         (SlotsAre IsNoticed slots.new.subscriptions.items slots.new.keeper.slots) }
 {
     for index in 0..slots.taken.len() {
-        let place = place_of(slots, index);
+        let place = slots.taken[index];
         let keeper = &mut slots.keeper;
         ready_at(
             board,
@@ -87,6 +88,7 @@ pub(crate) fn ready_all(
 }
 
 // For a slot that may be free: commits the change that was just added, and fills the port.
+#[tactic(auto, using(crate::proofs::CommitLemmas::noticed_still))]
 fn commit_at<R: Wait>(
     rt: &R,
     keeper: &Keeper<Identity>,
@@ -105,27 +107,13 @@ fn commit_at<R: Wait>(
     ensures kept { is_some slot.new ≡ is_some slot.old }
     ensures served { SlotIs IsServed slot.new (slot_at keeper.now.slots place) }
 {
-    if let Some(taken) = slot {
-        commit_slot(keeper, taken, place, change);
-        fill_slot(rt, keeper, taken, place);
-    }
-}
-
-// Commits the change that was just added. The port is still to be filled.
-fn commit_slot(keeper: &Keeper<Identity>, slot: &mut Subscription, place: usize, change: &Change)
-    requires grown { IsGrown keeper.now.book change.now }
-    requires ready { IsReadyAt (Some slot.old) (state_of (before_of keeper.now.book)) change.now }
-    requires taken { IsTakenSlot slot.old (slot_at keeper.now.slots place)
-        (before_of keeper.now.book) }
-    requires noticed { IsNoticed slot.old (slot_at keeper.now.slots place) }
-    ensures taken { IsToFill slot.new (slot_at keeper.now.slots place) keeper.now.book }
-    ensures asks { slot.new.asks ≡ slot.old.asks }
-    ensures noticed { IsNoticed slot.new (slot_at keeper.now.slots place) }
-{
-    // For the contract alone, which names the book and the slot.
-    let _ = keeper;
+    let Some(taken) = slot else {
+        return;
+    };
+    // For the contract alone, which names the slot.
     let _ = place;
-    commit(slot, change);
+    commit(taken, change);
+    fill(rt, keeper, taken);
 }
 
 /// Commits the change that was just added in each subscription, and fills each port.
@@ -141,7 +129,7 @@ pub(crate) fn commit_all<R: Wait>(rt: &R, slots: &mut ServerSlots, change: &Chan
     ensures served { SlotsAre IsServed slots.new.subscriptions.items slots.new.keeper.slots }
 {
     for index in 0..slots.taken.len() {
-        let place = place_of(slots, index);
+        let place = slots.taken[index];
         commit_at(
             rt,
             &slots.keeper,

@@ -1,16 +1,16 @@
 //! Reading: the end of a subscription that takes its parcels and folds them.
-ghost use Rattle.std.specs.Prelude.{◌≡◌, ◌≢◌, ◌≤◌, [], length, IfOk, IfSome, OnErr, Ok, Some, None, is_some, IsSome, IsTrue, true, ◌↔◌};
+ghost use Rattle.std.specs.Prelude.{◌≡◌, ◌≤◌, Bool, [], length, IfSome, None, is_some, IsSome, IsTrue, true, false, ◌↔◌};
 ghost use mathlib.Core.List.{IsPrefix};
-ghost use Rattle.lq_value.specs.Refusal.{FailsOnlyForMemory};
-ghost use Rattle.lq_volume.specs.Book.{Extends, state_of, state_at};
+ghost use Rattle.lq_volume.specs.Book.{state_of, state_at};
 ghost use Rattle.lq_volume.specs.Result.{result_of};
 ghost use Rattle.lq_board.specs.Book.{IsFullBook};
 ghost use Rattle.lq_update.specs.Fold.{EntriesRise, opened_at, folded, last_change};
 ghost use Rattle.lq_update.specs.Updates.{IsSettled};
 ghost use Rattle.lq_port.specs.End.{IsSamePort, all_put};
 ghost use Rattle.lq_port.specs.Port.{IsLegal};
-ghost use Rattle.lq_server_slots.specs.Rule.{MayFollow, floor_of, query_of, all_updates};
-ghost use Rattle.lq_server_slots.specs.Reading.{Gives, Fails, known, received, is_marked, mark_read, opening_of, IsTold};
+ghost use Rattle.lq_server_slots.specs.Rule.{MayFollow, floor_of, query_of};
+ghost use Rattle.lq_server_slots.specs.Reading.{known, received, is_marked, mark_read, opening_of, IsTold};
+ghost use Rattle.lq_server_slots.specs.ReadStep.{IsReadStep};
 
 use crate::delivery::Delivery;
 use crate::take_parcel::{keep, take_one};
@@ -174,15 +174,7 @@ impl Reading {
     /// Refused: `NoMemory`; the message then stays in hand, and the next read begins with it. It
     /// may wait for a step of the other end, but not for a parcel.
     pub fn read<R: Wait>(&mut self, rt: &R) -> Result<Read, Refusal>
-        ensures refused { FailsOnlyForMemory result }
-        ensures same { IsSamePort self.old.port self.new.port }
-        ensures known { Extends (known self.new) (known self.old) }
-        ensures received { IsPrefix (received self.new)
-            (all_updates self.new.port.floor (known self.new)) }
-        ensures gives { IfOk result (Gives self.old self.new) }
-        ensures fails { OnErr result (Fails self.old self.new) }
-        ensures hand { OnErr result (IsSome self.new.hand) }
-        ensures over { IsSome (mark_read self.old) → result ≡ Ok Read.Ended }
+        ensures { IsReadStep false self.old self.new result }
     {
         self.read_by(rt, false)
     }
@@ -191,32 +183,14 @@ impl Reading {
     ///
     /// Where the other end is gone and nothing is left, it waits for ever.
     pub fn read_waiting<R: Wait>(&mut self, rt: &R) -> Result<Read, Refusal>
-        ensures refused { FailsOnlyForMemory result }
-        ensures same { IsSamePort self.old.port self.new.port }
-        ensures known { Extends (known self.new) (known self.old) }
-        ensures received { IsPrefix (received self.new)
-            (all_updates self.new.port.floor (known self.new)) }
-        ensures gives { IfOk result (Gives self.old self.new) }
-        ensures fails { OnErr result (Fails self.old self.new) }
-        ensures hand { OnErr result (IsSome self.new.hand) }
-        ensures over { IsSome (mark_read self.old) → result ≡ Ok Read.Ended }
-        ensures waits { result ≢ Ok Read.Empty }
+        ensures { IsReadStep true self.old self.new result }
     {
         self.read_by(rt, true)
     }
 
     // Gives the message in hand, or else the next parcel.
     fn read_by<R: Wait>(&mut self, rt: &R, waits: bool) -> Result<Read, Refusal>
-        ensures refused { FailsOnlyForMemory result }
-        ensures same { IsSamePort self.old.port self.new.port }
-        ensures known { Extends (known self.new) (known self.old) }
-        ensures received { IsPrefix (received self.new)
-            (all_updates self.new.port.floor (known self.new)) }
-        ensures gives { IfOk result (Gives self.old self.new) }
-        ensures fails { OnErr result (Fails self.old self.new) }
-        ensures hand { OnErr result (IsSome self.new.hand) }
-        ensures over { IsSome (mark_read self.old) → result ≡ Ok Read.Ended }
-        ensures waits { waits ≡ true → result ≢ Ok Read.Empty }
+        ensures { IsReadStep waits self.old self.new result }
     {
         // For the proof: a fold takes each message of the update list.
         rebuilds_take_all();
@@ -239,20 +213,12 @@ impl Reading {
         }
     }
 
-    // Gives the message in hand. Few reads have one, and the others then move none.
+    // Gives the message in hand, whether the read may wait or not. Few reads have one, and the
+    // others then move none.
     #[inline(never)]
     fn read_hand(&mut self) -> Result<Read, Refusal>
         requires hand { IsSome self.old.hand }
-        ensures refused { FailsOnlyForMemory result }
-        ensures same { IsSamePort self.old.port self.new.port }
-        ensures known { Extends (known self.new) (known self.old) }
-        ensures received { IsPrefix (received self.new)
-            (all_updates self.new.port.floor (known self.new)) }
-        ensures gives { IfOk result (Gives self.old self.new) }
-        ensures fails { OnErr result (Fails self.old self.new) }
-        ensures hand { OnErr result (IsSome self.new.hand) }
-        ensures over { IsSome (mark_read self.old) → result ≡ Ok Read.Ended }
-        ensures gave { result ≢ Ok Read.Empty }
+        ensures { (waits : Bool) → IsReadStep waits self.old self.new result }
     {
         // For the proof: a fold takes each message of the update list.
         rebuilds_take_all();

@@ -1,10 +1,9 @@
 //! The slots under the lock, one or all.
-ghost use Rattle.std.specs.Prelude.{◌≡◌, ◌<◌, ◌≤◌, ℕ, length, None, Some, IsSome, is_some, IfOk};
+ghost use Rattle.std.specs.Prelude.{◌≡◌, ◌<◌, ◌≤◌, ℕ, length, None, IsSome, is_some, IfOk};
 ghost use Rattle.lq_value.specs.Refusal.{FailsOnlyForMemory};
 ghost use Rattle.lq_board.specs.Slot.{slot_at, counted};
-ghost use Rattle.lq_server_slots.specs.Identity.{identity_of};
-ghost use Rattle.lq_server_slots.specs.Standing.{SameButHeld, SameButPuts, CannotPut};
-ghost use Rattle.lq_server_slots.specs.Slots.{IsTakenSlot, IsToFill, SlotStands, asks_of, AreConsistent, IsListed, taken_slot, OnlyAt, slot_in, IsNoticed, IsServed, SlotIs, SlotsAre};
+ghost use Rattle.lq_server_slots.specs.Standing.{SameButHeld};
+ghost use Rattle.lq_server_slots.specs.Slots.{IsTakenSlot, SlotStands, asks_of, AreConsistent, OnlyAt, slot_in, IsNoticed, IsServed, SlotIs, SlotsAre};
 
 use crate::fill_port::fill;
 use crate::identity::Identity;
@@ -89,23 +88,13 @@ pub(crate) fn notice_slot(
         → slot.new.sub.held.mark ≡ slot.old.sub.held.mark }
 {
     let asks = board.asks(keeper, place as u64);
-    let asked = asks > slot.asks;
-    notice(slot, asked, number);
+    let hang_up_asked = asks > slot.asks;
+    notice(slot, hang_up_asked, number);
     asks
 }
 
-/// The place of a taken slot, by its index in the list of taken places.
-pub(crate) fn place_of(slots: &ServerSlots, index: usize) -> usize
-    requires index { index < length slots.now.taken.items }
-    requires listed { IsListed slots.now.taken.items slots.now.subscriptions.items }
-    ensures value { result ≡ taken_slot slots.now.taken.items index }
-    ensures low { 0 < result }
-    ensures high { result < 65 }
-{
-    slots.taken[index]
-}
-
 // For a slot that may be free: ends the subscription where its reader asked, and fills its port.
+#[tactic(auto, using(crate::proofs::CommitLemmas::served_filled))]
 fn serve_at<R: Wait>(
     rt: &R,
     board: &Board<Identity>,
@@ -128,10 +117,11 @@ fn serve_at<R: Wait>(
     ensures kept { is_some slot.new ≡ is_some slot.old }
     ensures served { SlotIs IsServed slot.new (slot_at keeper.new.slots place) }
 {
-    if let Some(taken) = slot {
-        notice_slot(board, keeper, taken, place, number);
-        fill_slot(rt, keeper, taken, place);
-    }
+    let Some(taken) = slot else {
+        return;
+    };
+    notice_slot(board, keeper, taken, place, number);
+    fill(rt, keeper, taken);
 }
 
 /// Ends each subscription whose reader asked for that, and fills each port.
@@ -153,7 +143,7 @@ pub(crate) fn serve_all<R: Wait>(
     ensures served { SlotsAre IsServed slots.new.subscriptions.items slots.new.keeper.slots }
 {
     for index in 0..slots.taken.len() {
-        let place = place_of(slots, index);
+        let place = slots.taken[index];
         let keeper = &mut slots.keeper;
         serve_at(
             rt,
@@ -164,24 +154,4 @@ pub(crate) fn serve_all<R: Wait>(
             number,
         );
     }
-}
-
-/// Fills the port of a taken slot.
-pub(crate) fn fill_slot<R: Wait>(
-    rt: &R,
-    keeper: &Keeper<Identity>,
-    taken: &mut Subscription,
-    place: usize,
-)
-    requires taken { IsToFill taken.old (slot_at keeper.now.slots place) keeper.now.book }
-    ensures taken { IsTakenSlot taken.new (slot_at keeper.now.slots place) keeper.now.book }
-    ensures alike { SameButPuts taken.old taken.new }
-    ensures named { identity_of taken.new ≡ identity_of taken.old }
-    ensures stuck { CannotPut taken.new }
-    ensures served { IsNoticed taken.old (slot_at keeper.now.slots place)
-        → IsServed taken.new (slot_at keeper.now.slots place) }
-{
-    // For the contract alone, which names the slot.
-    let _ = place;
-    fill(rt, keeper, taken);
 }

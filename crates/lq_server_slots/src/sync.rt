@@ -1,12 +1,12 @@
 //! A reader's calls under the lock.
-ghost use Rattle.std.specs.Prelude.{◌≡◌, ◌<◌, ◌≤◌, length, IsSome, IsSomeAnd, Some, true, is_some};
+ghost use Rattle.std.specs.Prelude.{◌≡◌, ◌<◌, ◌≤◌, length, IsSome, IsSomeAnd, Some, is_some};
 ghost use Rattle.lq_volume.specs.Book.{Extends};
 ghost use Rattle.lq_board.specs.Slot.{slot_at};
 ghost use Rattle.lq_server_slots.specs.Identity.{identity_of};
 ghost use Rattle.lq_server_slots.specs.Standing.{SameButHeld, IsConsistentAt, told_by};
 ghost use Rattle.lq_server_slots.specs.declared.subscription.Subscription.{Subscription as SubscriptionOf};
 ghost use Rattle.lq_server_slots.specs.declared.identity.Identity.{Identity as IdentityOf};
-ghost use Rattle.lq_server_slots.specs.Slots.{IsTakenSlot, SlotStands, AreConsistent, OnlyAt, SameButKnown, asks_of};
+ghost use Rattle.lq_server_slots.specs.Slots.{IsTakenSlot, SlotStands, AreConsistent, OnlyAt, SameButKnown, IsSlotMet, asks_of};
 ghost use Rattle.lq_server_slots.specs.Opening.{IdentityFits};
 ghost use Rattle.lq_server_slots.specs.Progress.{IsShown, ShowsProgress};
 
@@ -31,84 +31,47 @@ pub struct Progress {
     pub out: bool,
 }
 
-// The number of changes in the keeper's book, which a slot's seat then knows. Its name stays.
-pub(crate) fn meet_same(
-    board: &Board<Identity>,
-    keeper: &mut Keeper<Identity>,
-    seat: &mut Seat<Identity>,
-) -> u64
-    requires board { (keeper.old.board ≡ board.now) × (seat.old.board ≡ board.now) }
-    requires slot { (0 < seat.old.slot) × (seat.old.slot < 65) }
-    requires named { IsSome seat.old.name }
-    requires wide { length keeper.old.slots ≡ 65 }
-    ensures board { keeper.new.board ≡ keeper.old.board }
-    ensures counted { keeper.new.register.openings ≡ keeper.old.register.openings }
-    ensures book { keeper.new.book ≡ keeper.old.book }
-    ensures only { OnlyAt keeper.old.slots keeper.new.slots seat.old.slot }
-    ensures place { slot_at keeper.new.slots seat.old.slot
-        ≡ record { out = true; asks = seat.old.asks; name = seat.old.name } }
-    ensures seat { seat.new ≡ record seat.old { book = keeper.old.book } }
-    ensures later { Extends keeper.old.book seat.old.book }
-    ensures name { (slot_at keeper.old.slots seat.old.slot).name ≡ seat.old.name }
-    ensures asks { (slot_at keeper.old.slots seat.old.slot).asks ≤ seat.old.asks }
-    ensures out { (slot_at keeper.old.slots seat.old.slot).out ≡ true }
-    ensures number { result ≡ length keeper.old.book.changes }
-{
-    board.meet_slot(keeper, seat)
-}
-
-// As `meet_same`, but the seat gets a name given for contracts alone, which is this subscription's.
-fn meet_named(
-    board: &Board<Identity>,
-    keeper: &mut Keeper<Identity>,
-    seat: &mut Seat<Identity>,
-    slot: &Subscription,
-) -> u64
-    ghost name: { IdentityOf }
-    requires named { name ≡ identity_of slot.now }
-    requires board { (keeper.old.board ≡ board.now) × (seat.old.board ≡ board.now) }
-    requires slot { (0 < seat.old.slot) × (seat.old.slot < 65) }
-    requires wide { length keeper.old.slots ≡ 65 }
-    ensures board { keeper.new.board ≡ keeper.old.board }
-    ensures counted { keeper.new.register.openings ≡ keeper.old.register.openings }
-    ensures book { keeper.new.book ≡ keeper.old.book }
-    ensures only { OnlyAt keeper.old.slots keeper.new.slots seat.old.slot }
-    ensures place { slot_at keeper.new.slots seat.old.slot
-        ≡ record { out = true; asks = seat.old.asks; name = Some (identity_of slot.now) } }
-    ensures seat { seat.new ≡
-        record seat.old { book = keeper.old.book; name = Some (identity_of slot.now) } }
-    ensures name { (slot_at keeper.old.slots seat.old.slot).name ≡ seat.old.name }
-    ensures asks { (slot_at keeper.old.slots seat.old.slot).asks ≤ seat.old.asks }
-    ensures number { result ≡ length keeper.old.book.changes }
-{
-    // For the contract alone, which names the subscription.
-    let _ = slot;
-    board.meet_slot(keeper, seat)
-}
-
-// As `meet_same`, but the seat gets the name of this subscription.
+// The number of changes in the keeper's book, which a slot's seat then knows. The seat gets a name
+// given for contracts alone, which is this subscription's.
 pub(crate) fn meet_under(
     board: &Board<Identity>,
     keeper: &mut Keeper<Identity>,
     seat: &mut Seat<Identity>,
     slot: &Subscription,
 ) -> u64
+    ghost name: { IdentityOf }
     requires board { (keeper.old.board ≡ board.now) × (seat.old.board ≡ board.now) }
-    requires slot { (0 < seat.old.slot) × (seat.old.slot < 65) }
-    requires wide { length keeper.old.slots ≡ 65 }
-    ensures board { keeper.new.board ≡ keeper.old.board }
-    ensures counted { keeper.new.register.openings ≡ keeper.old.register.openings }
-    ensures book { keeper.new.book ≡ keeper.old.book }
-    ensures only { OnlyAt keeper.old.slots keeper.new.slots seat.old.slot }
-    ensures place { slot_at keeper.new.slots seat.old.slot
-        ≡ record { out = true; asks = seat.old.asks; name = Some (identity_of slot.now) } }
-    ensures seat { seat.new ≡
-        record seat.old { book = keeper.old.book; name = Some (identity_of slot.now) } }
-    ensures name { (slot_at keeper.old.slots seat.old.slot).name ≡ seat.old.name }
-    ensures asks { (slot_at keeper.old.slots seat.old.slot).asks ≤ seat.old.asks }
-    ensures number { result ≡ length keeper.old.book.changes }
+    requires place { (0 < seat.old.slot) × (seat.old.slot < 65)
+        × (length keeper.old.slots ≡ 65) }
+    requires named { name ≡ identity_of slot.now }
+    ensures { IsSlotMet keeper.old keeper.new seat.old seat.new (Some (identity_of slot.now))
+        result }
 {
-    meet_named(board, keeper, seat, slot)
+    // For the contract alone, which names the subscription.
+    let _ = slot;
+    board.meet_slot(keeper, seat)
+}
+
+// As `meet_under`, for an optional subscription. The seat keeps its name.
+pub(crate) fn meet_slot_at(
+    board: &Board<Identity>,
+    keeper: &mut Keeper<Identity>,
+    slot: &Option<Subscription>,
+    seat: &mut Seat<Identity>,
+) -> u64
+    requires board { (keeper.old.board ≡ board.now) × (seat.old.board ≡ board.now) }
+    requires place { (0 < seat.old.slot) × (seat.old.slot < 65)
+        × (length keeper.old.slots ≡ 65) }
+    requires seat { IsSome seat.old.name }
+    requires fits { SlotStands slot.now (slot_at keeper.old.slots seat.old.slot) keeper.old.book }
+    ensures met { IsSlotMet keeper.old keeper.new seat.old seat.new seat.old.name result }
+    ensures fits { SlotStands slot.now (slot_at keeper.new.slots seat.old.slot) keeper.new.book }
+    ensures asks { asks_of slot.now (slot_at keeper.new.slots seat.old.slot)
+        ≤ asks_of slot.now (slot_at keeper.old.slots seat.old.slot) }
+{
+    // For the contract alone, which says what stands in the slot.
+    let _ = slot;
+    board.meet_slot(keeper, seat)
 }
 
 // Ends a subscription where its reader asked for that, at the slot of its seat.
@@ -200,41 +163,12 @@ fn sync_at<R: Wait>(
     ensures progress { (s : SubscriptionOf)
         × ShowsProgress s seat.old seat.new reading.old reading.new result }
 {
-    let number = meet_same(board, keeper, seat);
+    let number = meet_slot_at(board, keeper, slot, seat);
     let Some(taken) = slot else { unreachable!() };
     notice_by(board, keeper, taken, seat, number);
     let progress = show(rt, keeper, taken, reading, number);
     meet_under(board, keeper, seat, taken);
     progress
-}
-
-// As `meet_same`, for an optional subscription.
-fn meet_slot_at(
-    board: &Board<Identity>,
-    keeper: &mut Keeper<Identity>,
-    slot: &Option<Subscription>,
-    seat: &mut Seat<Identity>,
-) -> u64
-    requires board { (keeper.old.board ≡ board.now) × (seat.old.board ≡ board.now) }
-    requires place { (0 < seat.old.slot) × (seat.old.slot < 65)
-        × (length keeper.old.slots ≡ 65) }
-    requires seat { IsSome seat.old.name }
-    requires fits { SlotStands slot.now (slot_at keeper.old.slots seat.old.slot) keeper.old.book }
-    ensures number { result ≡ length keeper.old.book.changes }
-    ensures board { keeper.new.board ≡ keeper.old.board }
-    ensures counted { keeper.new.register.openings ≡ keeper.old.register.openings }
-    ensures book { keeper.new.book ≡ keeper.old.book }
-    ensures only { OnlyAt keeper.old.slots keeper.new.slots seat.old.slot }
-    ensures fits { SlotStands slot.now (slot_at keeper.new.slots seat.old.slot) keeper.new.book }
-    ensures asks { asks_of slot.now (slot_at keeper.new.slots seat.old.slot)
-        ≤ asks_of slot.now (slot_at keeper.old.slots seat.old.slot) }
-    ensures known { (slot_at keeper.new.slots seat.old.slot).asks ≡ seat.old.asks }
-    ensures seat { seat.new ≡ record seat.old { book = keeper.old.book } }
-    ensures later { Extends keeper.old.book seat.old.book }
-{
-    // For the contract alone, which says what stands in the slot.
-    let _ = slot;
-    meet_same(board, keeper, seat)
 }
 
 /// The number of changes in the keeper's book, which the seat of a slot then knows.

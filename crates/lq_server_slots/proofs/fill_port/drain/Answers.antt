@@ -21,7 +21,7 @@ loop-slot-preserved g c =
           b.new.input c.args.keeper.now.book b.result l.invariant.0 b.ensures.value b.ensures.put
           b.ensures.taken b.ensures.known b.ensures.input b.ensures.floor b.ensures.legal
           b.ensures.within b.ensures.ports c.put_one.new.slot c.put_one.ensures.stands
-              c.put_one.ensures.alike,
+          c.put_one.ensures.alike,
       b.ensures.hand ∙ l.invariant.1,
       b.ensures.result ∙ l.invariant.2,
     )

@@ -27,10 +27,10 @@ returns-in-Ok-clause-stands g c =
     let held : c.next.new.self.held ≡ without_parcel s.sub.held (Some c.in-Some.what) =
     c.next.ensures.rest ∙ ap (without_parcel s.sub.held) next in
     subst (λ (h : Held). Stands h c.put.new.self s.places s.told.value s.first_close
-        c.args.keeper.now.book)
+    c.args.keeper.now.book)
     (sym held)
     (put_stands s.sub.held s.input s.places s.told.value s.first_close c.args.keeper.now.book
-        c.requires
+    c.requires
     c.put.new.self c.in-Some.what item next refl
     (ap (λ (k : KeeperToken Identity). k.book) c.of.ensures) c.put.ensures.port c.in-Ok.ensures.ok)
 
@@ -45,7 +45,7 @@ returns-in-Ok-clause-alike g c =
       port = c.put.ensures.port;
       held = subst (SameHeld s.sub.held) (sym held)
           (put_same s.sub.held s.input s.places s.told.value s.first_close c.args.keeper.now.book
-              c.requires
+          c.requires
           c.put.new.self c.in-Some.what item next refl
           (ap (λ (k : KeeperToken Identity). k.book) c.of.ensures) c.put.ensures.port
           c.in-Ok.ensures.ok);
@@ -56,7 +56,7 @@ returns-in-Ok-clause-alike g c =
       given_same =
           ap (λ (h : Held). messages_given h c.put.new.self) held
           ∙ given_then s.sub.held s.input s.places s.told.value s.first_close c.args.keeper.now.book
-              c.requires
+          c.requires
           c.put.new.self c.in-Some.what item next refl
           (ap (λ (k : KeeperToken Identity). k.book) c.of.ensures) c.put.ensures.port
           c.in-Ok.ensures.ok;
@@ -71,7 +71,7 @@ returns-in-Ok-clause-moved g c =
     c.next.ensures.rest ∙ ap (without_parcel s.sub.held) next in
     subst (λ (h : Held). left_of h < left_of s.sub.held) (sym held)
     (put_left s.sub.held s.input s.places s.told.value s.first_close c.args.keeper.now.book
-        c.requires
+    c.requires
     c.put.new.self c.in-Some.what item next refl
     (ap (λ (k : KeeperToken Identity). k.book) c.of.ensures) c.put.ensures.port c.in-Ok.ensures.ok)
 
@@ -79,7 +79,7 @@ pub returns-in_default-clause-stands : goal.returns-in_default-clause-stands
 returns-in_default-clause-stands g c =
     let s = c.args.slot.now in
     subst (λ (h : Held). Stands h s.input s.places s.told.value s.first_close
-        c.args.keeper.now.book)
+    c.args.keeper.now.book)
     (sym (none_out s.sub.held c.next.new.self.held (sym c.next.ensures.value ∙ c.in_default.is)
     c.next.ensures.rest)) c.requires
 

@@ -22,16 +22,16 @@ returns-clause-begun c =
     let book = c.args.keeper.now.book in
     let number : c.changes-at.result ≡ length book.changes = c.changes-at.ensures.number
     ∙ ap (λ (s : State). s.number) c.requires.volume ∙ c.requires.full.number in
-    let entries : c.in_ok-entries.entries.items ≡ result_of c.args.asked.now.predicate.now
+    let entries : c.in_ok-entries.entries.items ≡ result_of c.args.request.now.predicate.now
     (state_of book) = c.in_ok-entries.ensures.entries
-    ∙ ap (result_of c.args.asked.now.predicate.now) c.requires.volume in
+    ∙ ap (result_of c.args.request.now.predicate.now) c.requires.volume in
     let reading = c.new-reading.ensures in
     begun_new c.new_subscriptions_stand.ensures _ c.new-reading.result book
-    c.args.asked.now.predicate.now c.args.asked.now.moved c.args.asked.now.port
-    c.args.asked.now.backlog c.changes-at.result
+    c.args.request.now.predicate.now c.args.request.now.moved c.args.request.now.port
+    c.args.request.now.backlog c.changes-at.result
     (record {
       query = c.of.result;
-      moved = c.args.asked.now.moved;
+      moved = c.args.request.now.moved;
       opened = c.changes-at.result;
       book = c.of-2.result;
     })

@@ -39,14 +39,14 @@ returns-clause-opened c =
 pub returns-clause-answered : goal.returns-clause-answered
 returns-clause-answered c =
     let slots = c.args.slots.now in
-    let asked = c.args.asked.now in
+    let request = c.args.request.now in
     let items = slots.subscriptions.items in
     let free = c.in-Some.ensures.full ∙ ap has_no_free c.deref.ensures.value in
     let less = subst (λ (n : ℕ). slots.openings < n) c.limit.ensures c.if-limit-slots.false in
     record {
       table = subst (IsRefusedBy c.settle.result) (sym (opening_fits (has_no_free items)
-          slots.openings c.args.volume.now.limit asked.port asked.backlog c.if-asked-eq0.false
-          c.if-asked-gt-MAX_PLACES.false c.if-asked-gt-MAX_BACKLOG.false free less))
+          slots.openings c.args.volume.now.limit request.port request.backlog c.if-request-eq0.false
+          c.if-request-gt-MAX_PLACES.false c.if-request-gt-MAX_BACKLOG.false free less))
           c.settle.ensures.refused;
       lowest = IfOk-weaker c.settle.result (λ (o : Opened). o.slot ≡ c.in-Some.place)
           (λ (o : Opened). (j : ℕ) → 0 < j → j < o.slot → IsSome (slot_in items j))
@@ -54,7 +54,7 @@ returns-clause-answered c =
           c.deref.ensures.value (c.in-Some.ensures.lowest j pos (subst (λ (n : ℕ). j < n) e lt)))
           c.settle.ensures.slot;
       refused = subst (λ (o : Option Refusal). IfSome o (λ e. c.settle.result ≡ Err e))
-          (sym (sizes_fit asked.port asked.backlog [] c.if-asked-eq0.false
-          c.if-asked-gt-MAX_PLACES.false c.if-asked-gt-MAX_BACKLOG.false)) tt;
+          (sym (sizes_fit request.port request.backlog [] c.if-request-eq0.false
+          c.if-request-gt-MAX_PLACES.false c.if-request-gt-MAX_BACKLOG.false)) tt;
       others = search rules;
     }

@@ -1,6 +1,5 @@
--- The seat goes out under the name of the subscription that is passed.
-use Rattle.lq_server_slots.specs.Identity.{identity_of}
+-- The seat goes out under the caller's name.
 use Rattle.lq_server_slots.proofs.open.sit.Given as goal
 
-abbrev pub ghost-sit_named : goal.ghost-sit_named
-ghost-sit_named a = identity_of a.slot.now
+abbrev pub ghost-slot_seat : goal.ghost-slot_seat
+ghost-slot_seat g a = g.name

@@ -1,18 +1,20 @@
 use Rattle.std.proofs.Common.{◌∙◌, refl, arith}
 use Rattle.lq_server_slots.specs.Slots.{IsNoticed}
-use Rattle.lq_server_slots.proofs.TakenLemmas.{slots_stand-step, ready_more, asks_rise}
+use Rattle.lq_server_slots.proofs.TakenLemmas.{slots_stand-step, ready_more, asks_rise, listed_place}
 use Rattle.lq_server_slots.proofs.CommitLemmas.{slots_are-more, slots_are-all}
 use Rattle.lq_server_slots.proofs.prepare_commit.ready_all.Goals as goal
 
 pub returns-in_err-ready_at-clause-holding : goal.returns-in_err-ready_at-clause-holding
 returns-in_err-ready_at-clause-holding c =
     let was = c.loop-index.slots in
-    let place = c.place_of-place.result in
-    let p = c.place_of-place.ensures in
+    let i = c.loop-index.invariant in
+    let place = c.index-place.result.now in
+    let p = listed_place was.taken.items was.subscriptions.items c.loop-index.index place i.4.1
+    (omega (arith, i.3, c.loop-index-test.true)) c.index-place.ensures in
     let f = c.ready_at.ensures in
     slots_stand-step was.keeper c.ready_at.new.keeper was.subscriptions.items was.taken.items place
     place was.openings c.index_mut.result.now c.ready_at.new.slot was.keeper.book
-    c.ready_at.new.keeper.book c.loop-index.invariant.4 p.low p.high refl f.book
+    c.ready_at.new.keeper.book i.4 p.0 p.1 refl f.book
     c.index_mut.ensures.value f.only f.fits f.asks f.kept
 
 pub loop-index-preserved : goal.loop-index-preserved
@@ -20,8 +22,9 @@ loop-index-preserved c =
     let i = c.loop-index.invariant in
     let was = c.loop-index.slots in
     let items = was.subscriptions.items in
-    let place = c.place_of-place.result in
-    let p = c.place_of-place.ensures in
+    let place = c.index-place.result.now in
+    let p = listed_place was.taken.items items c.loop-index.index place i.4.1
+    (omega (arith, i.3, c.loop-index-test.true)) c.index-place.ensures in
     let f = c.ready_at.ensures in (
       f.board ∙ i.0,
       f.book ∙ i.1,
@@ -29,14 +32,14 @@ loop-index-preserved c =
       i.3,
       slots_stand-step was.keeper c.ready_at.new.keeper items was.taken.items place place
           was.openings c.index_mut.result.now c.ready_at.new.slot was.keeper.book
-          c.ready_at.new.keeper.book i.4 p.low p.high refl f.book c.index_mut.ensures.value f.only
+          c.ready_at.new.keeper.book i.4 p.0 p.1 refl f.book c.index_mut.ensures.value f.only
           f.fits f.asks f.kept,
       ready_more was.taken.items items c.loop-index.index place c.ready_at.new.slot
           c.args.planned.now.before c.args.planned.now.change i.4.1 i.4.0.wide
-          (omega (arith, i.3, c.loop-index-test.true)) p.value c.in_ok-ready_at.ensures.ready i.5,
+          (omega (arith, i.3, c.loop-index-test.true)) p.2 c.in_ok-ready_at.ensures.ready i.5,
       slots_are-more IsNoticed was.taken.items items was.keeper.slots c.ready_at.new.keeper.slots
           c.loop-index.index place c.ready_at.new.slot i.4.1 i.4.0.wide
-          (omega (arith, i.3, c.loop-index-test.true)) p.value f.only f.noticed i.6,
+          (omega (arith, i.3, c.loop-index-test.true)) p.2 f.only f.noticed i.6,
       asks_rise c.args.slots.now.keeper.slots was.keeper.slots c.ready_at.new.keeper.slots
           place f.only f.rises i.7,
       f.counted ∙ i.8,
@@ -54,4 +57,4 @@ returns-in_err-ready_at-clause-rises c =
     let was = c.loop-index.slots in
     let f = c.ready_at.ensures in
     asks_rise c.args.slots.now.keeper.slots was.keeper.slots c.ready_at.new.keeper.slots
-    c.place_of-place.result f.only f.rises c.loop-index.invariant.7
+    c.index-place.result.now f.only f.rises c.loop-index.invariant.7

@@ -1,6 +1,6 @@
 use Rattle.std.proofs.Common.{◌∙◌, refl, arith}
 use Rattle.lq_server_slots.specs.Slots.{IsServed}
-use Rattle.lq_server_slots.proofs.TakenLemmas.{slots_stand-step}
+use Rattle.lq_server_slots.proofs.TakenLemmas.{slots_stand-step, listed_place}
 use Rattle.lq_server_slots.proofs.CommitLemmas.{slots_are-more, slots_are-all}
 use Rattle.lq_server_slots.proofs.slots.serve_all.Goals as goal
 
@@ -8,8 +8,9 @@ pub loop-index-preserved : goal.loop-index-preserved
 loop-index-preserved g c =
     let i = c.loop-index.invariant in
     let was = c.loop-index.slots in
-    let place = c.place_of-place.result in
-    let p = c.place_of-place.ensures in
+    let place = c.index-place.result.now in
+    let p = listed_place was.taken.items was.subscriptions.items c.loop-index.index place i.4.1
+    (omega (arith, i.3, c.loop-index-test.true)) c.index-place.ensures in
     let f = c.serve_at.ensures in (
       f.board ∙ i.0,
       f.book ∙ i.1,
@@ -17,11 +18,11 @@ loop-index-preserved g c =
       i.3,
       slots_stand-step was.keeper c.serve_at.new.keeper was.subscriptions.items was.taken.items
           place place was.openings c.index_mut.result.now c.serve_at.new.slot was.keeper.book
-          c.serve_at.new.keeper.book i.4 p.low p.high refl f.book c.index_mut.ensures.value f.only
+          c.serve_at.new.keeper.book i.4 p.0 p.1 refl f.book c.index_mut.ensures.value f.only
           f.fits f.asks f.kept,
       slots_are-more IsServed was.taken.items was.subscriptions.items was.keeper.slots
           c.serve_at.new.keeper.slots c.loop-index.index place c.serve_at.new.slot i.4.1 i.4.0.wide
-          (omega (arith, i.3, c.loop-index-test.true)) p.value f.only f.served i.5,
+          (omega (arith, i.3, c.loop-index-test.true)) p.2 f.only f.served i.5,
       f.counted ∙ i.6,
     )
 

@@ -16,7 +16,7 @@ pub returns-clause-stands : goal.returns-clause-stands
 returns-clause-stands c = λ book stands ready lawful full.
     let s = c.args.slot.now in
     committed_stands s.sub c.commit.new.self s.input s.places s.told.value s.first_close book
-        c.args.change.now
+    c.args.change.now
     (none_there s.sub.held.mark (sym c.if-not-is_live.ensures)) c.commit.ensures
     c.steps_are_few.ensures c.requires.filled stands ready lawful full
 

@@ -1,23 +1,22 @@
-use Rattle.std.proofs.Common.{sym, ap, subst}
-use Rattle.lq_board.specs.declared.token_views.KnownSlot.{KnownSlot}
-use Rattle.lq_board.specs.Slot.{slot_at}
-use Rattle.lq_server_slots.specs.declared.identity.Identity.{Identity}
-use Rattle.lq_server_slots.specs.Slots.{SlotStands}
-use Rattle.lq_server_slots.proofs.SyncLemmas.{fits_met, asks_met}
+use Rattle.std.proofs.Common.{◌∙◌, sym}
+use Rattle.lq_server_slots.proofs.SyncLemmas.{slot_met_same, fits_met, asks_met}
 use Rattle.lq_server_slots.proofs.sync.meet_slot_at.Goals as goal
+
+pub returns-clause-met : goal.returns-clause-met
+returns-clause-met c =
+    let m = c.meet_slot in
+    slot_met_same c.args.keeper.now m.new.keeper c.args.seat.now m.new.seat m.result m.ensures.met
+    m.ensures.number (c.requires.board.0 ∙ sym c.requires.board.1) c.requires.place c.requires.seat
 
 pub returns-clause-fits : goal.returns-clause-fits
 returns-clause-fits c =
-    let m = c.meet_same.ensures in
-    let place = c.args.seat.now.slot in
-    subst (SlotStands c.args.slot.now (slot_at c.meet_same.new.keeper.slots place)) (sym m.book)
-    (fits_met c.args.slot.now (slot_at c.args.keeper.now.slots place)
-    (slot_at c.meet_same.new.keeper.slots place) c.args.keeper.now.book _ _ c.requires.fits
-    m.out m.place m.name m.asks)
+    let m = c.meet_slot in
+    let keeper = c.args.keeper.now in
+    let seat = c.args.seat.now in
+    fits_met c.args.slot.now keeper m.new.keeper seat m.new.seat m.result c.requires.fits
+    (slot_met_same keeper m.new.keeper seat m.new.seat m.result m.ensures.met m.ensures.number
+    (c.requires.board.0 ∙ sym c.requires.board.1) c.requires.place c.requires.seat)
 
 pub returns-clause-asks : goal.returns-clause-asks
 returns-clause-asks c = asks_met c.args.slot.now _ _ c.args.keeper.now.book c.requires.fits
-    c.meet_same.ensures.out
-
-pub returns-clause-known : goal.returns-clause-known
-returns-clause-known c = ap (λ (k : KnownSlot Identity). k.asks) c.meet_same.ensures.place
+    c.meet_slot.ensures.met.was_out.out

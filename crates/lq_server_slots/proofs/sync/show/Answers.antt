@@ -1,4 +1,4 @@
-use Rattle.std.proofs.Common.{◌∙◌, ℕ, refl, ap, subst}
+use Rattle.std.proofs.Common.{◌∙◌, refl, subst}
 use Rattle.lq_server_slots.specs.Standing.{IsDrained, SideBySide, told_by}
 use Rattle.lq_server_slots.proofs.sync.show.Goals as goal
 

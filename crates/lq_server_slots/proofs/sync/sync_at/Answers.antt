@@ -1,7 +1,6 @@
-use Rattle.std.proofs.Common.{◌≡◌, ◌∙◌, ◌+◌, ◌<◌, ◌≤◌, ℕ, arith, length, Option, Some, sym, ap, subst}
+use Rattle.std.proofs.Common.{◌≡◌, ◌∙◌, ◌+◌, ◌≤◌, ℕ, arith, length, Option, Some, sym, ap, subst}
 use Rattle.std.specs.Prelude.{IsSome}
 use Rattle.lq_volume.specs.Book.{Book, Extends}
-use Rattle.lq_board.specs.declared.token_views.KnownSlot.{KnownSlot}
 use Rattle.lq_board.specs.Slot.{slot_at}
 use Rattle.lq_board.specs.Token.{SeatToken}
 use Rattle.lq_update.specs.declared.mark.Mark.{Mark}
@@ -22,16 +21,16 @@ show-progress-requires-clause-port g c =
     c.in-Some.is c.requires.fits in
     let e = c.notice_by.ensures.others.0.input in
     same_port c.in-Some.taken c.args.seat.now.name c.args.reading.now.port
-    (sym c.meet_same-number.ensures.name ∙ taken.name) c.requires.seat
+    (sym c.meet_slot_at-number.ensures.met.name ∙ taken.name) c.requires.seat
     ∙ sym (λ i. (e i).port)
 
 pub returns-clause-book : goal.returns-clause-book
 returns-clause-book g c =
-    c.meet_under.ensures.book ∙ c.notice_by.ensures.book ∙ c.meet_same-number.ensures.book
+    c.meet_under.ensures.book ∙ c.notice_by.ensures.book ∙ c.meet_slot_at-number.ensures.met.book
 
 pub returns-clause-only : goal.returns-clause-only
 returns-clause-only g c =
-    let m = c.meet_same-number.ensures in
+    let m = c.meet_slot_at-number.ensures.met in
     only_then _ _ _ _ _ m.only
     (only_trans _ _ _ _ c.notice_by.ensures.only c.meet_under.ensures.only)
     (ap (λ (s : SeatToken Identity). s.slot) m.seat)
@@ -41,12 +40,12 @@ returns-clause-fits g c =
     let n = c.notice_by in
     let u = c.meet_under in
     let t = c.show-progress.new.slot in
-    let k = c.meet_same-number.new.seat.slot in
+    let k = c.meet_slot_at-number.new.seat.slot in
     subst (λ (k : ℕ). IsTakenSlot t (slot_at u.new.keeper.slots k) u.new.keeper.book)
-    (ap (λ (s : SeatToken Identity). s.slot) c.meet_same-number.ensures.seat)
+    (ap (λ (s : SeatToken Identity). s.slot) c.meet_slot_at-number.ensures.met.seat)
     (subst (IsTakenSlot t (slot_at u.new.keeper.slots k)) (sym u.ensures.book)
     (taken_shown n.new.slot t (slot_at n.new.keeper.slots k) (slot_at u.new.keeper.slots k)
-    c.meet_same-number.new.seat.asks n.new.keeper.book c.args.reading.now
+    c.meet_slot_at-number.new.seat.asks n.new.keeper.book c.args.reading.now
     c.show-progress.new.reading c.show-progress.result n.ensures.taken c.show-progress.ensures
     u.ensures.asks u.ensures.place))
 
@@ -63,13 +62,13 @@ returns-clause-asks g c =
 pub returns-clause-seat : goal.returns-clause-seat
 returns-clause-seat g c =
     ap (λ (s : SeatToken Identity). s.book) c.meet_under.ensures.seat
-    ∙ c.notice_by.ensures.book ∙ c.meet_same-number.ensures.book
+    ∙ c.notice_by.ensures.book ∙ c.meet_slot_at-number.ensures.met.book
 
 pub returns-clause-progress : goal.returns-clause-progress
 returns-clause-progress g c =
     let was = c.args.seat.now in
     let keeper = c.args.keeper.now in
-    let same = c.meet_same-number.ensures in
+    let same = c.meet_slot_at-number.ensures.met in
     let n = c.notice_by in
     let shown = c.show-progress.ensures in
     let b = shown.between in
@@ -81,7 +80,7 @@ returns-clause-progress g c =
     c.in-Some.is c.requires.fits in
     let book : now.book ≡ n.new.keeper.book =
     ap (λ (s : SeatToken Identity). s.book) under in
-    let asked : now.asks ≡ c.meet_same-number.new.seat.asks =
+    let asked : now.asks ≡ c.meet_slot_at-number.new.seat.asks =
     ap (λ (s : SeatToken Identity). s.asks) under in
     let asks = b.alike.asks in
     let le = c.meet_under.ensures.asks in (
