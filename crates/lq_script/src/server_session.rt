@@ -4,7 +4,7 @@ ghost use Rattle.lq_script_desk.specs.Answer.{response_of};
 ghost use Rattle.lq_script.specs.Changes.{change_told};
 ghost use Rattle.lq_script.specs.Progress.{AppendsReads, MakesMore};
 
-use crate::batch::{Turn, read_beside};
+use crate::batch::{SlotReads, read_beside};
 use crate::gate::Gate;
 use crate::readers::Readers;
 use crate::tokens::OwnSeat;
@@ -27,7 +27,7 @@ pub struct ServerSession<'s, E: 's, N: Named, R, G> {
     gate: &'s G,
     seat: OwnSeat<N>,
     readers: Readers<N>,
-    workers: Workers<'s, E, R, Turn<'s, N, G>>,
+    workers: Workers<'s, E, R, SlotReads<'s, N, G>>,
 }
 
 impl<
@@ -45,7 +45,7 @@ impl<
         server: &'s Server<N>,
         gate: &'s G,
         readers: Readers<N>,
-        workers: Workers<'s, E, R, Turn<'s, N, G>>,
+        workers: Workers<'s, E, R, SlotReads<'s, N, G>>,
     ) -> ServerSession<'s, E, N, R, G>
         ensures seat { result.seat ≡ seat }
     {
