@@ -18,7 +18,7 @@ use Rattle.lq_script_lines.specs.Lines.{HasPrefix}
 use Rattle.lq_script_lines.specs.declared.run_fault.RunFault.{RunFault}
 use Rattle.lq_script_lines.specs.declared.run_fault.RunFault.TheVariants.{Read, Write, Limit, Memory, Thread}
 use Rattle.lq_script.specs.Changes.{HasTaken, LeavesUntold, TellsAllChanges, change_in, change_told, changes_told, replies_text}
-use Rattle.lq_script.specs.Progress.{AppendsReads, Carries, ClosesRun, ClosesAfter, MakesMore, OwnToken, PutsText, SeatStanding, TellsMade, TellsRetired}
+use Rattle.lq_script.specs.Progress.{AppendsReads, Carries, ClosesAfter, ClosesRun, FailsToPut, MakesMore, OwnToken, PutsText, SeatStanding, TellsMade, TellsRetired}
 use Rattle.lq_script.proofs.ChangeLemmas.{each_later, made_same, made_then}
 
 -- ---- what a writer took
@@ -288,17 +288,22 @@ carries_written result a b seat put =
 
 -- ---- what the runner's parts put
 
--- a write of all that waits, which failed, took a front of it
-pub written_err : (w w' : Option (List ℕ)) (waits : List ℕ)
-    → ((n : ℕ) × Appends w w' (take n waits)) → (rest : List ℕ) × HasTaken w w' (waits ++ []) rest
-written_err w w' waits part = (
-  drop part.0 waits,
-  record {
-    taken = take part.0 waits;
-    appended = part.1;
-    split = append-nil waits ∙ sym (take-append-drop part.0 waits);
-  },
-)
+-- a write of all that waits, of which none waits then; where it failed, the writer took a front
+pub puts_waiting : (r : Result (Unit {0}) RunFault) (w w' : Option (List ℕ)) (waits left : List ℕ)
+    → OnOk r (Appends w w' waits) → left ≡ []
+    → OnErr r ((n : ℕ) × Appends w w' (take n waits)) → IfErr r (λ e. e ≡ Write)
+    → PutsText r w waits w' left []
+puts_waiting (Ok done) w w' waits left whole none part fault =
+    record { taken = waits; appended = whole; split = ap (λ (l : List ℕ). waits ++ l) (sym none) }
+puts_waiting (Err e) w w' waits left whole none part fault =
+    subst (λ (f : RunFault). FailsToPut f w waits w' left []) (sym fault) (
+      drop part.0 waits,
+      record {
+        taken = take part.0 waits;
+        appended = part.1;
+        split = append-nil waits ∙ sym (take-append-drop part.0 waits);
+      },
+    )
 
 -- a line that made no change, and whose reply had no memory
 pub carries_quiet : (a b : SeatStanding) → MakesMore a.seat b.seat [] → b.written ≡ a.written

@@ -9,7 +9,7 @@ use crate::gate::Gate;
 use crate::server_session::ServerSession;
 use crate::tokens::OwnSeat;
 use lq_script_desk::{Response, put_reply};
-use lq_script_lines::{Failed, RunFault, Sink, write_all};
+use lq_script_lines::{Failed, RunFault, Sink, write_replies};
 use lq_script_request::{Event, Question, Scratch, question_in};
 use lq_server::Named;
 use lq_value::Refusal;
@@ -269,12 +269,7 @@ impl<
         ensures empty { self.new.replies.items ≡ [] }
         ensures fault { IfErr result (λ e. e ≡ RunFault.Write) }
     {
-        let written = write_all(self.writer, &self.replies);
-        self.replies.clear();
-        match written {
-            Ok(()) => Ok(()),
-            Err(Failed) => Err(RunFault::Write),
-        }
+        write_replies(&mut self.replies, self.writer)
     }
 }
 

@@ -23,4 +23,4 @@ pub use intake::Intake;
 pub use responder::Responder;
 pub use run_fault::RunFault;
 pub use script_run::run_lines;
-pub use writing::{out_of_memory, write_all};
+pub use writing::{out_of_memory, write_all, write_replies};
