@@ -9,7 +9,7 @@ use crate::gate::Gate;
 use crate::server_session::ServerSession;
 use crate::tokens::OwnSeat;
 use lq_script_desk::{Response, put_reply};
-use lq_script_lines::{Failed, RunFault, Sink, write_replies};
+use lq_script_lines::{Failed, GATHERED, LF, RunFault, Sink, write_replies};
 use lq_script_request::{Event, Question, Scratch, question_in};
 use lq_server::Named;
 use lq_value::Refusal;
@@ -18,13 +18,8 @@ use std::alloc::Global;
 use std::sync::Wait;
 use std::thread::Threads;
 
-/// The bytes of replies from which on they are written.
-const GATHERED: usize = 65_536;
-
 /// The most reads of a batch.
 const MAX_READS: usize = 1_024;
-
-const LF: u8 = 10;
 
 /// Carries out the lines that `Lines` gives, and writes the reply to each.
 #[derive(Drop)]
