@@ -15,6 +15,7 @@ use Rattle.lq_embed.specs.declared.out_structs.AppliedOut.{AppliedOut}
 use Rattle.lq_embed.specs.declared.out_structs.OpeningOut.{OpeningOut}
 use Rattle.lq_embed.specs.declared.out_structs.FetchedOut.{FetchedOut}
 use Rattle.lq_embed.specs.Calls.{Asks, Changes, Fetches, FindsNode, Opens, Pushes, Responds}
+use Rattle.lq_embed.specs.Questions.{in_utf8}
 use Rattle.lq_embed.specs.Outs.{entries_after, fault_after, fetched_after, fetched_entries, looked_fault, opening_after}
 use Rattle.lq_embed.specs.SessionState.{SessionState, with_session}
 use Rattle.lq_embed.specs.Status.{response_status, status_of}
@@ -34,6 +35,15 @@ if-not_utf8 text x y not = at (is_utf8 text) refl
 pub if-utf8 : {A : Type 0} (text : List ℕ) (x y : A) → IsUtf8 text
     → (if is_utf8 text then x else y) ≡ x
 if-utf8 text x y utf8 = rw (is_utf8-from_IsUtf8 text utf8) refl
+
+-- a question that is refused for another text is refused the same before this text is read
+pub in_utf8-refused : (text : List ℕ) (q : Result Question Refusal) → q ≡ Err NotUtf8
+    → in_utf8 text q ≡ Err NotUtf8
+in_utf8-refused text q refused = at (is_utf8 text)
+  where
+    at : (b : Bool) → (if b then q else Err NotUtf8) ≡ Err NotUtf8
+    at true = refused
+    at false = refl
 
 -- ---- changes
 

@@ -17,7 +17,7 @@ use Rattle.lq_script_desk.specs.Response.{Response, Refuses, Found}
 use Rattle.lq_embed.proofs.CallLemmas.{finds-as}
 use Rattle.lq_embed.specs.Calls.{FindsNode, Responds}
 use Rattle.lq_embed.specs.Outs.{node_after}
-use Rattle.lq_embed.specs.PathNames.{name_length, named_question, names_among, names_in, parts_of, with_byte}
+use Rattle.lq_embed.specs.PathNames.{name_length, named_question, names_among, names_in, path_parts, with_byte}
 use Rattle.lq_embed.specs.SessionState.{SessionState, volume_in}
 use Rattle.lq_embed.specs.Status.{response_status}
 
@@ -40,17 +40,18 @@ pub record IsCut (path : List ℕ) (parts : List (List ℕ)) (size : ℕ) : Type
   pub after : names_among rest ≡ names_in (drop (suc size) path)
 
 cut-more : (byte : ℕ) (bytes : List ℕ) (slash : Bool)
-    → IsCut bytes (parts_of bytes) (name_length bytes)
-    → IsCut (byte ∷ bytes) (if slash then [] ∷ parts_of bytes else with_byte byte (parts_of bytes))
+    → IsCut bytes (path_parts bytes) (name_length bytes)
+    → IsCut (byte ∷ bytes)
+    (if slash then [] ∷ path_parts bytes else with_byte byte (path_parts bytes))
     (if slash then 0 else suc (name_length bytes))
-cut-more byte bytes true was = record { rest = parts_of bytes; first = refl; after = refl }
+cut-more byte bytes true was = record { rest = path_parts bytes; first = refl; after = refl }
 cut-more byte bytes false was = record {
   rest = was.rest;
   first = ap (with_byte byte) was.first;
   after = was.after;
 }
 
-cut : (path : List ℕ) → IsCut path (parts_of path) (name_length path)
+cut : (path : List ℕ) → IsCut path (path_parts path) (name_length path)
 cut [] = record { rest = []; first = refl; after = refl }
 cut (byte ∷ bytes) = cut-more byte bytes (byte == 47) (cut bytes)
 

@@ -6,7 +6,7 @@ use Rattle.lq_value.specs.declared.refusal.Refusal.{Refusal}
 use Rattle.lq_desk_world.specs.Events.{Answer}
 use Rattle.lq_desk_world.specs.Events as answer
 use Rattle.lq_embed.specs.declared.out_structs.MessageOut.{MessageOut}
-use Rattle.lq_embed.specs.Reads.{IsStopped, ReadsEach, ReadsOne, last_count, last_status, parcel_in, place_after}
+use Rattle.lq_embed.specs.Reads.{IsStopped, ReadsEach, ReadsOne, last_count, last_status, place_after, read_outcome}
 use Rattle.lq_embed.specs.SessionState.{SessionState}
 
 -- one more read, in the next place
@@ -84,7 +84,7 @@ read-all {slot = slot} {first = first} {now = now} {i = i} {before = before} {pl
     (subst (λ ys. ReadsEach slot first (take i before) ys now) (take_all i places full) was.each)
 
 -- a read that gives neither a message nor the mark leaves its place
-place-stays : (answer : Answer) (place : MessageOut) → parcel_in answer ≢ Ok true
+place-stays : (answer : Answer) (place : MessageOut) → read_outcome answer ≢ Ok true
     → place_after answer place ≡ place
 place-stays (answer.Changed applied) place none = refl
 place-stays (answer.Opened slot at result) place none = refl

@@ -13,10 +13,10 @@ abbrev pub with_byte : ℕ → List (List ℕ) → List (List ℕ)
 with_byte byte [] = (byte ∷ []) ∷ []
 with_byte byte (part ∷ parts) = (byte ∷ part) ∷ parts
 
-abbrev pub parts_of : List ℕ → List (List ℕ)
-parts_of [] = [] ∷ []
-parts_of (byte ∷ bytes) =
-    if byte == 47 then [] ∷ parts_of bytes else with_byte byte (parts_of bytes)
+abbrev pub path_parts : List ℕ → List (List ℕ)
+path_parts [] = [] ∷ []
+path_parts (byte ∷ bytes) =
+    if byte == 47 then [] ∷ path_parts bytes else with_byte byte (path_parts bytes)
 
 -- the parts that aren't empty
 abbrev pub names_among : List (List ℕ) → List (List ℕ)
@@ -25,7 +25,7 @@ names_among ([] ∷ parts) = names_among parts
 names_among ((byte ∷ part) ∷ parts) = (byte ∷ part) ∷ names_among parts
 
 abbrev pub names_in : List ℕ → List (List ℕ)
-names_in path = names_among (parts_of path)
+names_in path = names_among (path_parts path)
 
 -- how many bytes stand before the first `/`
 abbrev pub name_length : List ℕ → ℕ

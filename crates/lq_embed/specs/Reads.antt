@@ -14,10 +14,10 @@ use Rattle.lq_embed.specs.SessionState.{SessionState, with_session}
 -- ---- reads into a caller's places
 
 -- what a read says of itself: whether it gave a message or the mark
-abbrev pub parcel_in : Answer → Result Bool Refusal
-parcel_in (Took parcel) = Ok true
-parcel_in (Refused refusal) = Err refusal
-parcel_in answer = Ok false
+abbrev pub read_outcome : Answer → Result Bool Refusal
+read_outcome (Took parcel) = Ok true
+read_outcome (Refused refusal) = Err refusal
+read_outcome answer = Ok false
 
 -- a place after a read: only a message or the mark is written
 abbrev pub place_after : Answer → MessageOut → MessageOut
@@ -29,7 +29,7 @@ pub record ReadsOne (old new : SessionState) (slot : ℕ) (outcome : Result Bool
     (before after : MessageOut) : Type 0 where
   pub answer : Answer
   pub turned : Turned old.session new.session (Take slot) answer
-  pub parcel : outcome ≡ parcel_in answer
+  pub parcel : outcome ≡ read_outcome answer
   pub out : after ≡ place_after answer before
   pub beside : new ≡ with_session old new.session
 
@@ -50,7 +50,7 @@ last_count (Ok parcel) before count = count
 last_count (Err refusal) before count = before
 
 -- each place has a message or the mark
-pub record IsFilled (old new : SessionState) (slot status : ℕ) (before after : List MessageOut)
+pub record FillsPlaces (old new : SessionState) (slot status : ℕ) (before after : List MessageOut)
     (got_before got : ℕ) : Type 0 where
   pub reads : ReadsEach slot old before after new
   pub code : status ≡ 0
@@ -76,7 +76,7 @@ pub record IsStopped (old new : SessionState) (slot status : ℕ) (before after 
 abbrev pub ReadsMany : SessionState → SessionState → ℕ → ℕ → List MessageOut → List MessageOut → ℕ
     → ℕ → Type 0
 ReadsMany old new slot status before after got_before got =
-    IsFilled old new slot status before after got_before got
+    FillsPlaces old new slot status before after got_before got
     ⊎ IsStopped old new slot status before after got_before got
 
 -- ---- the end of a slot

@@ -2,10 +2,11 @@
 ghost use Rattle.std.specs.Prelude.{◌≡◌, ℤ};
 ghost use Rattle.lq_value.specs.declared.value.Value.TheVariants.{Int32, Int64, UInt32, UInt64};
 ghost use Rattle.lq_desk.specs.Reply.{answer_of};
-ghost use Rattle.lq_script_request.specs.Request.{asks_remove, asks_write, question_for};
+ghost use Rattle.lq_script_request.specs.Asked.{given};
+ghost use Rattle.lq_script_request.specs.Request.{asks_remove, asks_set, asks_write, question_for};
 ghost use Rattle.lq_embed.specs.Calls.{Changes};
 ghost use Rattle.lq_embed.specs.Outs.{applied_after};
-ghost use Rattle.lq_embed.specs.Questions.{create_question, move_question, set_question, set_text_question, unset_question};
+ghost use Rattle.lq_embed.specs.Questions.{create_question, in_utf8, move_question, set_question, set_text_question, unset_question};
 ghost use Rattle.lq_embed.specs.SessionState.{holds};
 ghost use Rattle.lq_embed.specs.Status.{status_of};
 
@@ -106,17 +107,10 @@ impl Embedded {
         ensures { Changes (holds self.old) (holds self.new)
             (set_text_question node attr.now text.now) result out.old out.new }
     {
-        let Ok(attr) = str::from_utf8(attr) else {
-            return status(Refusal::NotUtf8);
-        };
         let Ok(text) = str::from_utf8(text) else {
             return status(Refusal::NotUtf8);
         };
-        let value = View::Text(text);
-        applied(
-            self.answer_request(&Request::Set { node, attr, value }),
-            out,
-        )
+        self.set_attr(node, attr, View::Text(text), out)
     }
 
     /// Sets an attribute of an entry to a number of 32 bits with a sign. Refused as `set_text`, but
@@ -125,14 +119,7 @@ impl Embedded {
         ensures { Changes (holds self.old) (holds self.new)
             (set_question node attr.now (Int32 value)) result out.old out.new }
     {
-        let Ok(attr) = str::from_utf8(attr) else {
-            return status(Refusal::NotUtf8);
-        };
-        let value = View::Int32(value);
-        applied(
-            self.answer_request(&Request::Set { node, attr, value }),
-            out,
-        )
+        self.set_attr(node, attr, View::Int32(value), out)
     }
 
     /// Sets an attribute of an entry to a number of 64 bits with a sign. Refused as `set_int32`.
@@ -140,14 +127,7 @@ impl Embedded {
         ensures { Changes (holds self.old) (holds self.new)
             (set_question node attr.now (Int64 value)) result out.old out.new }
     {
-        let Ok(attr) = str::from_utf8(attr) else {
-            return status(Refusal::NotUtf8);
-        };
-        let value = View::Int64(value);
-        applied(
-            self.answer_request(&Request::Set { node, attr, value }),
-            out,
-        )
+        self.set_attr(node, attr, View::Int64(value), out)
     }
 
     /// Sets an attribute of an entry to a number of 32 bits without a sign. Refused as `set_int32`.
@@ -155,14 +135,7 @@ impl Embedded {
         ensures { Changes (holds self.old) (holds self.new)
             (set_question node attr.now (UInt32 value)) result out.old out.new }
     {
-        let Ok(attr) = str::from_utf8(attr) else {
-            return status(Refusal::NotUtf8);
-        };
-        let value = View::UInt32(value);
-        applied(
-            self.answer_request(&Request::Set { node, attr, value }),
-            out,
-        )
+        self.set_attr(node, attr, View::UInt32(value), out)
     }
 
     /// Sets an attribute of an entry to a number of 64 bits without a sign. Refused as `set_int32`.
@@ -170,14 +143,7 @@ impl Embedded {
         ensures { Changes (holds self.old) (holds self.new)
             (set_question node attr.now (UInt64 value)) result out.old out.new }
     {
-        let Ok(attr) = str::from_utf8(attr) else {
-            return status(Refusal::NotUtf8);
-        };
-        let value = View::UInt64(value);
-        applied(
-            self.answer_request(&Request::Set { node, attr, value }),
-            out,
-        )
+        self.set_attr(node, attr, View::UInt64(value), out)
     }
 
     /// Removes an attribute of an entry.
@@ -192,6 +158,19 @@ impl Embedded {
             return status(Refusal::NotUtf8);
         };
         applied(self.answer_request(&Request::Unset { node, attr }), out)
+    }
+
+    // Sets an attribute of an entry to a value.
+    fn set_attr(&mut self, node: u64, attr: &[u8], value: View<'_>, out: &mut AppliedOut) -> u32
+        ensures { Changes (holds self.old) (holds self.new)
+            (in_utf8 attr.now (question_for (asks_set node attr.now (given value.entry))))
+            result out.old out.new }
+    {
+        let Ok(attr) = str::from_utf8(attr) else {
+            return status(Refusal::NotUtf8);
+        };
+        let reply = self.answer_request(&Request::Set { node, attr, value });
+        applied(reply, out)
     }
 }
 

@@ -1,20 +1,15 @@
 //! A script's lines.
 ghost use Rattle.std.specs.Prelude.{◌≡◌, IfErr, OnOk};
 ghost use Rattle.lq_value.specs.declared.refusal.Refusal.TheVariants.{NoMemory};
-ghost use Rattle.lq_script_lines.specs.Lines.{line_of, reply_to, state_after, without_cr};
+ghost use Rattle.lq_script_lines.specs.Lines.{line_of, reply_to, state_after};
 ghost use Rattle.lq_script_desk.specs.Script.{world_rules};
 ghost use Rattle.lq_script_desk.specs.History.{question_of};
 ghost use Rattle.lq_script_desk.specs.SessionHistory.{LineKeepsHistory};
 ghost use Rattle.lq_embed.specs.SessionState.{holds, with_session, with_text};
 
 use crate::embedded::Embedded;
-use lq_script_lines::Responder;
+use lq_script_lines::{MAX_LINE, Responder, cut_cr};
 use lq_value::Refusal;
-
-/// The most bytes of a line, without its LF.
-const MAX_LINE: usize = 65536;
-
-const CR: u8 = 13;
 
 impl Embedded {
     /// Answers a line of a script, without its LF, as `run` answers it: the text of the reply is
@@ -49,17 +44,5 @@ impl Embedded {
         ensures { result.now ≡ (holds self.now).text }
     {
         &self.text
-    }
-}
-
-// The line without a single CR at its end.
-fn cut_cr(line: &[u8]) -> &[u8]
-    ensures { result.now ≡ without_cr line.now }
-{
-    let count = line.len();
-    if count > 0 && line[count - 1] == CR {
-        &line[..count - 1]
-    } else {
-        line
     }
 }

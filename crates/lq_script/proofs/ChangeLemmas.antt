@@ -15,7 +15,7 @@ use Rattle.lq_server_slots.specs.Slots.{before_of}
 use Rattle.lq_script_desk.specs.declared.response.Response.{Response}
 use Rattle.lq_script_desk.specs.Answer.{response_of}
 use Rattle.lq_script.specs.Changes.{IsChangeOf, change_told, state_before}
-use Rattle.lq_script.specs.Progress.{HasMade, OwnToken}
+use Rattle.lq_script.specs.Progress.{MakesMore, OwnToken}
 
 -- what stands at a place of a list is within it
 get_within : (xs : List Change) (i : ℕ) (c : Change) → slice_get xs i ≡ Some c → i < length xs
@@ -76,8 +76,8 @@ abbrev with_changes : Author → List ℕ → Author
 with_changes a changes = record a { changes = changes }
 
 -- a seat that made some changes and then others
-pub made_then : (a b c : OwnToken) (xs ys : List Applied) → HasMade a b xs → HasMade b c ys
-    → HasMade a c (xs ++ ys)
+pub made_then : (a b c : OwnToken) (xs ys : List Applied) → MakesMore a b xs → MakesMore b c ys
+    → MakesMore a c (xs ++ ys)
 made_then a b c xs ys h k = record {
   author =
       k.author
@@ -93,7 +93,7 @@ made_then a b c xs ys h k = record {
 }
 
 -- a seat that made none, and only knows a later book
-pub made_none : (a b : OwnToken) → b.author ≡ a.author → Extends b.book a.book → HasMade a b []
+pub made_none : (a b : OwnToken) → b.author ≡ a.author → Extends b.book a.book → MakesMore a b []
 made_none a b author later = record {
   author =
       author ∙ ap (λ (ns : List ℕ). with_changes a.author ns) (sym (append-nil a.author.changes));
@@ -103,16 +103,16 @@ made_none a b author later = record {
 
 -- a seat that only knows a later book, and all else of it as it was
 pub made_book : (a b : OwnToken) → b ≡ record a { book = b.book } → Extends b.book a.book
-    → HasMade a b []
+    → MakesMore a b []
 made_book a b same later = made_none a b (ap (λ (s : OwnToken). s.author) same) later
 
 -- or with other moments
 pub made_moments : (a b : OwnToken) → b ≡ record a { book = b.book; moments = b.moments }
-    → Extends b.book a.book → HasMade a b []
+    → Extends b.book a.book → MakesMore a b []
 made_moments a b same later = made_none a b (ap (λ (s : OwnToken). s.author) same) later
 
 -- the same seat
-pub made_same : (a : OwnToken) → HasMade a a []
+pub made_same : (a : OwnToken) → MakesMore a a []
 made_same a = made_none a a refl (
   [],
   ap (λ (cs : List Change). record { start = a.book.start; changes = cs })
@@ -122,7 +122,7 @@ made_same a = made_none a a refl (
 -- a seat that made one
 pub made_one : (a b : OwnToken) (t : Applied) (c : Change)
     → b.author ≡ with_change a.author t.change → IsAdded a.book b.book t c
-    → HasMade a b (t ∷ [])
+    → MakesMore a b (t ∷ [])
 made_one a b t c author d =
     let before = (before_of b.book).changes in
     let whole : b.book.changes ≡ before ++ c ∷ [] = ap (λ (x : Book). x.changes) d.place in
@@ -149,10 +149,10 @@ made_one a b t c author d =
     }
 
 -- where no change was made, none is told by a reply that tells none
-pub ok_made : (r : Result Response Refusal) (a b : OwnToken) → HasMade a b []
+pub ok_made : (r : Result Response Refusal) (a b : OwnToken) → MakesMore a b []
     → IfOk r (λ x. change_told (response_of x) ≡ [])
-    → IfOk r (λ x. HasMade a b (change_told (response_of x)))
-ok_made (Ok x) a b made none = subst (HasMade a b) (sym none) made
+    → IfOk r (λ x. MakesMore a b (change_told (response_of x)))
+ok_made (Ok x) a b made none = subst (MakesMore a b) (sym none) made
 ok_made (Err e) a b made none = tt
 
 -- what holds anyway holds of an error

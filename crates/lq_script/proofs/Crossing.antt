@@ -7,17 +7,17 @@ use Rattle.std.proofs.Crossing.{crosses, Vec-send}
 use Rattle.lq_desk_sub.specs.contracts.read.Read as read
 use Rattle.lq_server.specs.declared.server_base.Named.{Ghosts}
 use Rattle.lq_server.specs.contracts.server.Server as server
-use Rattle.lq_script.specs.contracts.batch.Turn as turn
+use Rattle.lq_script.specs.contracts.batch.SlotReads as slot_reads
 use Rattle.lq_script.proofs.tokens.OwnReader.TheSendSync as found_reader
 
 -- it is `Send`, where the server and the gate are `Sync`
-pub turn_send : (ℓ : NamedLft) (N G : RattleType) (g : Ghosts N.Denot)
+pub slot_reads_send : (ℓ : NamedLft) (N G : RattleType) (g : Ghosts N.Denot)
     → IsSync (server.the_row N g)
     → IsSync G
     → IsSend read.the_row
-    → IsSend (turn.the_row ℓ N G g)
-turn_send ℓ N G g s gate r =
-    declared_send (turn.the_type ℓ N G g) (
+    → IsSend (slot_reads.the_row ℓ N G g)
+slot_reads_send ℓ N G g s gate r =
+    declared_send (slot_reads.the_type ℓ N G g) (
       shr_send _ _ _ s,
       (
         shr_send _ _ _ gate,

@@ -17,14 +17,14 @@ use Rattle.lq_script_desk.specs.Reply.{reply_text}
 use Rattle.lq_script_lines.specs.Lines.{HasPrefix}
 use Rattle.lq_script_lines.specs.declared.run_fault.RunFault.{RunFault}
 use Rattle.lq_script_lines.specs.declared.run_fault.RunFault.TheVariants.{Read, Write, Limit, Memory, Thread}
-use Rattle.lq_script.specs.Changes.{Leaves, Takes, TellsAllChanges, change_in, change_told, changes_told, replies_text}
-use Rattle.lq_script.specs.Progress.{AppendsReads, Carries, HasMade, IsClosed, IsClosedAfter, IsPut, OwnToken, Standing, TellsMade, TellsRetired}
+use Rattle.lq_script.specs.Changes.{HasTaken, LeavesUntold, TellsAllChanges, change_in, change_told, changes_told, replies_text}
+use Rattle.lq_script.specs.Progress.{AppendsReads, Carries, ClosesAfter, ClosesRun, FailsToPut, MakesMore, OwnToken, PutsText, SeatStanding, TellsMade, TellsRetired}
 use Rattle.lq_script.proofs.ChangeLemmas.{each_later, made_same, made_then}
 
 -- ---- what a writer took
 
 -- it took nothing
-pub takes_none : (written : Option (List ℕ)) (bytes : List ℕ) → Takes written written bytes bytes
+pub takes_none : (written : Option (List ℕ)) (bytes : List ℕ) → HasTaken written written bytes bytes
 takes_none written bytes = record { taken = []; appended = Appends-nil written; split = refl }
 
 -- known bytes that stay grow by none
@@ -35,7 +35,7 @@ grown_none (Some x) (Some y) k = k ∙ sym (append-nil x)
 
 -- it took nothing where they stay
 pub keeps_takes : (written written' : Option (List ℕ)) (bytes : List ℕ) → Keeps written written'
-    → Takes written written' bytes bytes
+    → HasTaken written written' bytes bytes
 keeps_takes written written' bytes k = record {
   taken = [];
   appended = grown_none written written' k;
@@ -43,8 +43,8 @@ keeps_takes written written' bytes k = record {
 }
 
 -- first of these bytes, then of their rest
-pub takes_more : (a b c : Option (List ℕ)) (bytes rest last : List ℕ) → Takes a b bytes rest
-    → Takes b c rest last → Takes a c bytes last
+pub takes_more : (a b c : Option (List ℕ)) (bytes rest last : List ℕ) → HasTaken a b bytes rest
+    → HasTaken b c rest last → HasTaken a c bytes last
 takes_more a b c bytes rest last s t = record {
   taken = s.taken ++ t.taken;
   appended = Appends-trans a b c s.taken t.taken s.appended t.appended;
@@ -55,8 +55,8 @@ takes_more a b c bytes rest last s t = record {
 }
 
 -- with more bytes behind these, the rest has those too
-takes_beside : (a b : Option (List ℕ)) (bytes rest more : List ℕ) → Takes a b bytes rest
-    → Takes a b (bytes ++ more) (rest ++ more)
+takes_beside : (a b : Option (List ℕ)) (bytes rest more : List ℕ) → HasTaken a b bytes rest
+    → HasTaken a b (bytes ++ more) (rest ++ more)
 takes_beside a b bytes rest more s = record {
   taken = s.taken;
   appended = s.appended;
@@ -64,8 +64,8 @@ takes_beside a b bytes rest more s = record {
 }
 
 -- first of these bytes, then of the rest and more
-takes_then : (a b c : Option (List ℕ)) (bytes rest more last : List ℕ) → Takes a b bytes rest
-    → Takes b c (rest ++ more) last → Takes a c (bytes ++ more) last
+takes_then : (a b c : Option (List ℕ)) (bytes rest more last : List ℕ) → HasTaken a b bytes rest
+    → HasTaken b c (rest ++ more) last → HasTaken a c (bytes ++ more) last
 takes_then a b c bytes rest more last s t =
     takes_more a b c (bytes ++ more) (rest ++ more) last (takes_beside a b bytes rest more s) t
 
@@ -113,52 +113,52 @@ few_told (Rebuilt change result settled) = omega arith
 -- ---- lines
 
 -- no line was carried out
-pub carries_none : (s : Standing) (u : Unit {0}) → Carries (Ok u) s s
+pub carries_none : (s : SeatStanding) (u : Unit {0}) → Carries (Ok u) s s
 carries_none s u = record {
   replies = [];
   untold = [];
   rest = s.waits;
   made = made_same s.seat;
-  took = subst (λ (l : List ℕ). Takes s.written s.written l s.waits) (sym (append-nil s.waits))
+  took = subst (λ (l : List ℕ). HasTaken s.written s.written l s.waits) (sym (append-nil s.waits))
       (takes_none s.written s.waits);
   stops = (refl, refl);
 }
 
 -- no line was carried out, for want of memory
-pub carries_memory : (s : Standing) → Carries (Err Memory) s s
+pub carries_memory : (s : SeatStanding) → Carries (Err Memory) s s
 carries_memory s = record {
   replies = [];
   untold = [];
   rest = s.waits;
   made = made_same s.seat;
-  took = subst (λ (l : List ℕ). Takes s.written s.written l s.waits) (sym (append-nil s.waits))
+  took = subst (λ (l : List ℕ). HasTaken s.written s.written l s.waits) (sym (append-nil s.waits))
       (takes_none s.written s.waits);
   stops = (omega arith, refl);
 }
 
 -- lines after lines
-pub carries_then : (r : Result (Unit {0}) RunFault) (a b c : Standing) (u : Unit {0})
+pub carries_then : (r : Result (Unit {0}) RunFault) (a b c : SeatStanding) (u : Unit {0})
     → Carries (Ok u) a b → Carries r b c → Carries r a c
 carries_then r a b c u h k =
     let all : changes_told h.replies ++ (changes_told k.replies ++ k.untold)
     ≡ changes_told (h.replies ++ k.replies) ++ k.untold =
     sym (append_assoc (changes_told h.replies) (changes_told k.replies) k.untold)
     ∙ ap (λ (l : List Applied). l ++ k.untold) (sym (told_append h.replies k.replies)) in
-    let first : HasMade a.seat b.seat (changes_told h.replies) =
-    subst (HasMade a.seat b.seat)
+    let first : MakesMore a.seat b.seat (changes_told h.replies) =
+    subst (MakesMore a.seat b.seat)
     (ap (λ (l : List Applied). changes_told h.replies ++ l) h.stops.0
     ∙ append-nil (changes_told h.replies)) h.made in
-    let took : Takes a.written b.written (a.waits ++ replies_text h.replies) b.waits =
-    subst (λ (l : List ℕ). Takes a.written b.written (a.waits ++ replies_text h.replies) l)
+    let took : HasTaken a.written b.written (a.waits ++ replies_text h.replies) b.waits =
+    subst (λ (l : List ℕ). HasTaken a.written b.written (a.waits ++ replies_text h.replies) l)
     h.stops.1 h.took in
     record {
       replies = h.replies ++ k.replies;
       untold = k.untold;
       rest = k.rest;
-      made = subst (HasMade a.seat c.seat) all
+      made = subst (MakesMore a.seat c.seat) all
           (made_then a.seat b.seat c.seat (changes_told h.replies)
           (changes_told k.replies ++ k.untold) first k.made);
-      took = subst (λ (l : List ℕ). Takes a.written c.written l k.rest)
+      took = subst (λ (l : List ℕ). HasTaken a.written c.written l k.rest)
           (append_assoc a.waits (replies_text h.replies) (replies_text k.replies)
           ∙ ap (λ (l : List ℕ). a.waits ++ l) (sym (text_append h.replies k.replies)))
           (takes_then a.written b.written c.written (a.waits ++ replies_text h.replies) b.waits
@@ -167,16 +167,16 @@ carries_then r a b c u h k =
     }
 
 -- one line, by the change that its reply tells, and by the reply that was put
-pub carries_put : (result : Result (Unit {0}) RunFault) (a b : Standing) (r : Response)
-    → HasMade a.seat b.seat (change_told r)
-    → IsPut result a.written a.waits b.written b.waits (reply_text r) → Carries result a b
+pub carries_put : (result : Result (Unit {0}) RunFault) (a b : SeatStanding) (r : Response)
+    → MakesMore a.seat b.seat (change_told r)
+    → PutsText result a.written a.waits b.written b.waits (reply_text r) → Carries result a b
 carries_put (Ok u) a b r made put = record {
   replies = r ∷ [];
   untold = [];
   rest = b.waits;
-  made = subst (HasMade a.seat b.seat)
+  made = subst (MakesMore a.seat b.seat)
       (sym (append-nil (change_told r)) ∙ sym (append-nil (change_told r ++ []))) made;
-  took = subst (λ (l : List ℕ). Takes a.written b.written (a.waits ++ l) b.waits)
+  took = subst (λ (l : List ℕ). HasTaken a.written b.written (a.waits ++ l) b.waits)
       (sym (append-nil (reply_text r))) put;
   stops = (refl, refl);
 }
@@ -185,9 +185,9 @@ carries_put (Err Write) a b r made put = record {
   replies = r ∷ [];
   untold = [];
   rest = put.0;
-  made = subst (HasMade a.seat b.seat)
+  made = subst (MakesMore a.seat b.seat)
       (sym (append-nil (change_told r)) ∙ sym (append-nil (change_told r ++ []))) made;
-  took = subst (λ (l : List ℕ). Takes a.written b.written (a.waits ++ l) put.0)
+  took = subst (λ (l : List ℕ). HasTaken a.written b.written (a.waits ++ l) put.0)
       (sym (append-nil (reply_text r))) put.1;
   stops = refl;
 }
@@ -197,23 +197,24 @@ carries_put (Err Memory) a b r made put = record {
   untold = change_told r;
   rest = b.waits;
   made = made;
-  took = subst (λ (l : List ℕ). Takes a.written b.written l b.waits) (sym (append-nil a.waits)) put;
+  took = subst (λ (l : List ℕ). HasTaken a.written b.written l b.waits) (sym (append-nil a.waits))
+      put;
   stops = (few_told r, refl);
 }
 carries_put (Err Thread) a b r made put = absurd put
 
 -- a batch of reads, whose replies were put behind those that waited and then written
-pub carries_reads : (result : Result (Unit {0}) RunFault) (a b : Standing) (waits : List ℕ)
+pub carries_reads : (result : Result (Unit {0}) RunFault) (a b : SeatStanding) (waits : List ℕ)
     → b.seat ≡ a.seat → AppendsReads a.waits waits
-    → IsPut result a.written waits b.written b.waits [] → Carries result a b
+    → PutsText result a.written waits b.written b.waits [] → Carries result a b
 carries_reads (Ok u) a b waits seat reads put = record {
   replies = reads.replies;
   untold = [];
   rest = b.waits;
-  made = subst (λ (s : OwnToken). HasMade a.seat s (changes_told reads.replies ++ [])) (sym seat)
-      (subst (HasMade a.seat a.seat) (ap (λ (l : List Applied). l ++ []) (sym reads.none))
+  made = subst (λ (s : OwnToken). MakesMore a.seat s (changes_told reads.replies ++ [])) (sym seat)
+      (subst (MakesMore a.seat a.seat) (ap (λ (l : List Applied). l ++ []) (sym reads.none))
       (made_same a.seat));
-  took = subst (λ (l : List ℕ). Takes a.written b.written l b.waits)
+  took = subst (λ (l : List ℕ). HasTaken a.written b.written l b.waits)
       (append-nil waits ∙ reads.appended) put;
   stops = (refl, refl);
 }
@@ -222,10 +223,10 @@ carries_reads (Err Write) a b waits seat reads put = record {
   replies = reads.replies;
   untold = [];
   rest = put.0;
-  made = subst (λ (s : OwnToken). HasMade a.seat s (changes_told reads.replies ++ [])) (sym seat)
-      (subst (HasMade a.seat a.seat) (ap (λ (l : List Applied). l ++ []) (sym reads.none))
+  made = subst (λ (s : OwnToken). MakesMore a.seat s (changes_told reads.replies ++ [])) (sym seat)
+      (subst (MakesMore a.seat a.seat) (ap (λ (l : List Applied). l ++ []) (sym reads.none))
       (made_same a.seat));
-  took = subst (λ (l : List ℕ). Takes a.written b.written l put.0)
+  took = subst (λ (l : List ℕ). HasTaken a.written b.written l put.0)
       (append-nil waits ∙ reads.appended) put.1;
   stops = refl;
 }
@@ -234,10 +235,10 @@ carries_reads (Err Memory) a b waits seat reads put = record {
   replies = reads.replies;
   untold = [];
   rest = b.waits;
-  made = subst (λ (s : OwnToken). HasMade a.seat s (changes_told reads.replies ++ [])) (sym seat)
-      (subst (HasMade a.seat a.seat) (ap (λ (l : List Applied). l ++ []) (sym reads.none))
+  made = subst (λ (s : OwnToken). MakesMore a.seat s (changes_told reads.replies ++ [])) (sym seat)
+      (subst (MakesMore a.seat a.seat) (ap (λ (l : List Applied). l ++ []) (sym reads.none))
       (made_same a.seat));
-  took = subst (λ (l : List ℕ). Takes a.written b.written l b.waits) reads.appended put;
+  took = subst (λ (l : List ℕ). HasTaken a.written b.written l b.waits) reads.appended put;
   stops = (omega arith, refl);
 }
 carries_reads (Err Thread) a b waits seat reads put = absurd put
@@ -280,41 +281,46 @@ pub no_reads : (old : List ℕ) → AppendsReads old old
 no_reads old = record { replies = []; none = refl; appended = sym (append-nil old) }
 
 -- the replies that wait were written, and no line was carried out
-pub carries_written : (result : Result (Unit {0}) RunFault) (a b : Standing)
-    → b.seat ≡ a.seat → IsPut result a.written a.waits b.written b.waits [] → Carries result a b
+pub carries_written : (result : Result (Unit {0}) RunFault) (a b : SeatStanding)
+    → b.seat ≡ a.seat → PutsText result a.written a.waits b.written b.waits [] → Carries result a b
 carries_written result a b seat put =
     carries_reads result a b a.waits seat (no_reads a.waits) put
 
 -- ---- what the runner's parts put
 
--- a write of all that waits, which failed, took a front of it
-pub written_err : (w w' : Option (List ℕ)) (waits : List ℕ)
-    → ((n : ℕ) × Appends w w' (take n waits)) → (rest : List ℕ) × Takes w w' (waits ++ []) rest
-written_err w w' waits part = (
-  drop part.0 waits,
-  record {
-    taken = take part.0 waits;
-    appended = part.1;
-    split = append-nil waits ∙ sym (take-append-drop part.0 waits);
-  },
-)
+-- a write of all that waits, of which none waits then; where it failed, the writer took a front
+pub puts_waiting : (r : Result (Unit {0}) RunFault) (w w' : Option (List ℕ)) (waits left : List ℕ)
+    → OnOk r (Appends w w' waits) → left ≡ []
+    → OnErr r ((n : ℕ) × Appends w w' (take n waits)) → IfErr r (λ e. e ≡ Write)
+    → PutsText r w waits w' left []
+puts_waiting (Ok done) w w' waits left whole none part fault =
+    record { taken = waits; appended = whole; split = ap (λ (l : List ℕ). waits ++ l) (sym none) }
+puts_waiting (Err e) w w' waits left whole none part fault =
+    subst (λ (f : RunFault). FailsToPut f w waits w' left []) (sym fault) (
+      drop part.0 waits,
+      record {
+        taken = take part.0 waits;
+        appended = part.1;
+        split = append-nil waits ∙ sym (take-append-drop part.0 waits);
+      },
+    )
 
 -- a line that made no change, and whose reply had no memory
-pub carries_quiet : (a b : Standing) → HasMade a.seat b.seat [] → b.written ≡ a.written
+pub carries_quiet : (a b : SeatStanding) → MakesMore a.seat b.seat [] → b.written ≡ a.written
     → b.waits ≡ a.waits → Carries (Err Memory) a b
 carries_quiet a b made written waits = record {
   replies = [];
   untold = [];
   rest = b.waits;
   made = made;
-  took = subst (λ (w : Option (List ℕ)). Takes a.written w (a.waits ++ []) b.waits) (sym written)
-      (subst (λ (l : List ℕ). Takes a.written a.written l b.waits)
+  took = subst (λ (w : Option (List ℕ)). HasTaken a.written w (a.waits ++ []) b.waits) (sym written)
+      (subst (λ (l : List ℕ). HasTaken a.written a.written l b.waits)
       (waits ∙ sym (append-nil a.waits)) (takes_none a.written b.waits));
   stops = (omega arith, refl);
 }
 
 -- a success is one, whatever it gives
-pub carries_ok : (a b : Standing) (u v : Unit {0}) → Carries (Ok u) a b → Carries (Ok v) a b
+pub carries_ok : (a b : SeatStanding) (u v : Unit {0}) → Carries (Ok u) a b → Carries (Ok v) a b
 carries_ok a b u v h = record {
   replies = h.replies;
   untold = h.untold;
@@ -325,16 +331,16 @@ carries_ok a b u v h = record {
 }
 
 -- what an equal result says
-pub carries_as : (r s : Result (Unit {0}) RunFault) (a b : Standing) → r ≡ s → Carries s a b
+pub carries_as : (r s : Result (Unit {0}) RunFault) (a b : SeatStanding) → r ≡ s → Carries s a b
     → Carries r a b
 carries_as r s a b is h = subst (λ (t : Result (Unit {0}) RunFault). Carries t a b) (sym is) h
 
 -- reads for which memory was wanting
-pub carries_kept : (a b : Standing) → b.seat ≡ a.seat → b.written ≡ a.written
+pub carries_kept : (a b : SeatStanding) → b.seat ≡ a.seat → b.written ≡ a.written
     → b.waits ≡ a.waits → Carries (Err Memory) a b
 carries_kept a b seat written waits =
     carries_quiet a b
-    (subst (λ (s : OwnToken). HasMade a.seat s []) (sym seat) (made_same a.seat)) written waits
+    (subst (λ (s : OwnToken). MakesMore a.seat s []) (sym seat) (made_same a.seat)) written waits
 
 -- what an error says, where a test found one
 pub when_err : {T E P : Type 0} (r : Result T E) → is_err r ≡ true → OnErr r P → P
@@ -357,7 +363,8 @@ head_none s board start n is whole =
 -- ---- a whole run
 
 -- a writer that took no bytes more took none of these
-takes_nothing : (a b : Option (List ℕ)) (bytes : List ℕ) → Takes a b [] [] → Takes a b bytes bytes
+takes_nothing : (a b : Option (List ℕ)) (bytes : List ℕ) → HasTaken a b [] []
+    → HasTaken a b bytes bytes
 takes_nothing a b bytes t = record {
   taken = t.taken;
   appended = t.appended;
@@ -365,43 +372,43 @@ takes_nothing a b bytes t = record {
 }
 
 -- a run that carried out lines, then wrote of what was left, and answers this
-tells : (result r : Result (Unit {0}) RunFault) (a b : Standing) (written : Option (List ℕ))
-    (last : List ℕ) → a.waits ≡ [] → (h : Carries r a b) → Takes b.written written h.rest last
-    → Leaves result h.untold last → TellsMade result a.seat b.seat a.written written
+tells : (result r : Result (Unit {0}) RunFault) (a b : SeatStanding) (written : Option (List ℕ))
+    (last : List ℕ) → a.waits ≡ [] → (h : Carries r a b) → HasTaken b.written written h.rest last
+    → LeavesUntold result h.untold last → TellsMade result a.seat b.seat a.written written
 tells result r a b written last first h t leaves = record {
   replies = h.replies;
   untold = h.untold;
   rest = last;
   made = h.made;
-  took = subst (λ (l : List ℕ). Takes a.written written (l ++ replies_text h.replies) last) first
+  took = subst (λ (l : List ℕ). HasTaken a.written written (l ++ replies_text h.replies) last) first
       (takes_more a.written b.written written (a.waits ++ replies_text h.replies) h.rest last
       h.took t);
   leaves = leaves;
 }
 
 -- one that ended between two lines, with nothing that waits
-pub tells_end : (result : Result (Unit {0}) RunFault) (a b : Standing) (u : Unit {0})
+pub tells_end : (result : Result (Unit {0}) RunFault) (a b : SeatStanding) (u : Unit {0})
     (written : Option (List ℕ)) (last : List ℕ) → a.waits ≡ [] → b.waits ≡ [] → Carries (Ok u) a b
-    → Takes b.written written [] last → Leaves result [] last
+    → HasTaken b.written written [] last → LeavesUntold result [] last
     → TellsMade result a.seat b.seat a.written written
 tells_end result a b u written last first none h t leaves =
     tells result (Ok u) a b written last first h
-    (subst (λ (l : List ℕ). Takes b.written written l last) (sym none ∙ sym h.stops.1) t)
-    (subst (λ (l : List Applied). Leaves result l last) (sym h.stops.0) leaves)
+    (subst (λ (l : List ℕ). HasTaken b.written written l last) (sym none ∙ sym h.stops.1) t)
+    (subst (λ (l : List Applied). LeavesUntold result l last) (sym h.stops.0) leaves)
 
 -- a flush at the end
-pub tells_flush : (result : Result (Unit {0}) RunFault) (a b : Standing) (u : Unit {0})
+pub tells_flush : (result : Result (Unit {0}) RunFault) (a b : SeatStanding) (u : Unit {0})
     (written : Option (List ℕ)) → a.waits ≡ [] → b.waits ≡ [] → Carries (Ok u) a b
-    → Takes b.written written [] [] → IfErr result (λ e. e ≡ Write)
+    → HasTaken b.written written [] [] → IfErr result (λ e. e ≡ Write)
     → TellsMade result a.seat b.seat a.written written
 tells_flush (Ok v) a b u written first none h t fault =
     tells_end (Ok v) a b u written [] first none h t (refl, refl)
 tells_flush (Err e) a b u written first none h t fault =
     tells_end (Err e) a b u written [] first none h t
-    (subst (λ (f : RunFault). Leaves (Err f) [] []) (sym fault) (omega arith))
+    (subst (λ (f : RunFault). LeavesUntold (Err f) [] []) (sym fault) (omega arith))
 
 -- what a close that kept its fault leaves, with nothing that waits
-leaves_none : (e : RunFault) → Leaves (Err e) [] []
+leaves_none : (e : RunFault) → LeavesUntold (Err e) [] []
 leaves_none Read = (refl, refl)
 leaves_none Write = omega arith
 leaves_none Limit = (refl, refl)
@@ -409,22 +416,22 @@ leaves_none Memory = (omega arith, refl)
 leaves_none Thread = (refl, refl)
 
 -- a close after a fault between two lines that isn't the writer's
-closed_after : (fault answer : RunFault) (a b : Standing) (u : Unit {0})
+closed_after : (fault answer : RunFault) (a b : SeatStanding) (u : Unit {0})
     (written : Option (List ℕ)) → a.waits ≡ [] → b.waits ≡ [] → Carries (Ok u) a b
-    → IsClosedAfter fault answer b.written b.waits written
+    → ClosesAfter fault answer b.written b.waits written
     → TellsMade (Err answer) a.seat b.seat a.written written
 closed_after fault answer a b u written first none h (inl kept) =
     tells_end (Err answer) a b u written [] first none h
-    (subst (λ (l : List ℕ). Takes b.written written l []) none kept.1) (leaves_none answer)
+    (subst (λ (l : List ℕ). HasTaken b.written written l []) none kept.1) (leaves_none answer)
 closed_after fault answer a b u written first none h (inr failed) =
     tells_end (Err answer) a b u written failed.1.0 first none h
-    (subst (λ (l : List ℕ). Takes b.written written l failed.1.0) none failed.1.1)
-    (subst (λ (f : RunFault). Leaves (Err f) [] failed.1.0) (sym failed.0) (omega arith))
+    (subst (λ (l : List ℕ). HasTaken b.written written l failed.1.0) none failed.1.1)
+    (subst (λ (f : RunFault). LeavesUntold (Err f) [] failed.1.0) (sym failed.0) (omega arith))
 
 -- any close after a fault between two lines
-pub tells_closed : (fault answer : RunFault) (a b : Standing) (u : Unit {0})
+pub tells_closed : (fault answer : RunFault) (a b : SeatStanding) (u : Unit {0})
     (written : Option (List ℕ)) → a.waits ≡ [] → b.waits ≡ [] → Carries (Ok u) a b
-    → IsClosed fault answer b.written b.waits written
+    → ClosesRun fault answer b.written b.waits written
     → TellsMade (Err answer) a.seat b.seat a.written written
 tells_closed Read answer a b u written first none h closed =
     closed_after Read answer a b u written first none h closed
@@ -438,28 +445,28 @@ tells_closed Thread answer a b u written first none h closed =
     closed_after Thread answer a b u written first none h closed
 
 -- a close after want of memory in a line
-tells_memory : (answer : RunFault) (a b : Standing) (written : Option (List ℕ)) → a.waits ≡ []
-    → Carries (Err Memory) a b → IsClosedAfter Memory answer b.written b.waits written
+tells_memory : (answer : RunFault) (a b : SeatStanding) (written : Option (List ℕ)) → a.waits ≡ []
+    → Carries (Err Memory) a b → ClosesAfter Memory answer b.written b.waits written
     → TellsMade (Err answer) a.seat b.seat a.written written
 tells_memory answer a b written first h (inl kept) =
     tells (Err answer) (Err Memory) a b written [] first h
-    (subst (λ (l : List ℕ). Takes b.written written l []) (sym h.stops.1) kept.1)
-    (subst (λ (f : RunFault). Leaves (Err f) h.untold []) (sym kept.0) (h.stops.0, refl))
+    (subst (λ (l : List ℕ). HasTaken b.written written l []) (sym h.stops.1) kept.1)
+    (subst (λ (f : RunFault). LeavesUntold (Err f) h.untold []) (sym kept.0) (h.stops.0, refl))
 tells_memory answer a b written first h (inr failed) =
     tells (Err answer) (Err Memory) a b written failed.1.0 first h
-    (subst (λ (l : List ℕ). Takes b.written written l failed.1.0) (sym h.stops.1) failed.1.1)
-    (subst (λ (f : RunFault). Leaves (Err f) h.untold failed.1.0) (sym failed.0) h.stops.0)
+    (subst (λ (l : List ℕ). HasTaken b.written written l failed.1.0) (sym h.stops.1) failed.1.1)
+    (subst (λ (f : RunFault). LeavesUntold (Err f) h.untold failed.1.0) (sym failed.0) h.stops.0)
 
 -- any close after a fault in a line
-pub tells_fault : (fault answer : RunFault) (a b : Standing) (written : Option (List ℕ))
+pub tells_fault : (fault answer : RunFault) (a b : SeatStanding) (written : Option (List ℕ))
     → a.waits ≡ [] → Carries (Err fault) a b
-    → IsClosed fault answer b.written b.waits written
+    → ClosesRun fault answer b.written b.waits written
     → TellsMade (Err answer) a.seat b.seat a.written written
 tells_fault Read answer a b written first h closed = absurd h.stops
 tells_fault Write answer a b written first h closed =
     tells (Err answer) (Err Write) a b written h.rest first h
     (takes_nothing b.written written h.rest closed.1)
-    (subst (λ (f : RunFault). Leaves (Err f) h.untold h.rest) (sym closed.0)
+    (subst (λ (f : RunFault). LeavesUntold (Err f) h.untold h.rest) (sym closed.0)
     (let none : length h.untold ≡ 0 = ap (λ (l : List Applied). length l) h.stops in omega arith))
 tells_fault Limit answer a b written first h closed = absurd h.stops
 tells_fault Memory answer a b written first h closed =
@@ -480,7 +487,7 @@ tells_never s e written written' is keeps = record {
   rest = [];
   made = made_same s;
   took = keeps_takes written written' [] keeps;
-  leaves = subst (λ (f : RunFault). Leaves (Err f) [] []) (sym is) (omega arith, refl);
+  leaves = subst (λ (f : RunFault). LeavesUntold (Err f) [] []) (sym is) (omega arith, refl);
 }
 
 -- the server of a run was retired, and all its changes are those of the run's seat, which had made
@@ -525,7 +532,7 @@ retired_never start volume known changes e written written' is keeps by none = r
     rest = [];
     all = record { in_order = none ∙ ap numbers by.number; each = tt };
     took = keeps_takes written written' [] keeps;
-    leaves = subst (λ (f : RunFault). Leaves (Err f) [] []) (sym is) (omega arith, refl);
+    leaves = subst (λ (f : RunFault). LeavesUntold (Err f) [] []) (sym is) (omega arith, refl);
   };
 }
 
@@ -542,6 +549,6 @@ tells_none e written written' is keeps = record {
     rest = [];
     all = record { in_order = refl; each = tt };
     took = keeps_takes written written' [] keeps;
-    leaves = subst (λ (f : RunFault). Leaves (Err f) [] []) (sym is) (omega arith, refl);
+    leaves = subst (λ (f : RunFault). LeavesUntold (Err f) [] []) (sym is) (omega arith, refl);
   };
 }

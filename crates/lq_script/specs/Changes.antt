@@ -38,7 +38,7 @@ replies_text [] = []
 replies_text (reply ∷ replies) = reply_text reply ++ replies_text replies
 
 -- a writer took these bytes, but for a rest of them
-pub record Takes (written written' : Option (List ℕ)) (bytes rest : List ℕ) : Type 0 where
+pub record HasTaken (written written' : Option (List ℕ)) (bytes rest : List ℕ) : Type 0 where
   pub taken : List ℕ
   pub appended : Appends written written' taken
   pub split : bytes ≡ taken ++ rest
@@ -73,9 +73,9 @@ LeavesAfter Memory untold rest = (length untold ≤ 1) × (rest ≡ [])
 LeavesAfter Thread untold rest = (untold ≡ []) × (rest ≡ [])
 
 -- a run that succeeded leaves none of either
-abbrev pub Leaves : Result (Unit {0}) RunFault → List Applied → List ℕ → Type 0
-Leaves (Ok done) untold rest = (untold ≡ []) × (rest ≡ [])
-Leaves (Err fault) untold rest = LeavesAfter fault untold rest
+abbrev pub LeavesUntold : Result (Unit {0}) RunFault → List Applied → List ℕ → Type 0
+LeavesUntold (Ok done) untold rest = (untold ≡ []) × (rest ≡ [])
+LeavesUntold (Err fault) untold rest = LeavesAfter fault untold rest
 
 -- All changes of this book are those that a run's replies tell, in order, and `untold` at the end.
 -- What was written is the text of these replies, but for `rest` at its end.
@@ -85,8 +85,8 @@ pub record TellsAllOf (book : Book) (result : Result (Unit {0}) RunFault)
   pub untold : List Applied
   pub rest : List ℕ
   pub all : AreAllChanges book (changes_told replies ++ untold)
-  pub took : Takes written written' (replies_text replies) rest
-  pub leaves : Leaves result untold rest
+  pub took : HasTaken written written' (replies_text replies) rest
+  pub leaves : LeavesUntold result untold rest
 
 -- A run tells all changes that its server made: there is one lawful book of them, over the first
 -- volume of a script.

@@ -10,7 +10,7 @@ use Rattle.lq_server.specs.Retired.{IsRetired}
 use Rattle.lq_script_desk.specs.Response.{Response}
 use Rattle.lq_script_lines.specs.declared.run_fault.RunFault.{RunFault}
 use Rattle.lq_script_lines.specs.declared.run_fault.RunFault.TheVariants.{Read, Write, Limit, Memory, Thread}
-use Rattle.lq_script.specs.Changes.{IsChangeOf, Leaves, Takes, TellsAllOf, changes_told, replies_text}
+use Rattle.lq_script.specs.Changes.{HasTaken, IsChangeOf, LeavesUntold, TellsAllOf, changes_told, replies_text}
 
 -- what a contract sees of the seat of a run
 abbrev pub OwnToken : Type 0
@@ -18,7 +18,7 @@ OwnToken = SeatToken Identity
 
 -- A seat made these changes more, in this order, and no others. The book that it then knows has
 -- them.
-pub record HasMade (old new : OwnToken) (made : List Applied) : Type 0 where
+pub record MakesMore (old new : OwnToken) (made : List Applied) : Type 0 where
   pub author : new.author
       ≡ record old.author { changes = old.author.changes ++ map (λ a. a.change) made }
   pub later : Extends new.book old.book
@@ -38,27 +38,28 @@ abbrev pub FailsToPut : RunFault → Option (List ℕ) → List ℕ → Option (
     → Type 0
 FailsToPut Read written waits written' waits' text = ⊥
 FailsToPut Write written waits written' waits' text =
-    (rest : List ℕ) × Takes written written' (waits ++ text) rest
+    (rest : List ℕ) × HasTaken written written' (waits ++ text) rest
 FailsToPut Limit written waits written' waits' text = ⊥
-FailsToPut Memory written waits written' waits' text = Takes written written' waits waits'
+FailsToPut Memory written waits written' waits' text = HasTaken written written' waits waits'
 FailsToPut Thread written waits written' waits' text = ⊥
 
-abbrev pub IsPut : Result (Unit {0}) RunFault → Option (List ℕ) → List ℕ → Option (List ℕ)
+abbrev pub PutsText : Result (Unit {0}) RunFault → Option (List ℕ) → List ℕ → Option (List ℕ)
     → List ℕ → List ℕ → Type 0
-IsPut (Ok done) written waits written' waits' text = Takes written written' (waits ++ text) waits'
-IsPut (Err fault) written waits written' waits' text =
+PutsText (Ok done) written waits written' waits' text =
+    HasTaken written written' (waits ++ text) waits'
+PutsText (Err fault) written waits written' waits' text =
     FailsToPut fault written waits written' waits' text
 
 -- ---- lines that were carried out
 
 -- where a run stands: its seat, what its writer has taken, and the replies that wait for it
-pub record Standing : Type 0 where
+pub record SeatStanding : Type 0 where
   pub seat : OwnToken
   pub written : Option (List ℕ)
   pub waits : List ℕ
 
-abbrev pub standing : OwnToken → Option (List ℕ) → List ℕ → Standing
-standing seat written waits = record { seat = seat; written = written; waits = waits }
+abbrev pub seat_standing : OwnToken → Option (List ℕ) → List ℕ → SeatStanding
+seat_standing seat written waits = record { seat = seat; written = written; waits = waits }
 
 -- Which changes have no reply, and which bytes of the replies the writer hasn't taken, where these
 -- replies wait. Where memory was wanting, the last change may have no reply.
@@ -74,31 +75,31 @@ Stops (Ok done) untold rest waits = (untold ≡ []) × (rest ≡ waits)
 Stops (Err fault) untold rest waits = StopsBy fault untold rest waits
 
 -- some lines were carried out: the changes made are those that the replies tell, and `untold`
-pub record Carries (result : Result (Unit {0}) RunFault) (old new : Standing) : Type 0 where
+pub record Carries (result : Result (Unit {0}) RunFault) (old new : SeatStanding) : Type 0 where
   pub replies : List Response
   pub untold : List Applied
   pub rest : List ℕ
-  pub made : HasMade old.seat new.seat (changes_told replies ++ untold)
-  pub took : Takes old.written new.written (old.waits ++ replies_text replies) rest
+  pub made : MakesMore old.seat new.seat (changes_told replies ++ untold)
+  pub took : HasTaken old.written new.written (old.waits ++ replies_text replies) rest
   pub stops : Stops result untold rest new.waits
 
 -- ---- the end of a run
 
 -- The fault that a run answers after this one. Unless the fault is the writer's, all that waited is
 -- written, or the writer failed then.
-abbrev pub IsClosedAfter : RunFault → RunFault → Option (List ℕ) → List ℕ → Option (List ℕ)
+abbrev pub ClosesAfter : RunFault → RunFault → Option (List ℕ) → List ℕ → Option (List ℕ)
     → Type 0
-IsClosedAfter fault answer written waits written' =
-    ((answer ≡ fault) × Takes written written' waits [])
-    ⊎ ((answer ≡ Write) × ((rest : List ℕ) × Takes written written' waits rest))
+ClosesAfter fault answer written waits written' =
+    ((answer ≡ fault) × HasTaken written written' waits [])
+    ⊎ ((answer ≡ Write) × ((rest : List ℕ) × HasTaken written written' waits rest))
 
-abbrev pub IsClosed : RunFault → RunFault → Option (List ℕ) → List ℕ → Option (List ℕ) → Type 0
-IsClosed Read answer written waits written' = IsClosedAfter Read answer written waits written'
-IsClosed Write answer written waits written' =
-    (answer ≡ Write) × Takes written written' [] []
-IsClosed Limit answer written waits written' = IsClosedAfter Limit answer written waits written'
-IsClosed Memory answer written waits written' = IsClosedAfter Memory answer written waits written'
-IsClosed Thread answer written waits written' = IsClosedAfter Thread answer written waits written'
+abbrev pub ClosesRun : RunFault → RunFault → Option (List ℕ) → List ℕ → Option (List ℕ) → Type 0
+ClosesRun Read answer written waits written' = ClosesAfter Read answer written waits written'
+ClosesRun Write answer written waits written' =
+    (answer ≡ Write) × HasTaken written written' [] []
+ClosesRun Limit answer written waits written' = ClosesAfter Limit answer written waits written'
+ClosesRun Memory answer written waits written' = ClosesAfter Memory answer written waits written'
+ClosesRun Thread answer written waits written' = ClosesAfter Thread answer written waits written'
 
 -- a run by this seat: the changes that the seat made are those that the replies tell, and `untold`
 pub record TellsMade (result : Result (Unit {0}) RunFault) (old new : OwnToken)
@@ -106,9 +107,9 @@ pub record TellsMade (result : Result (Unit {0}) RunFault) (old new : OwnToken)
   pub replies : List Response
   pub untold : List Applied
   pub rest : List ℕ
-  pub made : HasMade old new (changes_told replies ++ untold)
-  pub took : Takes written written' (replies_text replies) rest
-  pub leaves : Leaves result untold rest
+  pub made : MakesMore old new (changes_told replies ++ untold)
+  pub took : HasTaken written written' (replies_text replies) rest
+  pub leaves : LeavesUntold result untold rest
 
 -- a run tells all changes of the server over this volume, which made so many and left that volume
 pub record TellsRetired (start volume : State) (changes : ℕ)

@@ -21,7 +21,7 @@ use std::thread::Threads;
 
 /// The reads of one slot in a batch, and the answers to those that were carried out.
 #[derive(Drop)]
-pub struct Turn<'a, N: Named, G> {
+pub struct SlotReads<'a, N: Named, G> {
     server: &'a Server<N>,
     gate: &'a G,
     reader: OwnReader<N>,
@@ -31,7 +31,7 @@ pub struct Turn<'a, N: Named, G> {
     told: usize,
 }
 
-impl<'a, N: Named, G: Gate> Task for Turn<'a, N, G> {
+impl<'a, N: Named, G: Gate> Task for SlotReads<'a, N, G> {
     fn slot(&self) -> u64 {
         self.slot
     }
@@ -50,7 +50,7 @@ impl<'a, N: Named, G: Gate> Task for Turn<'a, N, G> {
     }
 }
 
-impl<'a, N: Named, G> Turn<'a, N, G> {
+impl<'a, N: Named, G> SlotReads<'a, N, G> {
     // The reply to the next of its reads. Refused: `NoMemory` where that read was not carried out.
     fn next(&mut self) -> Result<Response, Refusal>
         ensures none { IfOk result (λ r. change_told (response_of r) ≡ []) }
@@ -83,7 +83,7 @@ pub fn read_beside<
     alloc: Global,
     server: &'s Server<N>,
     gate: &'s G,
-    workers: &mut Workers<'s, E, R, Turn<'s, N, G>>,
+    workers: &mut Workers<'s, E, R, SlotReads<'s, N, G>>,
     readers: &mut Readers<N>,
     slots: &[u64],
     out: &mut Vec<u8>,
@@ -91,14 +91,14 @@ pub fn read_beside<
     ensures ok { OnOk result (AppendsReads out.old.items out.new.items) }
     ensures err { OnErr result (HasPrefix out.new.items out.old.items) }
 {
-    let turns = turns_of(alloc, server, gate, readers, slots)?;
-    // For the proof: what a turn holds may cross threads.
+    let batch = batch_of(alloc, server, gate, readers, slots)?;
+    // For the proof: what these reads hold may cross threads.
     servers_may_be_shared::<N>();
     sends::<Read>();
-    let mut turns = workers.do_all(turns)?;
-    let told = put_replies(&mut turns, slots, out);
-    for turn in turns {
-        readers.put(turn.reader);
+    let mut batch = workers.do_all(batch)?;
+    let told = put_replies(&mut batch, slots, out);
+    for reads in batch {
+        readers.put(reads.reader);
     }
     told
 }
@@ -110,7 +110,7 @@ fn sends<T: Send>()
 
 // Appends the reply to each read to `out`.
 fn put_replies<N: Named, G>(
-    turns: &mut [Turn<'_, N, G>],
+    batch: &mut [SlotReads<'_, N, G>],
     slots: &[u64],
     out: &mut Vec<u8>,
 ) -> Result<(), Refusal>
@@ -118,50 +118,50 @@ fn put_replies<N: Named, G>(
     ensures err { OnErr result (HasPrefix out.new.items out.old.items) }
 {
     for slot in slots {
-        let response = read_in(turns, *slot)?;
+        let response = read_in(batch, *slot)?;
         put_reply(out, &response)?;
     }
     Ok(())
 }
 
 // The reply to the next read of a slot. Refused: `NoMemory` where that read was not carried out.
-fn read_in<N: Named, G>(turns: &mut [Turn<'_, N, G>], slot: u64) -> Result<Response, Refusal>
+fn read_in<N: Named, G>(batch: &mut [SlotReads<'_, N, G>], slot: u64) -> Result<Response, Refusal>
     ensures none { IfOk result (λ r. change_told (response_of r) ≡ []) }
 {
-    match turn_of(turns, slot) {
-        Some(turn) => turn.next(),
+    match reads_at(batch, slot) {
+        Some(reads) => reads.next(),
         None => Ok(Response::Refused(Refusal::NotOpen)),
     }
 }
 
-// The turn of a slot.
-fn turn_of<'t, 'a, N: Named, G>(
-    turns: &'t mut [Turn<'a, N, G>],
+// The reads of a slot.
+fn reads_at<'t, 'a, N: Named, G>(
+    batch: &'t mut [SlotReads<'a, N, G>],
     slot: u64,
-) -> Option<&'t mut Turn<'a, N, G>> {
-    for turn in turns {
-        if turn.slot == slot {
-            return Some(turn);
+) -> Option<&'t mut SlotReads<'a, N, G>> {
+    for reads in batch {
+        if reads.slot == slot {
+            return Some(reads);
         }
     }
     None
 }
 
-// A turn for each slot that is named and has a reader, which is taken out of its place.
-fn turns_of<'a, N: Named, G: Gate>(
+// The reads of each slot that is named and has a reader, which is taken out of its place.
+fn batch_of<'a, N: Named, G: Gate>(
     alloc: Global,
     server: &'a Server<N>,
     gate: &'a G,
     readers: &mut Readers<N>,
     slots: &[u64],
-) -> Result<Vec<Turn<'a, N, G>>, Refusal> {
-    let mut turns = Vec::new(alloc);
+) -> Result<Vec<SlotReads<'a, N, G>>, Refusal> {
+    let mut batch = Vec::new(alloc);
     for slot in slots {
         let Ok(reader) = readers.take(*slot) else {
             continue;
         };
         let reads = count_of(slots, *slot);
-        turns.push(Turn {
+        batch.push(SlotReads {
             server,
             gate,
             reader,
@@ -171,7 +171,7 @@ fn turns_of<'a, N: Named, G: Gate>(
             told: 0,
         })?;
     }
-    Ok(turns)
+    Ok(batch)
 }
 
 // How many of these reads are of a slot.

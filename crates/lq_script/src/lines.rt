@@ -1,12 +1,11 @@
 //! The whole lines of an input, a piece at a time.
 ghost use Rattle.std.specs.Prelude.{◌≢◌, IfErr};
 
-use lq_script_lines::{Failed, Intake, Responder, RunFault, Sink, Source, take_piece, write_all};
+use lq_script_lines::{
+    BLOCK, Failed, Intake, Responder, RunFault, Sink, Source, take_piece, write_all,
+};
 use lq_value::Refusal;
 use std::alloc::Global;
-
-/// The bytes that one read asks for.
-const BLOCK: usize = 65_536;
 
 /// Cuts each piece of the input into the lines that end in it.
 #[derive(Drop)]

@@ -2,14 +2,14 @@
 ghost use Rattle.std.specs.Prelude.{◌≡◌, ◌⊎◌, ◌+◌, ◌<◌, [], ◌++◌, length, IfErr, OnErr, OnOk, true};
 ghost use Rattle.lq_script_desk.specs.Answer.{response_of};
 ghost use Rattle.lq_script_desk.specs.Reply.{reply_text};
-ghost use Rattle.lq_script.specs.Changes.{Takes};
-ghost use Rattle.lq_script.specs.Progress.{Carries, IsClosed, IsPut, standing};
+ghost use Rattle.lq_script.specs.Changes.{HasTaken};
+ghost use Rattle.lq_script.specs.Progress.{Carries, ClosesRun, PutsText, seat_standing};
 
 use crate::gate::Gate;
 use crate::server_session::ServerSession;
 use crate::tokens::OwnSeat;
 use lq_script_desk::{Response, put_reply};
-use lq_script_lines::{Failed, RunFault, Sink, write_all};
+use lq_script_lines::{Failed, GATHERED, LF, RunFault, Sink, write_replies};
 use lq_script_request::{Event, Question, Scratch, question_in};
 use lq_server::Named;
 use lq_value::Refusal;
@@ -18,13 +18,8 @@ use std::alloc::Global;
 use std::sync::Wait;
 use std::thread::Threads;
 
-/// The bytes of replies from which on they are written.
-const GATHERED: usize = 65_536;
-
 /// The most reads of a batch.
 const MAX_READS: usize = 1_024;
-
-const LF: u8 = 10;
 
 /// Carries out the lines that `Lines` gives, and writes the reply to each.
 #[derive(Drop)]
@@ -76,9 +71,9 @@ impl<
         ensures cause { IfErr result (λ e. e ≡ RunFault.Write →
             (W.failed self.new.writer.now ≡ true) ⊎ (W.stalled self.new.writer.now ≡ true)) }
         ensures carried { Carries result
-            (standing self.old.session.seat
+            (seat_standing self.old.session.seat
             (W.written self.old.writer.now) self.old.replies.items)
-            (standing self.new.session.seat
+            (seat_standing self.new.session.seat
             (W.written self.new.writer.now) self.new.replies.items) }
         ensures empty { OnOk result (self.new.replies.items ≡ []) }
     {
@@ -98,7 +93,7 @@ impl<
             (W.failed self.new.writer.now ≡ true) ⊎ (W.stalled self.new.writer.now ≡ true)) }
         ensures seat { self.new.session.seat ≡ self.old.session.seat }
         ensures replies { self.new.replies.items ≡ self.old.replies.items }
-        ensures bytes { Takes (W.written self.old.writer.now) (W.written self.new.writer.now)
+        ensures bytes { HasTaken (W.written self.old.writer.now) (W.written self.new.writer.now)
             [] [] }
         ensures fault { IfErr result (λ e. e ≡ RunFault.Write) }
     {
@@ -143,7 +138,7 @@ impl<
             → result ≡ RunFault.Write → (W.failed self.new.writer.now ≡ true)
             ⊎ (W.stalled self.new.writer.now ≡ true) }
         ensures seat { self.new.session.seat ≡ self.old.session.seat }
-        ensures closed { IsClosed fault result (W.written self.old.writer.now)
+        ensures closed { ClosesRun fault result (W.written self.old.writer.now)
             self.old.replies.items (W.written self.new.writer.now) }
     {
         if let RunFault::Write = fault {
@@ -162,9 +157,9 @@ impl<
         ensures cause { IfErr result (λ e. e ≡ RunFault.Write →
             (W.failed self.new.writer.now ≡ true) ⊎ (W.stalled self.new.writer.now ≡ true)) }
         ensures carried { Carries result
-            (standing self.old.session.seat
+            (seat_standing self.old.session.seat
             (W.written self.old.writer.now) self.old.replies.items)
-            (standing self.new.session.seat
+            (seat_standing self.new.session.seat
             (W.written self.new.writer.now) self.new.replies.items) }
     {
         match asked_by(self.alloc, &mut self.scratch, line) {
@@ -182,9 +177,9 @@ impl<
         ensures cause { IfErr result (λ e. e ≡ RunFault.Write →
             (W.failed self.new.writer.now ≡ true) ⊎ (W.stalled self.new.writer.now ≡ true)) }
         ensures carried { Carries result
-            (standing self.old.session.seat
+            (seat_standing self.old.session.seat
             (W.written self.old.writer.now) self.old.replies.items)
-            (standing self.new.session.seat
+            (seat_standing self.new.session.seat
             (W.written self.new.writer.now) self.new.replies.items) }
     {
         if let Some(slot) = slot_of_read(question) {
@@ -203,9 +198,9 @@ impl<
         ensures cause { IfErr result (λ e. e ≡ RunFault.Write →
             (W.failed self.new.writer.now ≡ true) ⊎ (W.stalled self.new.writer.now ≡ true)) }
         ensures carried { Carries result
-            (standing self.old.session.seat
+            (seat_standing self.old.session.seat
             (W.written self.old.writer.now) self.old.replies.items)
-            (standing self.new.session.seat
+            (seat_standing self.new.session.seat
             (W.written self.new.writer.now) self.new.replies.items) }
     {
         if self.slots.push(slot).is_err() {
@@ -223,9 +218,9 @@ impl<
         ensures cause { IfErr result (λ e. e ≡ RunFault.Write →
             (W.failed self.new.writer.now ≡ true) ⊎ (W.stalled self.new.writer.now ≡ true)) }
         ensures carried { Carries result
-            (standing self.old.session.seat
+            (seat_standing self.old.session.seat
             (W.written self.old.writer.now) self.old.replies.items)
-            (standing self.new.session.seat
+            (seat_standing self.new.session.seat
             (W.written self.new.writer.now) self.new.replies.items) }
     {
         if self.slots.is_empty() {
@@ -245,7 +240,7 @@ impl<
         ensures cause { IfErr result (λ e. e ≡ RunFault.Write →
             (W.failed self.new.writer.now ≡ true) ⊎ (W.stalled self.new.writer.now ≡ true)) }
         ensures seat { self.new.session.seat ≡ self.old.session.seat }
-        ensures put { IsPut result (W.written self.old.writer.now) self.old.replies.items
+        ensures put { PutsText result (W.written self.old.writer.now) self.old.replies.items
             (W.written self.new.writer.now) self.new.replies.items
             (reply_text (response_of response.now)) }
     {
@@ -263,18 +258,13 @@ impl<
         ensures cause { IfErr result (λ e. e ≡ RunFault.Write →
             (W.failed self.new.writer.now ≡ true) ⊎ (W.stalled self.new.writer.now ≡ true)) }
         ensures seat { self.new.session.seat ≡ self.old.session.seat }
-        ensures put { IsPut result (W.written self.old.writer.now) self.old.replies.items
+        ensures put { PutsText result (W.written self.old.writer.now) self.old.replies.items
             (W.written self.new.writer.now) self.new.replies.items
             [] }
         ensures empty { self.new.replies.items ≡ [] }
         ensures fault { IfErr result (λ e. e ≡ RunFault.Write) }
     {
-        let written = write_all(self.writer, &self.replies);
-        self.replies.clear();
-        match written {
-            Ok(()) => Ok(()),
-            Err(Failed) => Err(RunFault::Write),
-        }
+        write_replies(&mut self.replies, self.writer)
     }
 }
 

@@ -2,9 +2,9 @@
 ghost use Rattle.std.specs.Prelude.{◌≡◌, [], IfOk, OnOk, OnErr};
 ghost use Rattle.lq_script_desk.specs.Answer.{response_of};
 ghost use Rattle.lq_script.specs.Changes.{change_told};
-ghost use Rattle.lq_script.specs.Progress.{AppendsReads, HasMade};
+ghost use Rattle.lq_script.specs.Progress.{AppendsReads, MakesMore};
 
-use crate::batch::{Turn, read_beside};
+use crate::batch::{SlotReads, read_beside};
 use crate::gate::Gate;
 use crate::readers::Readers;
 use crate::tokens::OwnSeat;
@@ -27,7 +27,7 @@ pub struct ServerSession<'s, E: 's, N: Named, R, G> {
     gate: &'s G,
     seat: OwnSeat<N>,
     readers: Readers<N>,
-    workers: Workers<'s, E, R, Turn<'s, N, G>>,
+    workers: Workers<'s, E, R, SlotReads<'s, N, G>>,
 }
 
 impl<
@@ -45,7 +45,7 @@ impl<
         server: &'s Server<N>,
         gate: &'s G,
         readers: Readers<N>,
-        workers: Workers<'s, E, R, Turn<'s, N, G>>,
+        workers: Workers<'s, E, R, SlotReads<'s, N, G>>,
     ) -> ServerSession<'s, E, N, R, G>
         ensures seat { result.seat ≡ seat }
     {
@@ -112,8 +112,8 @@ impl<
     /// session is of no more use.
     pub fn answer(&mut self, question: &Question) -> Result<Response, Refusal>
         ensures made { IfOk result (λ r.
-            HasMade self.old.seat self.new.seat (change_told (response_of r))) }
-        ensures err { OnErr result (HasMade self.old.seat self.new.seat []) }
+            MakesMore self.old.seat self.new.seat (change_told (response_of r))) }
+        ensures err { OnErr result (MakesMore self.old.seat self.new.seat []) }
     {
         match question {
             Question::Event(event) => self.event(event),
@@ -126,8 +126,8 @@ impl<
 
     fn event(&mut self, event: &Event) -> Result<Response, Refusal>
         ensures made { IfOk result (λ r.
-            HasMade self.old.seat self.new.seat (change_told (response_of r))) }
-        ensures err { OnErr result (HasMade self.old.seat self.new.seat []) }
+            MakesMore self.old.seat self.new.seat (change_told (response_of r))) }
+        ensures err { OnErr result (MakesMore self.old.seat self.new.seat []) }
     {
         match event {
             Event::Change(change) => self.seat.change(self.rt, self.server, change),
@@ -152,7 +152,7 @@ impl<
         backlog: u64,
         moved: bool,
     ) -> Result<Response, Refusal>
-        ensures made { HasMade self.old.seat self.new.seat [] }
+        ensures made { MakesMore self.old.seat self.new.seat [] }
         ensures none { IfOk result (λ r. change_told (response_of r) ≡ []) }
     {
         let reader = self

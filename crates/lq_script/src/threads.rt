@@ -50,7 +50,7 @@ pub fn run_threads<T: Threads + Wait + Sync, R: Source, W: Sink, G: Gate + Sync>
 
 // How a run ended, and what its server left.
 #[derive(Drop)]
-struct Served {
+struct RetiredRun {
     ran: Result<(), RunFault>,
     retired: Retired,
 }
@@ -63,7 +63,7 @@ fn serve<N: Named + Send + Sync, T: Threads + Wait + Sync, R: Source, W: Sink, G
     reader: &mut R,
     writer: &mut W,
     gate: &G,
-) -> Served
+) -> RetiredRun
     requires base { (N.board ≡ counted_board base.board) × (base.volume ≡ N.start) }
     ensures changes { TellsRetired N.start result.retired.volume result.retired.changes
         result.ran (W.written writer.old) (W.written writer.new) }
@@ -74,11 +74,11 @@ fn serve<N: Named + Send + Sync, T: Threads + Wait + Sync, R: Source, W: Sink, G
     let Ok(seat) = OwnSeat::new(rt, &server, &mut head) else {
         let ran = Err(out_of_memory(writer));
         let left = server.retire(rt, head);
-        return Served { ran, retired: left };
+        return RetiredRun { ran, retired: left };
     };
     let (ran, seat) = serve_over(rt, alloc, &server, seat, reader, writer, gate);
     let retired = seat.retire(rt, server, head);
-    Served { ran, retired }
+    RetiredRun { ran, retired }
 }
 
 // Carries out a script at a server. Each of its threads has ended when it answers.
@@ -96,9 +96,9 @@ fn serve_over<N: Named + Send + Sync, T: Threads + Wait + Sync, R: Source, W: Si
     ensures cause { IfErr result.0 (λ e. e ≡ RunFault.Write →
         (W.failed writer.new ≡ true) ⊎ (W.stalled writer.new ≡ true)) }
 {
-    let held = serve_within(rt, alloc, server, seat, reader, writer, gate);
+    let ended = serve_within(rt, alloc, server, seat, reader, writer, gate);
     // The loan of the writer ends.
-    let Held { ran, seat, writer } = held;
+    let EndedRun { ran, seat, writer } = ended;
     let _ = writer;
     (ran, seat)
 }
@@ -112,7 +112,7 @@ struct Streams<'w, R, W> {
 
 // How a run ended, with its seat and its writer.
 #[derive(Drop)]
-struct Held<'w, N: Named, W> {
+struct EndedRun<'w, N: Named, W> {
     ran: Result<(), RunFault>,
     seat: OwnSeat<N>,
     writer: &'w mut W,
@@ -134,7 +134,7 @@ fn serve_within<
     reader: &'w mut R,
     writer: &'w mut W,
     gate: &G,
-) -> Held<'w, N, W>
+) -> EndedRun<'w, N, W>
     ensures same { result.writer.ghost_name ≡ writer.entry.ghost_name }
     ensures made { TellsMade result.ran seat result.seat
         (W.written writer.old) (W.written result.writer.now) }
@@ -165,7 +165,7 @@ fn serve_in<
     seat: OwnSeat<N>,
     gate: &'s G,
     streams: Streams<'w, R, W>,
-) -> Held<'w, N, W>
+) -> EndedRun<'w, N, W>
     ensures same { result.writer.ghost_name ≡ streams.entry.writer.ghost_name }
     ensures made { TellsMade result.ran seat result.seat
         (W.written streams.entry.writer.now) (W.written result.writer.now) }
@@ -175,18 +175,18 @@ fn serve_in<
     let Streams { reader, writer } = streams;
     let Ok(readers) = Readers::new(alloc) else {
         let ran = Err(out_of_memory(writer));
-        return Held { ran, seat, writer };
+        return EndedRun { ran, seat, writer };
     };
     let Ok(workers) = Workers::new(rt, alloc, scope) else {
         let ran = Err(out_of_memory(writer));
-        return Held { ran, seat, writer };
+        return EndedRun { ran, seat, writer };
     };
     let session = ServerSession::new(rt, alloc, seat, server, gate, readers, workers);
     let mut runner = Runner::new(alloc, session, writer);
     let ran = carry_all(rt, alloc, reader, &mut runner);
     runner.end_threads();
     let (seat, writer) = runner.into_parts();
-    Held { ran, seat, writer }
+    EndedRun { ran, seat, writer }
 }
 
 // Carries out all lines of a reader.

@@ -5,7 +5,7 @@ ghost use Rattle.lq_board.specs.Roll.{numbers};
 ghost use Rattle.lq_server.specs.Retired.{IsRetired};
 ghost use Rattle.lq_script_desk.specs.Answer.{response_of};
 ghost use Rattle.lq_script.specs.Changes.{change_told};
-ghost use Rattle.lq_script.specs.Progress.{HasMade};
+ghost use Rattle.lq_script.specs.Progress.{MakesMore};
 
 use lq_board::Seat;
 use lq_predicate::Predicate;
@@ -82,8 +82,8 @@ impl<N: Named> OwnSeat<N> {
         change: &Change,
     ) -> Result<Response, Refusal>
         ensures made { IfOk result (λ r.
-            HasMade self.old self.new (change_told (response_of r))) }
-        ensures err { OnErr result (HasMade self.old self.new []) }
+            MakesMore self.old self.new (change_told (response_of r))) }
+        ensures err { OnErr result (MakesMore self.old self.new []) }
     {
         let accepted = server.apply(rt, &mut self.seat, change)?;
         let applied = Applied {
@@ -105,7 +105,7 @@ impl<N: Named> OwnSeat<N> {
         backlog: u64,
         moved: bool,
     ) -> Result<OwnReader<N>, Refusal>
-        ensures made { HasMade self.old self.new [] }
+        ensures made { MakesMore self.old self.new [] }
     {
         let reader = server.open(rt, &mut self.seat, predicate, port, backlog, moved)?;
         Ok(OwnReader {
@@ -122,7 +122,7 @@ impl<N: Named> OwnSeat<N> {
         server: &Server<N>,
         predicate: &Predicate,
     ) -> Result<Response, Refusal>
-        ensures made { HasMade self.old self.new [] }
+        ensures made { MakesMore self.old self.new [] }
         ensures none { IfOk result (λ r. change_told (response_of r) ≡ []) }
     {
         let found = server.fetch(rt, &mut self.seat, predicate)?;
@@ -141,7 +141,7 @@ impl<N: Named> OwnSeat<N> {
         dir: u64,
         name: &Name,
     ) -> Result<Response, Refusal>
-        ensures made { HasMade self.old self.new [] }
+        ensures made { MakesMore self.old self.new [] }
         ensures none { IfOk result (λ r. change_told (response_of r) ≡ []) }
     {
         let node = server.find(rt, &mut self.seat, dir, name)?;
@@ -156,7 +156,7 @@ impl<N: Named> OwnSeat<N> {
         server: &Server<N>,
         node: u64,
     ) -> Result<Response, Refusal>
-        ensures made { HasMade self.old self.new [] }
+        ensures made { MakesMore self.old self.new [] }
         ensures none { IfOk result (λ r. change_told (response_of r) ≡ []) }
     {
         let listing = server.listing(rt, &mut self.seat, node)?;

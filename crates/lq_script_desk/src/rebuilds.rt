@@ -5,7 +5,7 @@ ghost use Rattle.lq_value.specs.declared.refusal.Refusal.TheVariants.{NoMemory};
 ghost use Rattle.lq_value.specs.Refusal.{FailsOnlyForMemory};
 ghost use Rattle.lq_desk.specs.Reply.{answer_of};
 ghost use Rattle.lq_script_desk.specs.Folds.{ResultRises, after_message, fold_at, folds_after, no_folds, with_fold};
-ghost use Rattle.lq_script_desk.specs.Turned.{Follow};
+ghost use Rattle.lq_script_desk.specs.Turned.{Follow, folded_slot};
 
 use lq_desk::{Read, Reply, SLOTS};
 use lq_update::{IndexedRebuild, Message};
@@ -27,7 +27,7 @@ pub fn no_rebuilds(alloc: Global) -> Result<Vec<Option<IndexedRebuild>>, Refusal
 /// Updates the results by the reply to an event of a slot: starts one for an opening, folds an
 /// update that was read into it, and drops it when the slot is freed.
 ///
-/// Refused: `NoMemory`.
+/// Refused: `NoMemory`; the results are then unchanged.
 pub fn fold_reply(
     alloc: Global,
     rebuilds: &mut Vec<Option<IndexedRebuild>>,
@@ -37,6 +37,7 @@ pub fn fold_reply(
     requires rises { ResultRises (answer_of reply.now) }
     ensures ok { OnOk result (rebuilds.new.items
         ≡ folds_after slot (answer_of reply.now) rebuilds.old.items) }
+    ensures err { OnErr result (rebuilds.new.items ≡ rebuilds.old.items) }
     ensures memory { IfErr result (λ e. e ≡ NoMemory) }
 {
     match reply {
@@ -70,28 +71,18 @@ pub fn follow(alloc: Global, rebuilds: &mut Vec<Option<IndexedRebuild>>, slot: u
     requires rises { ResultRises (answer_of reply.now) }
     ensures { Follow slot (answer_of reply.now) rebuilds.old.items rebuilds.new.items }
 {
+    if fold_reply(alloc, rebuilds, slot, reply).is_err() {
+        put(rebuilds, folded_slot(slot, reply), None);
+    }
+}
+
+// The slot whose result a reply updates: the one that it opened, else the event's own.
+fn folded_slot(slot: u64, reply: &Reply) -> u64
+    ensures { result ≡ folded_slot slot (answer_of reply.now) }
+{
     match reply {
-        Reply::Opened {
-            slot: opened,
-            at,
-            result: entries,
-        } => {
-            let rebuild = IndexedRebuild::new(alloc, *at, entries).ok();
-            put(rebuilds, *opened, rebuild);
-        }
-        Reply::Took(Read::Update(message)) => {
-            if fold_message_at(rebuilds, slot, message).is_err() {
-                put(rebuilds, slot, None);
-            }
-        }
-        Reply::Finished => put(rebuilds, slot, None),
-        Reply::Changed(_)
-        | Reply::Moved(_)
-        | Reply::Took(Read::Fin(_) | Read::Empty | Read::Ended)
-        | Reply::Asked
-        | Reply::Noticed(_)
-        | Reply::Shut(_)
-        | Reply::Refused(_) => {}
+        Reply::Opened { slot: opened, .. } => *opened,
+        _ => slot,
     }
 }
 

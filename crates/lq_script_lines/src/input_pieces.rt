@@ -13,9 +13,10 @@ use crate::writing::{write_and_flush, write_replies};
 use memchr::memchr;
 
 /// Replies are written once they have this many bytes.
-const GATHERED: usize = 65536;
+pub const GATHERED: usize = 65536;
 
-const LF: u8 = 10;
+/// What ends a line.
+pub const LF: u8 = 10;
 
 /// Answers the line that these bytes and an LF end, and writes the replies if many wait.
 fn end_line<S: Responder, W: Sink>(

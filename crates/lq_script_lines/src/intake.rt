@@ -158,7 +158,7 @@ fn answer_line<S: Responder>(
 }
 
 /// The line without a single CR at its end.
-fn cut_cr(line: &[u8]) -> &[u8]
+pub fn cut_cr(line: &[u8]) -> &[u8]
     ensures { result.now ≡ without_cr line.now }
 {
     let count = line.len();

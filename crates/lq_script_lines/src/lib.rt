@@ -18,9 +18,9 @@ mod writing;
 
 pub use command_line::{Subcommand, WordsFault, subcommand_of};
 pub use devices::{Client, Failed, Host, Sink, Source};
-pub use input_pieces::take_piece;
-pub use intake::Intake;
+pub use input_pieces::{GATHERED, LF, take_piece};
+pub use intake::{Intake, MAX_LINE, cut_cr};
 pub use responder::Responder;
 pub use run_fault::RunFault;
-pub use script_run::run_lines;
-pub use writing::{out_of_memory, write_all};
+pub use script_run::{BLOCK, run_lines};
+pub use writing::{out_of_memory, write_all, write_replies};

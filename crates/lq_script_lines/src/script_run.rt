@@ -13,7 +13,7 @@ use crate::writing::{write_and_flush, write_replies};
 use std::alloc::Global;
 
 /// The number of bytes that one read asks for.
-const BLOCK: usize = 65536;
+pub const BLOCK: usize = 65536;
 
 /// Takes a piece of the input. After a fault that isn't the writer's, writes the waiting replies
 /// and flushes once.

@@ -13,7 +13,7 @@ returns-in-Ok-Run g c =
     record {
       outcome = after_run (texts_of c.args.words.now) c.run_script.result _
           (subst (IsAskedBy (texts_of c.args.words.now)) c.in-Ok-Run.field-0-is
-              c.in-Ok-Run.ensures.ok)
+          c.in-Ok-Run.ensures.ok)
           (record { done = said.done; stopped = said.stopped; never_refused = said.status })
           said.quiet said.flushed (λ one. let fault = said.fault one in record {
             fault = fault.0;

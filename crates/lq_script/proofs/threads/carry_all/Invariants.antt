@@ -1,5 +1,5 @@
 use Rattle.std.proofs.Common.{◌≡◌, [], Ok}
-use Rattle.lq_script.specs.Progress.{Carries, standing}
+use Rattle.lq_script.specs.Progress.{Carries, seat_standing}
 use Rattle.lq_script.proofs.threads.carry_all.Given as goal
 
 abbrev pub invariant-loop : goal.invariant-loop
@@ -9,8 +9,8 @@ invariant-loop g l = record {
   same : l.runner.writer.ghost_name ≡ l.fn.runner.writer.ghost_name;
   empty : l.runner.replies.items ≡ [];
   carried : Carries (Ok tt)
-      (standing l.fn.runner.session.seat (g.W.Sink.written l.fn.runner.writer.now)
+      (seat_standing l.fn.runner.session.seat (g.W.Sink.written l.fn.runner.writer.now)
       l.fn.runner.replies.items)
-      (standing l.runner.session.seat (g.W.Sink.written l.runner.writer.now)
+      (seat_standing l.runner.session.seat (g.W.Sink.written l.runner.writer.now)
       l.runner.replies.items);
 }

@@ -42,7 +42,7 @@ returns-then-eq-3-clause-ok c =
     let stray = sym c.has_stray_dashes.ensures ∙ c.if-has_stray_dashes.false in
     threads_named words stray read.0 _ _ (read.1 ∙ ap read_of c.in-Some.is)
     ((bytes_eq-Decides c.in-Some.name.now (codes "threads")).0
-        (sym c.eq-3.ensures ∙ c.if-eq-3.true))
+    (sym c.eq-3.ensures ∙ c.if-eq-3.true))
 
 pub returns-in-Some-get_str-clause-ok : goal.returns-in-Some-get_str-clause-ok
 returns-in-Some-get_str-clause-ok c =

@@ -86,7 +86,7 @@ returns-in_err-end_line g c =
             halts_same g.S.Responder.rules began _ _ _ _ _
             (halted_at g.S.Responder.rules began given c.args.piece.now c.loop-at.at _ _ _ _
             c.loop-at-test.true (c.loop-at.invariant.stands began given s))
-                (ap g.W.Sink.written same.0) same.1;
+            (ap g.W.Sink.written same.0) same.1;
         memory_works = λ h. let same = c.in_err-end_line.ensures.memory (sym is ∙ h) in (
           ap g.W.Sink.failed same.0 ∙ c.loop-at.invariant.works.0,
           ap g.W.Sink.stalled same.0 ∙ c.loop-at.invariant.works.1,

@@ -1,25 +1,9 @@
-use Rattle.std.proofs.Common.{◌∙◌, ℕ, ℤ, List, sym, ap, to_z-of_z}
-use Rattle.lq_value.specs.declared.refusal.Refusal.TheVariants.{NotUtf8}
+use Rattle.std.proofs.Common.{ℤ, sym, ap, to_z-of_z}
 use Rattle.lq_value.specs.declared.value.Value.TheVariants.{Int64}
-use Rattle.lq_script_request.specs.Request.{asks_set, given_number, question_for}
-use Rattle.lq_embed.proofs.CallLemmas.{changes-as, changes-barred, if-not_utf8, if-utf8}
+use Rattle.lq_embed.specs.Questions.{set_question}
+use Rattle.lq_embed.proofs.CallLemmas.{changes-as}
 use Rattle.lq_embed.proofs.embedded.Embedded.set_int64.Goals as goal
 
-pub returns-in_default : goal.returns-in_default
-returns-in_default c = changes-barred NotUtf8
-    (if-not_utf8 c.args.attr.now _ _ c.in_default.ensures.cases.0) c.status.ensures
-
 pub returns : goal.returns
-returns c =
-    let text = c.in-Ok.ensures.cases in
-    changes-as (if-utf8 c.args.attr.now _ _ text.1
-    ∙ ap (λ (attr : List ℕ). question_for (asks_set c.args.node attr
-    (given_number (Int64 c.args.value)))) (sym text.0)
-    ∙ ap (λ (n : ℤ). question_for (asks_set c.args.node c.in-Ok.attr.now (given_number (Int64 n))))
-    (sym (to_z-of_z c.ranges.value))) (record {
-      answer = _;
-      asks = c.answer_request.ensures.asks;
-      code = c.applied.ensures.status;
-      out = c.applied.ensures.out;
-      beside = c.answer_request.ensures.beside;
-    })
+returns c = changes-as (ap (λ (n : ℤ). set_question c.args.node c.args.attr.now (Int64 n))
+    (sym (to_z-of_z c.ranges.value))) c.set_attr.ensures

@@ -1,5 +1,5 @@
 use Rattle.std.proofs.Common.{◌≡◌, ◌≤◌, length, Ok}
-use Rattle.lq_script.specs.Progress.{Carries, standing}
+use Rattle.lq_script.specs.Progress.{Carries, seat_standing}
 use Rattle.lq_script.proofs.runner.Runner.answer_lines.Given as goal
 
 abbrev pub invariant-loop-count : goal.invariant-loop-count
@@ -7,9 +7,9 @@ invariant-loop-count g l = record {
   within : length l.rest ≤ length l.lines;
   same : l.self.writer.ghost_name ≡ l.fn.self.writer.ghost_name;
   carried : Carries (Ok tt)
-      (standing l.fn.self.session.seat (g.W.Sink.written l.fn.self.writer.now)
+      (seat_standing l.fn.self.session.seat (g.W.Sink.written l.fn.self.writer.now)
       l.fn.self.replies.items)
-      (standing l.self.session.seat (g.W.Sink.written l.self.writer.now) l.self.replies.items);
+      (seat_standing l.self.session.seat (g.W.Sink.written l.self.writer.now) l.self.replies.items);
 }
 
 abbrev pub decreases-loop-count : goal.decreases-loop-count

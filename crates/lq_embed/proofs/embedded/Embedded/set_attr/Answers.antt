@@ -1,9 +1,9 @@
 use Rattle.std.proofs.Common.{◌∙◌, ℕ, List, sym, ap}
 use Rattle.lq_value.specs.declared.refusal.Refusal.TheVariants.{NotUtf8}
-use Rattle.lq_value.specs.declared.value.Value.TheVariants.{UInt32}
-use Rattle.lq_script_request.specs.Request.{asks_set, given_number, question_for}
+use Rattle.lq_script_request.specs.Asked.{given}
+use Rattle.lq_script_request.specs.Request.{asks_set, question_for}
 use Rattle.lq_embed.proofs.CallLemmas.{changes-as, changes-barred, if-not_utf8, if-utf8}
-use Rattle.lq_embed.proofs.embedded.Embedded.set_uint32.Goals as goal
+use Rattle.lq_embed.proofs.embedded.Embedded.set_attr.Goals as goal
 
 pub returns-in_default : goal.returns-in_default
 returns-in_default c = changes-barred NotUtf8
@@ -13,11 +13,11 @@ pub returns : goal.returns
 returns c =
     let text = c.in-Ok.ensures.cases in
     changes-as (if-utf8 c.args.attr.now _ _ text.1
-    ∙ ap (λ (attr : List ℕ). question_for (asks_set c.args.node attr
-    (given_number (UInt32 c.args.value)))) (sym text.0)) (record {
+    ∙ ap (λ (attr : List ℕ). question_for (asks_set c.args.node attr (given c.args.value)))
+    (sym text.0)) (record {
       answer = _;
-      asks = c.answer_request.ensures.asks;
+      asks = c.answer_request-reply.ensures.asks;
       code = c.applied.ensures.status;
       out = c.applied.ensures.out;
-      beside = c.answer_request.ensures.beside;
+      beside = c.answer_request-reply.ensures.beside;
     })
