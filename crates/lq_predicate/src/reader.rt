@@ -1,8 +1,13 @@
 //! Reads a formula.
-ghost use Rattle.std.specs.Prelude.{IfOk, IfErr, IsTrue};
+ghost use Rattle.std.specs.Prelude.{◌≤◌, List, IfOk, IfErr, IsTrue, OnOk, length};
+ghost use Rattle.std.specs.Str.{IsUtf8};
 ghost use Rattle.lq_predicate_formula.specs.Faults.{Reads};
 ghost use Rattle.lq_predicate_formula.specs.Limits.{IsProper};
 ghost use Rattle.lq_predicate_formula.specs.PredicateLimits.{is_predicate};
+ghost use Rattle.lq_predicate_formula.specs.Query.{Query};
+ghost use Rattle.lq_predicate_formula.specs.Tokens.{HasTokens, Placed as TokenAt, bare};
+ghost use Rattle.lq_predicate_formula.specs.Words.{WordsAre};
+ghost use Rattle.lq_predicate.specs.Building.{IsWholeOf};
 ghost use Rattle.lq_predicate.specs.Refusals.{IsFaultOf, IsRefusalOf};
 
 use crate::machine::new_frames;
@@ -13,7 +18,7 @@ use crate::stop::Stop;
 use crate::trees::Trees;
 use lq_predicate_formula::{Tree, one_reading, read_is_good};
 use lq_value::Refusal;
-use std::alloc::Global;
+use std::alloc::{AllocError, Global};
 
 /// The most bytes of a formula, and of a predicate's canonical text.
 const MOST_BYTES: usize = 4096;
@@ -52,11 +57,23 @@ fn read_tree(alloc: Global, formula: &str) -> Result<Tree, Refusal>
         return Err(Refusal::BadQuery { place });
     }
     // The formula has no fault, so only memory can be wanting.
-    let mut frames = new_frames::<Trees>();
-    match read_text(&Trees { alloc }, &mut frames, formula) {
+    match build_tree(alloc, formula) {
         Ok(tree) => Ok(tree),
         Err(_) => Err(Refusal::NoMemory),
     }
+}
+
+// The query of a formula that isn't too long, as a tree. It stands apart, since its frames take
+// time that a formula with a fault doesn't need.
+#[inline(never)]
+fn build_tree(alloc: Global, formula: &str) -> Result<Tree, Stop<u64, AllocError>>
+    requires short { length formula.now ≤ 4096 }
+    ensures whole { IsWholeOf (λ (q : Query). q) formula.now result }
+    ensures texts { OnOk result
+        ((ts : List TokenAt) × HasTokens 0 formula.now ts × WordsAre IsUtf8 (bare ts)) }
+{
+    let mut frames = new_frames::<Trees>();
+    read_text(&Trees { alloc }, &mut frames, formula)
 }
 
 // The byte offset of a formula's leftmost fault; none where the formula reads as a query. It takes
