@@ -4,7 +4,7 @@ use Rattle.lq_value.specs.declared.refusal.Refusal.{Refusal}
 use Rattle.lq_predicate.specs.Stacked.{Stacked}
 use Rattle.lq_embed.specs.declared.out_structs.RowOut.{RowOut}
 use Rattle.lq_embed.specs.Calls.{GivesRow, Pushes}
-use Rattle.lq_embed.specs.Rows.{Takes}
+use Rattle.lq_embed.specs.Rows.{TakesRows}
 use Rattle.lq_embed.specs.SessionState.{SessionState}
 
 -- ---- results
@@ -26,7 +26,7 @@ is_latest made number = nat_lt 0 number && number == made
 abbrev pub TakesOf : Bool → SessionState → SessionState → ℕ → List RowOut → List RowOut → ℕ
     → ℕ → Type 0
 TakesOf true old new status before after got_before got =
-    (status ≡ 0) × Takes old new got before after
+    (status ≡ 0) × TakesRows old new got before after
 TakesOf false old new status before after got_before got =
     (status ≡ 40) × (new ≡ old) × (after ≡ before) × (got ≡ got_before)
 

@@ -5,7 +5,7 @@ use Rattle.lq_volume.specs.State as volume
 use Rattle.lq_embed.specs.declared.out_structs.RowOut.{RowOut}
 use Rattle.lq_embed.specs.Calls.{GivesRow}
 use Rattle.lq_embed.specs.Outs.{row_after}
-use Rattle.lq_embed.specs.Rows.{Takes, rows_after}
+use Rattle.lq_embed.specs.Rows.{TakesRows, rows_after}
 use Rattle.lq_embed.specs.SessionState.{SessionState, volume_in, with_entries}
 
 -- what is left after one more of a list that isn't at its end
@@ -97,7 +97,7 @@ given-next {first = first} {now = now} {new = new} {i = i} {before = before} {pl
 -- where no place is left
 pub given-full : {first now : SessionState} {i got : ℕ} {before places : List RowOut}
     → AreGiven first now i before places → i ≡ length before → got ≡ i
-    → Takes first now got before places
+    → TakesRows first now got before places
 given-full {first = first} {i = i} {before = before} was all count = record {
   count = omega (arith, was.within, all, count);
   rows = was.rows ∙ rows-full (volume_in first) i first.entries before (omega (arith, all));

@@ -14,7 +14,7 @@ rows_after s (entry ∷ entries) (row ∷ rows) =
     row_after s entry row ∷ rows_after s entries rows
 
 -- the next entries of a result are given, to each place one
-pub record Takes (old new : SessionState) (got : ℕ) (before after : List RowOut) : Type 0 where
+pub record TakesRows (old new : SessionState) (got : ℕ) (before after : List RowOut) : Type 0 where
   pub count : got ≡ min (length before) (length old.entries)
   pub rows : after ≡ rows_after (volume_in old) old.entries before
   pub left : new ≡ with_entries old (drop (length before) old.entries)

@@ -1,5 +1,5 @@
 //! The entries of a result, several at once.
-ghost use Rattle.lq_embed.specs.Rows.{Takes};
+ghost use Rattle.lq_embed.specs.Rows.{TakesRows};
 ghost use Rattle.lq_embed.specs.SessionState.{holds};
 
 use crate::embedded::Embedded;
@@ -10,7 +10,7 @@ impl Embedded {
     /// and answers how many they were: fewer than the places where none is left. It takes no
     /// memory.
     pub fn take_entries(&mut self, out: &mut [RowOut]) -> usize
-        ensures { Takes (holds self.old) (holds self.new) result out.old out.new }
+        ensures { TakesRows (holds self.old) (holds self.new) result out.old out.new }
     {
         let mut count = 0;
         for place in out.iter_mut() {

@@ -1,4 +1,4 @@
-use Rattle.std.proofs.Common.{inl, inr, refl}
+use Rattle.std.proofs.Common.{inl, refl}
 use Rattle.lq_predicate.proofs.LimitLemmas.{reads_predicate}
 use Rattle.lq_predicate.proofs.ReadLemmas.{whole_reads}
 use Rattle.lq_predicate.proofs.reader.read_tree.Goals as goal
@@ -19,6 +19,3 @@ returns-in-Ok-clause-proper c =
     let texts = c.in-Ok.ensures.texts in
     c.read_is_good.ensures c.args.formula.now c.in-Ok.tree texts.0
     (returns-in-Ok-clause-reads c) texts.1 texts.2
-
-pub returns-clause-fails : goal.returns-clause-fails
-returns-clause-fails c = inr (refl, c.in_default.ensures)
