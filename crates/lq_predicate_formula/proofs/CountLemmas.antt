@@ -1,10 +1,7 @@
--- One byte more of white space, of a word and of a quoted text, and where a text may be cut.
-use Rattle.std.proofs.Common.{◌≡◌, ◌<◌, ◌≤◌, ◌+◌, ℕ, suc, true, false, List, ◌∷◌, length, get_or, drop, Option, Some, None, refl, ap, arith, add-one, drop-cons, zero, pred, IsUtf8, subst, length-drop, get_or-drop, ◌∙◌}
+-- One byte more of white space, of a word and of a quoted text.
+use Rattle.std.proofs.Common.{◌≡◌, ◌<◌, ◌≤◌, ◌+◌, ℕ, suc, true, false, List, ◌∷◌, length, get_or, drop, Option, Some, None, refl, ap, arith, add-one, drop-cons}
 use Rattle.std.specs.Prelude.{option_map, ◌==◌}
 use Rattle.std.proofs.lemmas.List.{drop_all}
-use Rattle.std.specs.Str.{IsCharBoundary}
-use Rattle.std.proofs.lemmas.Str.{IsCharBoundary-after_ascii}
-use Rattle.std.proofs.iter.FirstChar.{at_start}
 use Rattle.lq_predicate_formula.specs.Bytes.{is_space, ends_word}
 use Rattle.lq_predicate_formula.specs.Lexing.{spaces, word_bytes, quoted_bytes}
 
@@ -84,22 +81,3 @@ pub quoted_more : (m : ℕ) (bs : List ℕ) (n : ℕ) → n < length bs → (get
     → (get_or bs n 0 == m) ≡ false → added n (quoted_bytes m false (drop n bs))
     ≡ added (n + 1) (quoted_bytes m false (drop (n + 1) bs))
 quoted_more m bs n h e f = rw (at_byte bs n h, e, f) (added_suc n _)
-
--- a text of UTF-8 may be cut at its start and after each ASCII byte
-pub boundary_behind : (bs : List ℕ) (n : ℕ)
-    → IsUtf8 bs → n ≤ length bs → (0 < n → get_or bs (pred n) 0 < 128) → IsCharBoundary bs n
-boundary_behind bs zero u h a = (h, (at_start bs u).1)
-boundary_behind bs (suc n) u h a =
-    let e : n + 1 ≡ suc n = omega arith in
-    subst (IsCharBoundary bs) e (IsCharBoundary-after_ascii bs n u (omega arith) (a (omega arith)))
-
--- behind the first byte and n more, and a mark
-pub boundary_quoted : (bs : List ℕ) (n : ℕ)
-    → IsUtf8 bs → n < length (drop 1 bs) → get_or (drop 1 bs) n 0 < 128 → IsCharBoundary bs (n + 2)
-boundary_quoted bs n u h a =
-    let l : suc n < length bs = omega (arith, length-drop 1 bs) in
-    let e : suc (suc n) ≡ n + 2 = omega arith in
-    let at : get_or (drop 1 bs) n 0 ≡ get_or bs (suc n) 0 = get_or-drop 1 bs n 0
-    ∙ ap (λ i. get_or bs i 0) (let k : 1 + n ≡ suc n = omega arith in k) in
-    subst (IsCharBoundary bs) e
-    (boundary_behind bs (suc (suc n)) u (omega arith) (λ _. subst (λ x. x < 128) at a))

@@ -531,7 +531,7 @@ takes rebuilds s volume slot events answers f e m told r stays read =
     let start : r.first ≡ result_of r.query (state_at b r.at) =
     says.1.folding volume [] (reads_of slot (r.after ++ e ∷ []) (r.afters ++ a ∷ [])) refl tt in
     let fewer = accepted-front r.before
-        (Open r.query r.port r.backlog r.moved ∷ (r.after ++ e ∷ []))
+    (Open r.query r.port r.backlog r.moved ∷ (r.after ++ e ∷ []))
     r.befores (Opened slot r.at r.first ∷ (r.afters ++ a ∷ [])) r.place in
     let same : accepted (events ++ e ∷ []) (answers ++ a ∷ [])
     ≡ accepted (r.before ++ Open r.query r.port r.backlog r.moved ∷ (r.after ++ e ∷ []))

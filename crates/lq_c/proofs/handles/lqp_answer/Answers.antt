@@ -8,5 +8,5 @@ pub returns-clause-history : goal.returns-clause-history
 returns-clause-history c = line-answered (holds c.served_mut.result.now.embedded)
     (holds c.args.handle.now.served.embedded) (holds c.answer.new.self) c.answer.result _
     (sym c.if-is_err.ensures.value)
-        (ap (λ (s : Served). holds s.embedded) c.served_mut.ensures.value)
+    (ap (λ (s : Served). holds s.embedded) c.served_mut.ensures.value)
     c.answer.ensures.history

@@ -66,7 +66,7 @@ returns-clause-followed g c =
     c.in_ok-server.ensures.opened out
     c.sync-synced.ensures c.headline.ensures met r
     (made_all c.enlist.new.other c.join_over-reader.result.1.seat c.meet.new.one c.args.changes.now
-        r.book
+    r.book
     c.leave.result.retired.changes fresh made c.meet.ensures.one later c.leave.ensures.all
     r.number)
     refl)

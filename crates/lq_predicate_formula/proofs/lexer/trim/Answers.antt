@@ -1,5 +1,5 @@
 use Rattle.std.proofs.Common.{subst, get_or, pred, ◌<◌, length, ap, arith}
-use Rattle.lq_predicate_formula.proofs.CountLemmas.{boundary_behind}
+use Rattle.lq_predicate_formula.proofs.CutLemmas.{boundary_behind}
 use Rattle.lq_predicate_formula.proofs.lexer.trim.Goals as goal
 
 pub split_at-requires : goal.split_at-requires

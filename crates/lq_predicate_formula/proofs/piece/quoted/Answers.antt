@@ -1,5 +1,5 @@
 use Rattle.std.proofs.Common.{subst, ℕ, get_or, ◌<◌, ◌⊎◌, length, ◌≡◌, arith, ◌∙◌, sym}
-use Rattle.lq_predicate_formula.proofs.CountLemmas.{boundary_behind, boundary_quoted}
+use Rattle.lq_predicate_formula.proofs.CutLemmas.{boundary_behind, boundary_quoted}
 use Rattle.lq_predicate_formula.proofs.piece.quoted.Goals as goal
 
 mark_ascii : (b : ℕ) → (b ≡ 34) ⊎ (b ≡ 39) → b < 128

@@ -1,7 +1,7 @@
 use Rattle.std.proofs.Common.{◌≡◌, ◌∙◌, ℕ, subst, sym, get_or, pred, ◌<◌, ◌≤◌, length, ap, arith}
 use Rattle.lq_predicate_formula.specs.Lexing.{front_at}
 use Rattle.lq_predicate_formula.specs.TokenView.{front_of}
-use Rattle.lq_predicate_formula.proofs.CountLemmas.{boundary_behind}
+use Rattle.lq_predicate_formula.proofs.CutLemmas.{boundary_behind}
 use Rattle.lq_predicate_formula.proofs.TokenLemmas.{front_symbol}
 use Rattle.lq_predicate_formula.proofs.piece.read_piece.Goals as goal
 

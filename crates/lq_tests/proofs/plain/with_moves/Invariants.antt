@@ -8,4 +8,4 @@ use Rattle.lq_tests.proofs.plain.with_moves.Given as goal
 abbrev pub invariant-loop-message : goal.invariant-loop-message
 invariant-loop-message l = l.kept.items
     ≡ map (as_moved l.all)
-        (filter (λ m. not (list_any (is_move m) l.all)) (take l.message-index l.all))
+    (filter (λ m. not (list_any (is_move m) l.all)) (take l.message-index l.all))
