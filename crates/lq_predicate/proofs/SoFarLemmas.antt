@@ -9,8 +9,8 @@ use Rattle.lq_predicate_formula.specs.Query.{Query}
 use Rattle.lq_predicate_formula.specs.Grammar.{nesting}
 use Rattle.lq_predicate_formula.specs.Machine.{MachineState, start, step, finished_query}
 use Rattle.lq_predicate_formula.specs.Faults.{IsFaulty, IsReading, most_bytes, most_comparisons}
+use Rattle.lq_predicate_formula.specs.Laws.{MachineReads}
 use Rattle.lq_predicate_formula.specs.MachineReading.{after_token, fault_place, finished, read_tokens, word_count}
-use Rattle.lq_predicate_formula.proofs.OneReadingLemmas.{machine_reads}
 use Rattle.lq_predicate.specs.Building.{pattern_fault}
 use Rattle.lq_predicate.specs.FaultPlace.{place_at}
 use Rattle.lq_predicate.proofs.PlaceLemmas.{fault_place-at, pattern_place-bound}
@@ -29,8 +29,9 @@ pub record SoFar (text : List ℕ) (place : ℕ) (rest : List ℕ) (s : MachineS
   pub texts : WordsAre IsUtf8 (bare front)
 
 -- before the first token nothing has been read
-pub starts : (text : List ℕ) → length text ≤ 4096 → SoFar text 0 text (start nesting) 0
-starts text h = record {
+pub starts : (text : List ℕ) → MachineReads → length text ≤ 4096
+    → SoFar text 0 text (start nesting) 0
+starts text machine_reads h = record {
   reads = λ ts has. subst (IsReading text)
       (ap (λ b. if b then read_tokens (length text) (start nesting) 0 ts else Err most_bytes)
       (le-leb (length text) most_bytes h)) (machine_reads text ts has);

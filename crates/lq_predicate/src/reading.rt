@@ -13,7 +13,7 @@ ghost use Rattle.lq_predicate.specs.declared.stop.Stop.TheVariants.{Fault};
 use crate::builder::Builder;
 use crate::machine::{Expected, Frames, finish, take};
 use crate::stop::Stop;
-use lq_predicate_formula::{Cursor, Placed, Token, next_token, one_token_list};
+use lq_predicate_formula::{Cursor, Placed, Token, machine_reads, next_token, one_token_list};
 
 /// The most words: each comparison has two.
 const MOST_WORDS: usize = 512;
@@ -32,6 +32,7 @@ pub(crate) fn read_text<B: Builder>(
         ((ts : List TokenAt) × HasTokens 0 text.now ts × WordsAre IsUtf8 (bare ts)) }
 {
     one_token_list();
+    machine_reads();
     let mut expected = Expected::Operand;
     let mut cursor = Cursor {
         place: 0,

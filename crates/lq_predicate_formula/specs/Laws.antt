@@ -1,7 +1,8 @@
 -- Laws on readings and on the truth of queries.
 use Rattle.std.specs.Prelude.{◌≡◌, ℕ, List, Ok, ◌⊎◌, None, length, true, false}
 use Rattle.lq_predicate_formula.specs.Query.{Query, And, Or, Queries, and_then}
-use Rattle.lq_predicate_formula.specs.Faults.{Reads}
+use Rattle.lq_predicate_formula.specs.Faults.{IsReading, Reads}
+use Rattle.lq_predicate_formula.specs.MachineReading.{machine_reading}
 use Rattle.lq_predicate_formula.specs.Canonical.{canonical}
 use Rattle.lq_predicate_formula.specs.Limits.{IsGoodPattern, IsProper, IsWithinLimits}
 use Rattle.lq_predicate_formula.specs.Words.{WordsAre}
@@ -26,6 +27,11 @@ CanonicalIsRead = (q : Query) → IsWithinLimits q → Reads (canonical q) q
 abbrev pub ReadIsGood : Type 0
 ReadIsGood = (text : List ℕ) (q : Query) (ts : List Placed) → Reads text q
     → HasTokens 0 text ts → WordsAre IsUtf8 (bare ts) → IsProper q
+
+-- what the machine makes of a text's tokens is a reading of the text
+abbrev pub MachineReads : Type 0
+MachineReads = (text : List ℕ) (ts : List Placed) → HasTokens 0 text ts
+    → IsReading text (machine_reading text ts)
 
 -- a pattern that was read from a UTF-8 text consists of characters, its sets have items, and no
 -- range ends below its start

@@ -5,7 +5,7 @@ ghost use Rattle.lq_predicate_formula.specs.Faults.{HasOneReading};
 ghost use Rattle.lq_predicate_formula.specs.Tokens.{HasOneTokenList, Token};
 ghost use Rattle.lq_predicate_formula.specs.Query.{Query};
 ghost use Rattle.lq_predicate_formula.specs.Grammar.{IsFormula};
-ghost use Rattle.lq_predicate_formula.specs.Laws.{BareRowsFail, CanonicalIsRead, JoinedTextsAdd, PatternsAreGood, ReadIsGood, TruthGoesByNames, TruthStaysBesideSpans};
+ghost use Rattle.lq_predicate_formula.specs.Laws.{BareRowsFail, CanonicalIsRead, JoinedTextsAdd, MachineReads, PatternsAreGood, ReadIsGood, TruthGoesByNames, TruthStaysBesideSpans};
 
 use lq_value::sources_are_read;
 
@@ -23,6 +23,11 @@ pub fn reads_one()
 /// Each text reads as just one query, or has its leftmost fault at just one place, and never both.
 pub fn one_reading()
     ensures { (text : List ℕ) → HasOneReading text }
+{}
+
+/// What the machine makes of a text's tokens, one after another, is the reading of the text.
+pub fn machine_reads()
+    ensures { MachineReads }
 {}
 
 /// The canonical text of a query within the limits reads as that query.

@@ -27,8 +27,9 @@ mod writing;
 
 pub use fitting::{MAX_CANONICAL, fit_joined, fits_not};
 pub use laws::{
-    bare_rows_fail, canonical_is_read, joined_texts_add, one_reading, one_token_list,
-    patterns_are_good, read_is_good, reads_one, truth_goes_by_names, truth_stays_beside_spans,
+    bare_rows_fail, canonical_is_read, joined_texts_add, machine_reads, one_reading,
+    one_token_list, patterns_are_good, read_is_good, reads_one, truth_goes_by_names,
+    truth_stays_beside_spans,
 };
 pub use lexer::next_token;
 pub use raw::{is_name, read_literal, read_name};

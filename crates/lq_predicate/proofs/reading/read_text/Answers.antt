@@ -7,8 +7,11 @@ use Rattle.lq_predicate.proofs.SoFarLemmas.{all_texts, ends, goes_on, one_too_ma
 use Rattle.lq_predicate.proofs.reading.read_text.Goals as goal
 
 pub loop-placed-init : goal.loop-placed-init
-loop-placed-init g c =
-    (start nesting, (c.requires.new, refl), starts c.args.text.now c.requires.short)
+loop-placed-init g c = (
+  start nesting,
+  (c.requires.new, refl),
+  starts c.args.text.now c.machine_reads.ensures c.requires.short,
+)
 
 pub stop_in_text-requires : goal.stop_in_text-requires
 stop_in_text-requires g c =
