@@ -10,10 +10,12 @@ use crate::lines::Lines;
 use crate::readers::Readers;
 use crate::runner::Runner;
 use crate::server_session::ServerSession;
+use crate::tasks::Task;
 use crate::tokens::OwnSeat;
 use crate::workers::Workers;
 use lq_script_lines::{RunFault, Sink, Source, out_of_memory};
 use lq_server::{Base, Named, Retired, Seat, Server};
+use lq_value::Refusal;
 use lq_volume::{MAX_CHANGES, Volume};
 use std::alloc::Global;
 use std::marker::Brand;
@@ -173,11 +175,7 @@ fn serve_in<
         (W.failed result.writer.now ≡ true) ⊎ (W.stalled result.writer.now ≡ true)) }
 {
     let Streams { reader, writer } = streams;
-    let Ok(readers) = Readers::new(alloc) else {
-        let ran = Err(out_of_memory(writer));
-        return EndedRun { ran, seat, writer };
-    };
-    let Ok(workers) = Workers::new(rt, alloc, scope) else {
+    let Ok((readers, workers)) = readers_and_workers(rt, alloc, scope) else {
         let ran = Err(out_of_memory(writer));
         return EndedRun { ran, seat, writer };
     };
@@ -187,6 +185,16 @@ fn serve_in<
     runner.end_threads();
     let (seat, writer) = runner.into_parts();
     EndedRun { ran, seat, writer }
+}
+
+// What a run's reads need: no slot has a reader yet, or a thread. None where memory is wanting.
+fn readers_and_workers<'s, E: 's, N: Named, R: Wait, T: Task + Drop>(
+    rt: &'s R,
+    alloc: Global,
+    scope: &'s Scope<'s, E>,
+) -> Result<(Readers<N>, Workers<'s, E, R, T>), Refusal> {
+    let readers = Readers::new(alloc)?;
+    Ok((readers, Workers::new(rt, alloc, scope)?))
 }
 
 // Carries out all lines of a reader.

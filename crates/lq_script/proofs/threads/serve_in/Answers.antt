@@ -6,8 +6,3 @@ pub returns-in_default-clause-made : goal.returns-in_default-clause-made
 returns-in_default-clause-made g c =
     tells_never c.args.seat c.out_of_memory.result _ _ c.out_of_memory.ensures.fault
     c.out_of_memory.ensures.bytes
-
-pub returns-in_default-new-clause-made : goal.returns-in_default-new-clause-made
-returns-in_default-new-clause-made g c =
-    let end = c.out_of_memory-in_default-new.ensures in
-    tells_never c.args.seat c.out_of_memory-in_default-new.result _ _ end.fault end.bytes
