@@ -1,15 +1,13 @@
-use Rattle.std.proofs.Common.{◌+◌, ap, subst, arith, map}
+use Rattle.std.proofs.Common.{◌+◌, ap, arith, map}
 use Rattle.std.proofs.lemmas.List.{length-map}
-use Rattle.lq_desk.specs.Words.{SetsBit}
-use Rattle.lq_desk.proofs.ParcelLemmas.{clear-more, kept-item, marks-all, marks-more}
-use Rattle.lq_desk.proofs.SlotsLemmas.{kept_slot}
+use Rattle.lq_desk.proofs.ParcelLemmas.{clear-more, marks-all, marks-more}
+use Rattle.lq_desk.proofs.SlotsLemmas.{kept-item, kept_slot}
 use Rattle.lq_desk.proofs.slot_list.parcels_in.Goals as goal
 
 pub loop-slot-preserved : goal.loop-slot-preserved
 loop-slot-preserved c =
     let l = c.loop-slot in
-    let sets = subst (λ place. SetsBit l.word place c.has_parcel_at.result c.with_bit-word.result)
-    l.invariant.place c.with_bit-word.ensures in
+    let sets = rw l.invariant.place at c.with_bit-word.ensures in
     record {
       place = ap (λ n. n + 1) l.invariant.place;
       fits = c.with_bit-word.type_inv;
