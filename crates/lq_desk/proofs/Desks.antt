@@ -93,22 +93,17 @@ few-desk k v d = few-more (3 * k.volume.number) (2 ^ 63 - 1) k.slots
 
 -- ---- what was done, by the desk as it was seen before
 
--- what is done at a slot of the list is done at the desk's slot
-at-same : (k : DeskState) (does : KeptSlot → Answer × Option KeptSlot) (slot : ℕ) (r : Answer)
-    (ks : List (Option KeptSlot)) → (r, ks) ≡ outcome_of does k.slots slot
-    → (r, record k { slots = ks }) ≡ at_kept k slot does
-at-same k does slot r ks is =
-    let free = set-free k.slots (slot - 1) in
-    ap (λ (p : Answer × List (Option KeptSlot)). (p.0, record k { slots = p.1 })) is
-    ∙ grind (arith, free)
-
 -- what is done at a slot
 pub at-view : (does : ℕ → KeptSlot → Answer × Option KeptSlot) (k j : DeskState) (n slot : ℕ)
     (r : Answer) (ks : List (Option KeptSlot)) → k ≡ j → n ≡ k.volume.number
     → (r, ks) ≡ outcome_of (does n) k.slots slot
     → (r, record k { slots = ks }) ≡ at_kept j slot (does j.volume.number)
 at-view does k j n slot r ks view same is =
-    rw (← view) (at-same k (does k.volume.number) slot r ks (rw (← same) is))
+    let free = set-free k.slots (slot - 1) in
+    let did : (r, ks) ≡ outcome_of (does k.volume.number) k.slots slot = rw (← same) is in
+    rw (← view)
+    (ap (λ (p : Answer × List (Option KeptSlot)). (p.0, record k { slots = p.1 })) did
+    ∙ grind (arith, free))
 
 -- the notices of all slots
 pub noticed-view : (k j : DeskState) (n : ℕ) (ks : List (Option KeptSlot)) → k ≡ j

@@ -16,10 +16,10 @@ use Rattle.lq_update.specs.Laws.{UpdatesJoin}
 use Rattle.lq_desk_world.specs.declared.event.Act.{Act}
 use Rattle.lq_desk_world.specs.declared.event.Act.TheVariants as act
 use Rattle.lq_desk_world.specs.World.{Subscribed, Ending, covered_by, covered, updates_due, mark_behind, whole, is_over, with_end, first_in_port, change_overruns, after_change}
-use Rattle.lq_desk_world.specs.Events.{Took, reading_if, noticing, closing, finishing, acting}
+use Rattle.lq_desk_world.specs.Events.{Took, reading_if, acting}
 use Rattle.lq_desk_world.specs.Fair.{IsFair}
 use Rattle.lq_desk_sub.specs.Held.{ended_by, with_messages}
-use Rattle.lq_desk.specs.Slot.{slot_after, is_read, read_if, notice_slot, close_slot, finish_slot}
+use Rattle.lq_desk.specs.Slot.{slot_after, is_read, read_if}
 use Rattle.lq_desk.specs.Act.{act_of}
 use Rattle.lq_desk.specs.DeskState.{held_for, slot_for}
 use Rattle.lq_desk.proofs.ListLemmas.{get-between}
@@ -85,25 +85,10 @@ module _ (b : Book) (s : Subscribed) (f : IsFair b s) (live : s.end ≡ None) wh
       ended ∙ ap (slot_told (with_end s cause n)) same
 
   -- it ends now
-  pub ends-now : (cause : Cause)
+  ends-now : (cause : Cause)
       → record (slot_for b s) { held = ended_by (held_for b s) cause (number_of b) }
       ≡ slot_for b (with_end s cause (number_of b))
   ends-now cause = end-same b cause (number_of b) told-live
-
--- a notice is answered alike
-notice-same : (b : Book) (s : Subscribed) → IsFair b s → notice_slot (number_of b) (slot_for b s)
-    ≡ ((noticing b s).0, option_map (slot_for b) (noticing b s).1)
-notice-same b s f = grind (arith, ends-now b s f)
-
--- a close is answered alike
-close-same : (b : Book) (s : Subscribed) → IsFair b s → close_slot (number_of b) (slot_for b s)
-    ≡ ((closing b s).0, option_map (slot_for b) (closing b s).1)
-close-same b s f = grind (arith, ends-now b s f)
-
--- a finish is answered alike
-finish-same : (b : Book) (s : Subscribed) → IsFair b s
-    → finish_slot (slot_for b s) ≡ ((finishing b s).0, option_map (slot_for b) (finishing b s).1)
-finish-same b s f = rw (is_read-same b s f) (grind arith)
 
 -- each act is answered alike
 pub act-same : (b : Book) (a : Act) (s : Subscribed) → IsFair b s
@@ -113,9 +98,9 @@ act-same b act.Put s f = put-same b s f
 act-same b act.Take s f = ap (read_if (slot_for b s)) (get-between s.taken s.put (whole b s))
     ∙ read-if b s f (first_in_port b s)
 act-same b act.HangUp s f = refl
-act-same b act.Notice s f = notice-same b s f
-act-same b act.Close s f = close-same b s f
-act-same b act.Finish s f = finish-same b s f
+act-same b act.Notice s f = grind (arith, ends-now b s f)
+act-same b act.Close s f = grind (arith, ends-now b s f)
+act-same b act.Finish s f = rw (is_read-same b s f) (grind arith)
 
 -- ---- a change
 

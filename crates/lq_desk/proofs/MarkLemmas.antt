@@ -147,28 +147,29 @@ places-set ends moves ends' moves' w w' ks place o others here others' here' wat
   watched = watched;
 }
 
--- what is at the place of a slot after something was done there
-pub acted-at : (does : KeptSlot → Answer × Option KeptSlot) (ks js : List (Option KeptSlot))
-    (place : ℕ) → js ≡ (outcome_in does ks place).1 → place < length ks
-    → option_flatten (slice_get js place)
-    ≡ (outcome_at does (option_flatten (slice_get ks place))).1
-acted-at does ks js place is lt = rw is (ap option_flatten (get-set ks place _ lt))
-
 -- something was done at a place, and the sets have it again just if it is needed
 pub places-acted : (does : KeptSlot → Answer × Option KeptSlot) → KeepsSub does
-    → (ends moves ends' moves' : ℕ) (w : Watch) (ks js : List (Option KeptSlot)) (place : ℕ)
-    → js ≡ (outcome_in does ks place).1 → place < 64
+    → (ends moves ends' moves' : ℕ) (w : Watch) (ks js : List (Option KeptSlot)) (r : Answer)
+    (index place : ℕ) → (r, js) ≡ outcome_in does ks index → index ≡ place → place < 64
     → ((i : ℕ) → i ≢ place → has ends' i ≡ has ends i)
-    → (passes is_ending (option_flatten (slice_get js place)) ≡ true → has ends' place ≡ true)
+    → (passes is_ending (option_flatten (slice_get js place)) ≡ true
+    → passes is_ending (outcome_at does (option_flatten (slice_get ks place))).1 ≡ true
+    → has ends' place ≡ true)
     → ((i : ℕ) → i ≢ place → has moves' i ≡ has moves i)
-    → (passes can_move (option_flatten (slice_get js place)) ≡ true → has moves' place ≡ true)
+    → (passes can_move (option_flatten (slice_get js place)) ≡ true
+    → passes can_move (outcome_at does (option_flatten (slice_get ks place))).1 ≡ true
+    → has moves' place ≡ true)
     → ArePlaces ends moves w ks → ArePlaces ends' moves' w js
-places-acted does keeps ends moves ends' moves' w ks js place is lt others here others' here' all =
+places-acted does keeps ends moves ends' moves' w ks js r index place did at lt others here others'
+    here' all =
     let o = (outcome_at does (option_flatten (slice_get ks place))).1 in
-    let at = acted-at does ks js place is (omega (arith, lt, all.wide)) in
+    let is : js ≡ slice_set ks place o =
+    ap (λ (p : Answer × List (Option KeptSlot)). p.1) (rw at at did) in
+    let left : option_flatten (slice_get js place) ≡ o =
+    rw is (ap option_flatten (get-set ks place o (omega (arith, lt, all.wide)))) in
     rw is (places-set ends moves ends' moves' w w ks place o
-    others (λ e. here (ap (passes is_ending) at ∙ e)) others'
-    (λ e. here' (ap (passes can_move) at ∙ e))
+    others (λ e. here (ap (passes is_ending) left ∙ e) e)
+    others' (λ e. here' (ap (passes can_move) left ∙ e) e)
     (rw is at (watched-acted w does keeps ks js place is all.watched)) all)
 
 -- after a read with its turn no slot is ending

@@ -72,25 +72,31 @@ ready-tells k slot word some marks =
 
 -- ---- a word of them
 
+-- the first bits of a word are set for the slots that have a parcel, and the others are clear
+pub record MarksFirst (ks : List (Option KeptSlot)) (n word : ℕ) : Type 0 where
+  pub done : (i : ℕ) → i < n
+      → (bit_at word i == 1) ≡ passes has_parcel (option_flatten (slice_get ks i))
+  pub clear : (i : ℕ) → n ≤ i → bit_at word i ≡ 0
+
 -- one slot more is marked
 pub marks-more : (ks : List (Option KeptSlot)) (n old new : ℕ) (x : Option KeptSlot) (has : Bool)
     → slice_get ks n ≡ Some x → has ≡ passes has_parcel x → SetsBit old n has new
-    → ((i : ℕ) → i < n → (bit_at old i == 1)
-    ≡ passes has_parcel (option_flatten (slice_get ks i)))
-    → ((i : ℕ) → n ≤ i → bit_at old i ≡ 0) → (i : ℕ) → i < n + 1
-    → (bit_at new i == 1) ≡ passes has_parcel (option_flatten (slice_get ks i))
-marks-more ks n old new x has at is sets done clear i lt =
-    grind (arith, nat_tests, done i, clear n, sets.same i, sets.here, sets.none)
-
--- no slot after those that were marked has a bit
-pub clear-more : (n old new : ℕ) (has : Bool) → SetsBit old n has new
-    → ((i : ℕ) → n ≤ i → bit_at old i ≡ 0) → (i : ℕ) → n + 1 ≤ i → bit_at new i ≡ 0
-clear-more n old new has sets clear i le = grind (arith, sets.same i, clear i)
+    → MarksFirst ks n old → MarksFirst ks (n + 1) new
+marks-more ks n old new x has at is sets marks = record {
+  done = λ i lt. grind (
+    arith,
+    nat_tests,
+    marks.done i,
+    marks.clear n,
+    sets.same i,
+    sets.here,
+    sets.none,
+  );
+  clear = λ i le. grind (arith, sets.same i, marks.clear i);
+}
 
 -- once all were marked, each bit tells
 pub marks-all : (ks : List (Option KeptSlot)) (n word : ℕ) → length ks ≤ n
-    → ((i : ℕ) → i < n → (bit_at word i == 1)
-    ≡ passes has_parcel (option_flatten (slice_get ks i)))
-    → ((i : ℕ) → n ≤ i → bit_at word i ≡ 0) → MarksParcels ks word
-marks-all ks n word all done clear i =
-    grind (arith, nat_tests, done i, clear i, slice_get_past ks i)
+    → MarksFirst ks n word → MarksParcels ks word
+marks-all ks n word all marks i =
+    grind (arith, nat_tests, marks.done i, marks.clear i, slice_get_past ks i)

@@ -33,18 +33,8 @@ put-keeps k = grind arith
 
 -- and so do several
 pub puts-keep : (n : ℕ) (k : KeptSlot) → Keeps k (after_puts n k)
-puts-keep zero k =
-    record { query = refl; sent = refl; mark = refl; port = refl; hang_up_asked = refl }
-puts-keep (suc n) k =
-    let rest = puts-keep n (after_put k) in
-    let here = put-keeps k in
-    record {
-      query = rest.query ∙ here.query;
-      sent = rest.sent ∙ here.sent;
-      mark = rest.mark ∙ here.mark;
-      port = rest.port ∙ here.port;
-      hang_up_asked = rest.hang_up_asked ∙ here.hang_up_asked;
-    }
+puts-keep zero k = grind arith
+puts-keep (suc n) k = grind (arith, puts-keep n (after_put k), put-keeps k)
 
 -- a put that can't move a parcel leaves the slot
 put-quiet : (k : KeptSlot) → can_move k ≡ false → after_put k ≡ k

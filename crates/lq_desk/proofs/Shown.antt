@@ -23,7 +23,7 @@ use Rattle.lq_desk_world.specs.Fair.{IsFair, IsFairSlot, IsFairWorld}
 use Rattle.lq_desk_world.specs.Laws.{RefusalsLeaveWorlds, RunsKeepWorldsFair}
 use Rattle.lq_desk.specs.Slot.{KeptSlot, fresh_slot, slot_after}
 use Rattle.lq_desk.specs.Act.{act_of}
-use Rattle.lq_desk.specs.DeskState.{DeskState, Shows, KeptMayRunOut, KeptStep, kept_of, slot_for, kept_at, at_index, at_kept, kept_act, first_free, opening_refusal, open_if, change_if, kept_outcome}
+use Rattle.lq_desk.specs.DeskState.{DeskState, Shows, KeptMayRunOut, KeptStep, kept_of, slot_for, kept_at, at_index, kept_act, first_free, opening_refusal, open_if, change_if, kept_outcome}
 use Rattle.lq_desk.specs.Turn.{stepped}
 use Rattle.lq_desk.specs.Laws.{KeptShowsWorlds}
 use Rattle.lq_desk.proofs.ListLemmas.{all-get, slot-there}
@@ -37,32 +37,6 @@ kept_at-same : (w : World) (slot : ℕ)
     → kept_at (kept_of w) slot ≡ option_map (slot_for w.book) (subscribed_at w slot)
 kept_at-same w slot =
     grind (arith, slice_get-map (option_map (slot_for w.book)) w.slots (slot - 1))
-
--- an event at a slot is answered alike, if it is at each subscription
-at-same : (w : World) → IsFairWorld w
-    → (slot : ℕ) (event : Subscribed → Answer × Option Subscribed)
-    (does : KeptSlot → Answer × Option KeptSlot)
-    → ((s : Subscribed) → IsFair w.book s
-    → does (slot_for w.book s) ≡ ((event s).0, option_map (slot_for w.book) (event s).1))
-    → at_kept (kept_of w) slot does
-    ≡ (
-      (at_slot w slot (subscribed_at w slot) event).0,
-      kept_of
-          (at_slot w slot (subscribed_at w slot) event).1,
-    )
-at-same w fair slot event does same = ap (λ o. at_index (kept_of w) (slot - 1) o does)
-    (kept_at-same w slot) ∙ by (subscribed_at w slot) refl
-  where
-    by : (o : Option Subscribed)
-        → subscribed_at w slot ≡ o → at_index (kept_of w) (slot - 1)
-        (option_map (slot_for w.book) o) does
-        ≡ ((at_slot w slot o event).0, kept_of (at_slot w slot o event).1)
-    by None is = refl
-    by (Some s) is =
-        let f : IsFair w.book s =
-        all-get (IsFairSlot w.book) w.slots (slot - 1) (Some s) fair
-        (slot-there w.slots slot s is) in
-        rw (same s f, map-set (option_map (slot_for w.book)) w.slots (slot - 1) (event s).1)
 
 -- ---- an opening
 
@@ -146,9 +120,26 @@ module _ (count : ChangesCount) where
         → kept_act (kept_of w) slot a
         ≡ ((act_outcome w slot a).0, kept_of (act_outcome w slot a).1)
     acting-same w fair slot a =
-        ap (λ n. at_kept (kept_of w) slot (act_of n a)) (numbered w.book)
-        ∙ at-same w fair slot (acting w.book a) (act_of (number_of w.book) a)
-        (act-same w.book a)
+        ap (λ o. at_index (kept_of w) (slot - 1) o (act_of (state_of w.book).number a))
+        (kept_at-same w slot) ∙ by (subscribed_at w slot) refl
+      where
+        by : (o : Option Subscribed) → subscribed_at w slot ≡ o
+            → at_index (kept_of w) (slot - 1) (option_map (slot_for w.book) o)
+            (act_of (state_of w.book).number a)
+            ≡ (
+              (at_slot w slot o (acting w.book a)).0,
+              kept_of (at_slot w slot o (acting w.book a)).1,
+            )
+        by None is = refl
+        by (Some s) is =
+            let f : IsFair w.book s =
+            all-get (IsFairSlot w.book) w.slots (slot - 1) (Some s) fair
+            (slot-there w.slots slot s is) in
+            rw (
+              numbered w.book,
+              act-same w.book a s f,
+              map-set (option_map (slot_for w.book)) w.slots (slot - 1) (acting w.book a s).1,
+            )
 
     -- each event is answered alike
     outcome-same : (w : World) (e : Event) → IsFairWorld w

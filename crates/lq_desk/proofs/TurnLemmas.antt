@@ -13,12 +13,11 @@ use Rattle.lq_desk_world.specs.declared.event.Event.{Event}
 use Rattle.lq_desk_world.specs.declared.event.Event.TheVariants.{Change, Take, Notice, Close}
 use Rattle.lq_desk_world.specs.Events.{Answer, Refused, outcome, next}
 use Rattle.lq_desk_world.specs.Laws.{RefusalsLeaveWorlds}
-use Rattle.lq_desk_world.specs.Runs.{Run}
-use Rattle.lq_desk_world.specs.Turns.{Turn, turn_of, events_in, ports_of, at_slot_of, at_each, one_notice, puts, notices, all_puts, after_events, carried_out, turn_outcome}
+use Rattle.lq_desk_world.specs.Turns.{turn_of, ports_of, at_slot_of, at_each, one_notice, puts, notices, all_puts, after_events, carried_out, turn_outcome}
 use Rattle.lq_desk.specs.Slot.{KeptSlot, filled, noticed, slot_after}
 use Rattle.lq_desk.specs.Act.{close_turn, read_turn}
 use Rattle.lq_desk.specs.DeskState.{DeskState, KeptStep, Shows, slot_for, kept_at, at_kept, kept_outcome, change_if}
-use Rattle.lq_desk.specs.Turn.{TurnRuns, carried_to, stepped, turned}
+use Rattle.lq_desk.specs.Turn.{TurnRuns, stepped, turned}
 use Rattle.lq_desk.specs.KeptTurn.{slot_port, kept_ports, kept_turn, kept_turn_outcome, kept_after, TurnStep}
 use Rattle.lq_desk.specs.Laws.{KeptShowsWorlds}
 use Rattle.lq_desk.proofs.ListLemmas.{get-seam, map-slots}
@@ -95,8 +94,7 @@ read-step k l slot a is =
       middle = l;
       step = inl (
         ap (λ (p : Answer × DeskState). p.0) same,
-        ap
-            (λ (p : Answer × DeskState). p.1) same,
+        ap (λ (p : Answer × DeskState). p.1) same,
       );
       after = refl;
     }
@@ -154,9 +152,9 @@ ports-same k w shows = ap kept_ports shows.kept
     ∙ map-slots (slot_for w.book) slot_port (λ (s : Subscribed). s.port) (λ s. refl) w.slots
 
 -- a turn's event is the one that began it
-turn-event : (k : DeskState) (e : Event) → (kept_turn k e).event ≡ e
-turn-event k (Take slot) = refl
-turn-event k _ = refl
+turn-event : (ports : List (Option ℕ)) (e : Event) → (turn_of ports e).event ≡ e
+turn-event ports (Take slot) = refl
+turn-event ports _ = refl
 
 -- where what is kept shows a world, and both answer alike
 module _ (alike : KeptShowsWorlds) where
@@ -179,48 +177,37 @@ module _ (alike : KeptShowsWorlds) where
   -- and refused events leave worlds
   module _ (law : RefusalsLeaveWorlds) where
     -- what is so of a turn that was carried out from a state that shows a world
-    pub record Went (t : Turn) (w : World) (a : Answer) (l : DeskState) : Type 0 where
-      pub shows : Shows l (carried_to w t a)
-      pub before : List Answer
-      pub after : List Answer
-      pub place : length before ≡ length t.before
-      pub run : Run w (events_in t) (before ++ a ∷ after) (carried_to w t a)
-      pub outcome : (a ≡ Refused NoMemory) ⊎ ((a, carried_to w t a) ≡ carried_out outcome w t)
+    pub record Went (w : World) (e : Event) (a : Answer) (l : DeskState) : Type 0 where
+      pub shows : Shows l (turned w e a)
+      pub runs : TurnRuns w e a (turned w e a)
+      pub outcome : (a ≡ Refused NoMemory) ⊎ ((a, turned w e a) ≡ turn_outcome w e)
 
-    -- a turn, whatever its parts are
-    went : (t : Turn) (k m l : DeskState) (w : World) (a : Answer)
-        → KeptStep (kept_after k t.before) t.event a m → l ≡ kept_after m t.after → Shows k w
-        → Went t w a l
-    went t k m l w a step is shows =
+    -- a turn of a desk
+    pub turn-went : (k l : DeskState) (w : World) (e : Event) (a : Answer) → TurnStep k e a l
+        → Shows k w → Went w e a l
+    turn-went k l w e a done shows =
+        let t = turn_of (ports_of w) e in
+        let same : kept_turn k e ≡ t =
+        ap (λ (ps : List (Option ℕ)). turn_of ps e) (ports-same k w shows) in
+        let step : KeptStep (kept_after k t.before) t.event a done.middle =
+        rw turn-event (rw same at done.step) in
         let mid = after_events outcome w t.before in
         let to = stepped mid t.event a in
-        let moved = moves alike law (kept_after k t.before) m mid t.event a step
+        let moved = moves alike law (kept_after k t.before) done.middle mid t.event a step
         (after-shows k w t.before shows) in
         let first = run-along w t.before in
         let last = run-along to t.after in
         record {
-          shows = rw is (after-shows m to t.after moved.1);
-          before = first.0;
-          after = last.0;
-          place = first.1;
-          run = run-join w mid (carried_to w t a) t.before first.0 (t.event ∷ t.after)
-              (a ∷ last.0) first.2 (to, moved.0, last.2);
+          shows = rw (done.after, same) (after-shows done.middle to t.after moved.1);
+          runs = record {
+            before = first.0;
+            after = last.0;
+            place = first.1;
+            run = run-join w mid (turned w e a) t.before first.0 (t.event ∷ t.after)
+                (a ∷ last.0) first.2 (to, moved.0, last.2);
+          };
           outcome = elim moved.0 [
             | inl did ↦ inr (rw (did.1, ← did.0) refl)
             | inr ran ↦ inl ran.1
           ];
         }
-
-    -- a turn of a desk
-    pub turn-went : (k l : DeskState) (w : World) (e : Event) (a : Answer) → TurnStep k e a l
-        → Shows k w → Went (turn_of (ports_of w) e) w a l
-    turn-went k l w e a t shows =
-        rw (← ports-same k w shows) (went (kept_turn k e) k t.middle l w a
-        (rw (turn-event k e) t.step) t.after shows)
-
-    -- which is a run of its events
-    pub turn-runs : (k l : DeskState) (w : World) (e : Event) (a : Answer) → TurnStep k e a l
-        → Shows k w → TurnRuns w e a (turned w e a)
-    turn-runs k l w e a t shows =
-        let g = turn-went k l w e a t shows in
-        record { before = g.before; after = g.after; place = g.place; run = g.run }

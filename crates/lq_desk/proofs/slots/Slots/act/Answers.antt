@@ -1,8 +1,6 @@
-use Rattle.std.proofs.Common.{◌∙◌, List, Option, map, ap}
+use Rattle.std.proofs.Common.{◌∙◌}
 use Rattle.std.proofs.lemmas.List.{length-map}
-use Rattle.lq_desk_world.specs.Events.{Answer}
-use Rattle.lq_desk.specs.Act.{act_of, outcome_in}
-use Rattle.lq_desk.specs.Slot.{KeptSlot}
+use Rattle.lq_desk.specs.Act.{act_of}
 use Rattle.lq_desk.proofs.MarkLemmas.{places-acted}
 use Rattle.lq_desk.proofs.PutLemmas.{act-keeps}
 use Rattle.lq_desk.proofs.SlotsLemmas.{kept_slot, of-past, of-seen}
@@ -21,14 +19,11 @@ returns c = of-seen (act_of c.args.number c.args.act) _ _ c.args.slot _ _ _
 
 pub invariant_of-self : goal.invariant_of-self
 invariant_of-self c =
-    let does = act_of c.args.number c.args.act in
-    let ks = map kept_slot c.self.inside.places.items in
-    let kept = ap (λ (p : Answer × List (Option KeptSlot)). p.1)
-    (c.act_in-reply.ensures ∙ ap (outcome_in does ks) c.place.ensures.value) in
-    places-acted does (act-keeps c.args.number c.args.act) c.self.inside.ending.word
-    c.self.inside.movable.word _ _ c.self.inside.watch ks _ c.in-Some.index.place kept
-    c.in-Some.index.within c.put.ensures.others
-    (λ is. c.put.ensures.here ∙ ((rw c.place-2.ensures.value at c.is_ending_in.ensures) ∙ is))
+    places-acted (act_of c.args.number c.args.act) (act-keeps c.args.number c.args.act)
+    c.self.inside.ending.word c.self.inside.movable.word _ _ c.self.inside.watch _ _ _ _
+    c.in-Some.index.place c.act_in-reply.ensures c.place.ensures.value c.in-Some.index.within
+    c.put.ensures.others
+    (λ is _. c.put.ensures.here ∙ ((rw c.place-2.ensures.value at c.is_ending_in.ensures) ∙ is))
     c.put-2.ensures.others
-    (λ is. c.put-2.ensures.here ∙ ((rw c.place-3.ensures.value at c.can_move_in.ensures) ∙ is))
+    (λ is _. c.put-2.ensures.here ∙ ((rw c.place-3.ensures.value at c.can_move_in.ensures) ∙ is))
     c.self.invariant
