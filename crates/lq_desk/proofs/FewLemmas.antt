@@ -3,18 +3,18 @@ use Rattle.std.proofs.Common.{◌≡◌, ℕ, ◌+◌, ◌-◌, ◌*◌, ◌≤�
 use Rattle.std.specs.Prelude.{slice_get}
 use Rattle.std.specs.Option.{option_map, option_flatten}
 use Rattle.std.specs.List.{AllByRecursion}
-use Rattle.std.proofs.lemmas.Option.{slice_get-map, slice_get_read}
+use Rattle.std.proofs.lemmas.Option.{slice_get_read}
 use Rattle.lq_volume.specs.declared.change.Change.{Change as Change_}
 use Rattle.lq_volume.specs.State.{State, IsVolume}
 use Rattle.lq_volume.specs.Change.{IsLawful}
 use Rattle.lq_update.specs.Laws.{StepsAreFew}
 use Rattle.lq_desk_world.specs.Events.{Answer}
-use Rattle.lq_desk.specs.Slot.{KeptSlot, PreparedSlot, slot_of, slot_after}
+use Rattle.lq_desk.specs.Slot.{KeptSlot, PreparedSlot, slot_after}
 use Rattle.lq_desk.specs.Act.{outcome_at}
 use Rattle.lq_desk.specs.DeskState.{IsFew}
 use Rattle.lq_desk.proofs.ListLemmas.{all-get}
 use Rattle.lq_desk.proofs.PutLemmas.{KeepsSub}
-use Rattle.lq_desk.proofs.SlotsLemmas.{kept_slot}
+use Rattle.lq_desk.proofs.SlotsLemmas.{kept-there, kept_slot}
 
 -- what makes few messages in a slot makes few in all
 pub few-map : (m n : ℕ) (f : KeptSlot → KeptSlot)
@@ -60,8 +60,7 @@ pub few-there : (xs : List (Option PreparedSlot)) (i : ℕ) (p : PreparedSlot)
     → p.sub.held.sent < 2 ^ 63
 few-there xs i p few found =
     let one : p.sub.held.sent ≤ 2 ^ 63 - 1 =
-    all-get (IsFew (2 ^ 63 - 1)) (map kept_slot xs) i (Some (slot_of p)) few
-    (slice_get-map kept_slot xs i ∙ ap (option_map kept_slot) found) in
+    all-get (IsFew (2 ^ 63 - 1)) _ i _ few (kept-there xs i p found) in
     omega (arith, one)
 
 -- so has one that was read at a place

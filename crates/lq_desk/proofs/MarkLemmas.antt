@@ -18,20 +18,15 @@ use Rattle.lq_desk.specs.Words.{ArePlaces, AreWatched, IsMarked}
 use Rattle.lq_desk.proofs.ListLemmas.{get-put, get-set}
 use Rattle.lq_desk.proofs.PassLemmas.{visits-from}
 use Rattle.lq_desk.proofs.PutLemmas.{KeepsSub, filled-ends, filled-still, noticed-still}
-use Rattle.lq_desk.proofs.SlotsLemmas.{kept_slot}
+use Rattle.lq_desk.proofs.SlotsLemmas.{kept-there, kept_slot}
 use Rattle.lq_desk.proofs.WatchLemmas.{watched-acted, watched-from}
-
--- what stands at a place is kept there
-there : (xs : List (Option PreparedSlot)) (i : ℕ) (x : PreparedSlot)
-    → slice_get xs i ≡ Some (Some x) → slice_get (map kept_slot xs) i ≡ Some (Some (slot_of x))
-there xs i x found = slice_get-map kept_slot xs i ∙ ap (option_map kept_slot) found
 
 -- a slot that isn't in the set fails the test
 pub unmarked : (test : KeptSlot → Bool) (set : ℕ) (xs : List (Option PreparedSlot)) (i : ℕ)
     (x : PreparedSlot) → IsMarked test set (map kept_slot xs) → slice_get xs i ≡ Some (Some x)
     → has set i ≡ false → test (slot_of x) ≡ false
 unmarked test set xs i x marked found none = false_from_ne_true (test (slot_of x))
-    (λ is. both_ways _ none (marked i (slot_of x) (there xs i x found) is))
+    (λ is. both_ways _ none (marked i (slot_of x) (kept-there xs i x found) is))
 
 -- ---- a pass
 
@@ -57,7 +52,7 @@ module _ {S : Type 0} (allows : S → ℕ → PreparedSlot → Type 0)
         by (Some (Some y)) at is =
             let f = visits-from allows did p xs ys s t v i y at in
             let same : slot_of y ≡ k = cc in
-            (f.0, y, there xs i f.0 f.1, same, f.2)
+            (f.0, y, kept-there xs i f.0 f.1, same, f.2)
 
     -- a set goes on marking the slots
     marked-passed : (test : KeptSlot → Bool) (old new : ℕ)

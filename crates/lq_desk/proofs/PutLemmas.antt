@@ -102,12 +102,7 @@ KeepsSub does = (k j : KeptSlot) → (does k).1 ≡ Some j
 
 -- an act
 pub act-keeps : (number : ℕ) (a : Act) → KeepsSub (act_of number a)
-act-keeps number act.Put k j is = grind arith
-act-keeps number act.Take k j is = grind arith
-act-keeps number act.HangUp k j is = grind arith
-act-keeps number act.Notice k j is = grind arith
-act-keeps number act.Close k j is = grind arith
-act-keeps number act.Finish k j is = grind arith
+act-keeps number a k j is = grind arith
 
 -- a read with its turn
 pub read_turn-keeps : (number : ℕ) → KeepsSub (read_turn number)

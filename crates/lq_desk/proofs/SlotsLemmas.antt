@@ -16,6 +16,11 @@ use Rattle.lq_desk.proofs.PutLemmas.{filled-quiet, noticed-quiet}
 abbrev pub kept_slot : Option PreparedSlot → Option KeptSlot
 kept_slot = option_map slot_of
 
+-- what stands at a place is kept there
+pub kept-there : (xs : List (Option PreparedSlot)) (i : ℕ) (x : PreparedSlot)
+    → slice_get xs i ≡ Some (Some x) → slice_get (map kept_slot xs) i ≡ Some (Some (slot_of x))
+kept-there xs i x found = slice_get-map kept_slot xs i ∙ ap (option_map kept_slot) found
+
 -- what is kept at a place, of a slot that was read there
 pub kept-item : (xs : List (Option PreparedSlot)) (i : ℕ) (d : Option PreparedSlot)
     → i < length xs → d ≡ get_or xs i d → slice_get (map kept_slot xs) i ≡ Some (kept_slot d)

@@ -1,10 +1,9 @@
 use Rattle.std.proofs.Common.{◌≡◌, ◌∙◌, ◌^◌, ◌-◌, ◌+◌, ℕ, Bool, List, Option, Some, false, inl, inr, map, ap, arith, sym}
 use Rattle.std.specs.Prelude.{slice_get}
 use Rattle.std.specs.List.{AllByRecursion}
-use Rattle.std.specs.Option.{option_map}
 use Rattle.std.proofs.lemmas.Bool.{both_ways}
 use Rattle.std.proofs.lemmas.List.{length-map}
-use Rattle.std.proofs.lemmas.Option.{slice_get-map, slice_get_within}
+use Rattle.std.proofs.lemmas.Option.{slice_get_within}
 use Rattle.lq_volume.specs.declared.change.Change.{Change}
 use Rattle.lq_volume.specs.State.{State}
 use Rattle.lq_desk_sub.specs.declared.slot_set.SlotSet.{SlotSet}
@@ -17,7 +16,7 @@ use Rattle.lq_desk.specs.Words.{MayReady, Readies}
 use Rattle.lq_desk.proofs.FewLemmas.{few-there}
 use Rattle.lq_desk.proofs.PassLemmas.{visits-alike, visits-from}
 use Rattle.lq_desk.proofs.ReadyLemmas.{bit-clear}
-use Rattle.lq_desk.proofs.SlotsLemmas.{kept_slot}
+use Rattle.lq_desk.proofs.SlotsLemmas.{kept-there, kept_slot}
 use Rattle.lq_desk.proofs.slots.Slots.ready.Goals as goal
 
 -- what is kept of each slot stays
@@ -69,8 +68,7 @@ returns-clause-told c i y at live =
           record {
             some = λ told. absurd (both_ways _ none told);
             none = λ untold. c.self.invariant.watched change i (slot_of y)
-                (slice_get-map kept_slot xs i ∙ (ap (option_map kept_slot) f.1
-                ∙ ap (λ (q : PreparedSlot). Some (Some (slot_of q))) d.1))
+                (rw d.1 at (kept-there xs i f.0 f.1))
                 (rw (← c.change.ensures, ← c.slots_for.ensures)
                 (bit-clear c.slots_for.result i (sym (c.from_word-asked.ensures i
                 (omega (
