@@ -1,8 +1,8 @@
 -- Read in this order. Lists and update lists: ListLemmas, UpdateLemmas. One slot: PutLemmas. All
--- slots: SlotsLemmas, FewLemmas, PlaceLemmas, PassLemmas, ReadyLemmas, WatchLemmas, MarkLemmas. A
--- desk shows a world: SlotLemmas and EndLemmas (one subscription), Shown (each event). Turns:
--- RunLemmas, EventLemmas, SlotTurnLemmas, TurnLemmas, ParcelLemmas. What a desk keeps stays as it
--- has to be: Desks.
+-- slots: SlotsLemmas, FewLemmas, PassLemmas, ReadyLemmas, WatchLemmas, MarkLemmas. A desk shows a
+-- world: SlotLemmas and EndLemmas (one subscription), Shown (each event). Turns: RunLemmas,
+-- EventLemmas, SlotTurnLemmas, TurnLemmas, ParcelLemmas. What a desk keeps stays as it has to be:
+-- Desks.
 pub mod ListLemmas
 pub mod UpdateLemmas
 pub mod PutLemmas
@@ -11,7 +11,6 @@ pub mod EndLemmas
 pub mod Shown
 pub mod SlotsLemmas
 pub mod FewLemmas
-pub mod PlaceLemmas
 pub mod PassLemmas
 pub mod ReadyLemmas
 pub mod WatchLemmas

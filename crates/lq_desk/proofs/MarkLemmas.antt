@@ -1,8 +1,8 @@
 -- The places of the slots, and the sets that mark them, stay as they have to be.
-use Rattle.std.proofs.Common.{◌≡◌, ◌≢◌, ◌∙◌, ℕ, zero, suc, ◌<◌, List, length, map, replicate, Bool, true, false, Option, Some, None, refl, sym, ap, subst, inl, inr, arith}
-use Rattle.std.specs.Prelude.{slice_get, slice_set, ◌||◌}
+use Rattle.std.proofs.Common.{◌≡◌, ◌≢◌, ◌∙◌, ℕ, zero, suc, ◌<◌, List, length, map, replicate, Bool, true, false, Option, Some, None, refl, sym, ap, inl, inr, arith}
+use Rattle.std.specs.Prelude.{slice_get, slice_set, ◌||◌, ◌⊎◌}
 use Rattle.std.specs.Option.{option_map, option_flatten}
-use Rattle.std.proofs.lemmas.Bool.{both_ways, false_from_ne_true, or_left, or_right}
+use Rattle.std.proofs.lemmas.Bool.{both_ways, false_from_ne_true}
 use Rattle.std.proofs.lemmas.List.{length-map, length-set}
 use Rattle.std.proofs.lemmas.Option.{slice_get-map}
 use Rattle.lq_update.specs.declared.mark.Cause.TheVariants.{Closed}
@@ -15,84 +15,87 @@ use Rattle.lq_desk_sub.specs.Visits.{Visits}
 use Rattle.lq_desk.specs.Slot.{KeptSlot, PreparedSlot, slot_of, can_move, close_if, filled, has_work, is_ending, noticed, passes, read_if}
 use Rattle.lq_desk.specs.Act.{close_turn, outcome_at, outcome_in, read_turn}
 use Rattle.lq_desk.specs.Words.{ArePlaces, AreWatched, IsMarked}
-use Rattle.lq_desk.proofs.ListLemmas.{get-set_in}
+use Rattle.lq_desk.proofs.ListLemmas.{get-put, get-set}
 use Rattle.lq_desk.proofs.PassLemmas.{visits-from}
-use Rattle.lq_desk.proofs.PutLemmas.{filled-ends, filled-still}
-use Rattle.lq_desk.proofs.SlotsLemmas.{kept_slot, noticed-still}
-use Rattle.lq_desk.proofs.WatchLemmas.{KeepsQuery, get-put, watched-acted, watched-from}
+use Rattle.lq_desk.proofs.PutLemmas.{KeepsSub, filled-ends, filled-still, noticed-still}
+use Rattle.lq_desk.proofs.SlotsLemmas.{kept-there, kept_slot}
+use Rattle.lq_desk.proofs.WatchLemmas.{watched-acted, watched-from}
 
 -- a slot that isn't in the set fails the test
 pub unmarked : (test : KeptSlot → Bool) (set : ℕ) (xs : List (Option PreparedSlot)) (i : ℕ)
     (x : PreparedSlot) → IsMarked test set (map kept_slot xs) → slice_get xs i ≡ Some (Some x)
     → has set i ≡ false → test (slot_of x) ≡ false
-unmarked test set xs i x marked at none = false_from_ne_true (test (slot_of x)) (λ is.
-    both_ways _ none (marked i (slot_of x) (slice_get-map kept_slot xs i
-    ∙ ap (option_map kept_slot) at) is))
+unmarked test set xs i x marked found none = false_from_ne_true (test (slot_of x))
+    (λ is. both_ways _ none (marked i (slot_of x) (kept-there xs i x found) is))
 
 -- ---- a pass
 
--- Visits of the slots of a set leave the places as they have to be, where each visit and each slot
--- without one does.
-pub places-passed : {S : Type 0} (allows : S → ℕ → PreparedSlot → Type 0)
+-- of visits of the slots of a set
+module _ {S : Type 0} (allows : S → ℕ → PreparedSlot → Type 0)
     (did : S → ℕ → PreparedSlot → PreparedSlot → Type 0) (p : ℕ → Bool)
-    (xs ys : List (Option PreparedSlot)) (s t : S) → Visits allows did p xs ys s t
-    → length ys ≡ 64 → (ends moves ends' moves' : ℕ) (w : Watch)
-    → ((i : ℕ) (x y : PreparedSlot) → did t i x y → y.sub.held.query ≡ x.sub.held.query)
-    → ((i : ℕ) (x y : PreparedSlot) → p i ≡ true → did t i x y
-    → (is_ending (slot_of x) ≡ true → has ends i ≡ true) → is_ending (slot_of y) ≡ true
-    → has ends' i ≡ true)
-    → ((i : ℕ) → p i ≡ false → has ends i ≡ true → has ends' i ≡ true)
-    → ((i : ℕ) (x y : PreparedSlot) → p i ≡ true → did t i x y → can_move (slot_of y) ≡ true
-    → has moves' i ≡ true)
-    → ((i : ℕ) → p i ≡ false → has moves i ≡ true → has moves' i ≡ true)
-    → ArePlaces ends moves w (map kept_slot xs) → ArePlaces ends' moves' w (map kept_slot ys)
-places-passed allows did p xs ys s t v wide ends moves ends' moves' w query end left move idle all =
-    record {
+    (xs ys : List (Option PreparedSlot)) (s t : S) (v : Visits allows did p xs ys s t)
+  where
+    -- what is kept in a slot was visited there, or is as it was
+    abbrev From : ℕ → KeptSlot → Type 0
+    From i k = (x : PreparedSlot) × (y : PreparedSlot)
+        × (slice_get (map kept_slot xs) i ≡ Some (Some (slot_of x))) × (slot_of y ≡ k)
+        × (((p i ≡ true) × did t i x y) ⊎ ((p i ≡ false) × (x ≡ y)))
+
+    -- so is what is kept afterwards
+    kept-from : (i : ℕ) (k : KeptSlot) → slice_get (map kept_slot ys) i ≡ Some (Some k) → From i k
+    kept-from i k found = by (slice_get ys i) refl (sym (slice_get-map kept_slot ys i) ∙ found)
+      where
+        by : (o : Option (Option PreparedSlot)) → slice_get ys i ≡ o
+            → option_map kept_slot o ≡ Some (Some k) → From i k
+        by None at is = cc
+        by (Some None) at is = cc
+        by (Some (Some y)) at is =
+            let f = visits-from allows did p xs ys s t v i y at in
+            let same : slot_of y ≡ k = cc in
+            (f.0, y, kept-there xs i f.0 f.1, same, f.2)
+
+    -- a set goes on marking the slots
+    marked-passed : (test : KeptSlot → Bool) (old new : ℕ)
+        → ((i : ℕ) (x y : PreparedSlot) → p i ≡ true → did t i x y
+        → (test (slot_of x) ≡ true → has old i ≡ true) → test (slot_of y) ≡ true
+        → has new i ≡ true)
+        → ((i : ℕ) → p i ≡ false → has old i ≡ true → has new i ≡ true)
+        → IsMarked test old (map kept_slot xs) → IsMarked test new (map kept_slot ys)
+    marked-passed test old new visited left marked i k found is =
+        let f = kept-from i k found in
+        let was = marked i (slot_of f.0) f.2 in
+        let ends : test (slot_of f.1) ≡ true = rw f.3 is in
+        elim f.4 [
+          | inl d ↦ visited i f.0 f.1 d.0 d.1 was ends
+          | inr d ↦ left i d.0 (was (rw d.1 ends))
+        ]
+
+    -- the places stay as they have to be, where each visit and each slot without one leaves them so
+    pub places-passed : length ys ≡ 64 → (ends moves ends' moves' : ℕ) (w : Watch)
+        → ((i : ℕ) (x y : PreparedSlot) → did t i x y → y.sub.held.query ≡ x.sub.held.query)
+        → ((i : ℕ) (x y : PreparedSlot) → p i ≡ true → did t i x y
+        → (is_ending (slot_of x) ≡ true → has ends i ≡ true) → is_ending (slot_of y) ≡ true
+        → has ends' i ≡ true)
+        → ((i : ℕ) → p i ≡ false → has ends i ≡ true → has ends' i ≡ true)
+        → ((i : ℕ) (x y : PreparedSlot) → p i ≡ true → did t i x y
+        → (can_move (slot_of x) ≡ true → has moves i ≡ true) → can_move (slot_of y) ≡ true
+        → has moves' i ≡ true)
+        → ((i : ℕ) → p i ≡ false → has moves i ≡ true → has moves' i ≡ true)
+        → ArePlaces ends moves w (map kept_slot xs) → ArePlaces ends' moves' w (map kept_slot ys)
+    places-passed wide ends moves ends' moves' w query end left move idle all = record {
       wide = length-map ys kept_slot ∙ wide;
-      ends = λ i k at is. let y = kept-from ys i k at in
-          let f = visits-from allows did p xs ys s t v i y.0 y.1 in
-          let ends_y : is_ending (slot_of y.0) ≡ true = ap is_ending y.2 ∙ is in
-          elim f.2 [
-            | inl d ↦ end i f.0 y.0 d.0 d.1 (all.ends i (slot_of f.0) (there i f.0 f.1)) ends_y
-            | inr d ↦ left i d.0 (all.ends i (slot_of f.0) (there i f.0 f.1)
-                (ap (λ (q : PreparedSlot). is_ending (slot_of q)) d.1 ∙ ends_y))
-          ];
-      moves = λ i k at is. let y = kept-from ys i k at in
-          let f = visits-from allows did p xs ys s t v i y.0 y.1 in
-          let moves_y : can_move (slot_of y.0) ≡ true = ap can_move y.2 ∙ is in
-          elim f.2 [
-            | inl d ↦ move i f.0 y.0 d.0 d.1 moves_y
-            | inr d ↦ idle i d.0 (all.moves i (slot_of f.0) (there i f.0 f.1)
-                (ap (λ (q : PreparedSlot). can_move (slot_of q)) d.1 ∙ moves_y))
-          ];
-      watched = watched-from w (map kept_slot xs) (map kept_slot ys) (λ i k at.
-          let y = kept-from ys i k at in
-          let f = visits-from allows did p xs ys s t v i y.0 y.1 in (
+      ends = marked-passed is_ending ends ends' end left all.ends;
+      moves = marked-passed can_move moves moves' move idle all.moves;
+      watched = watched-from w (map kept_slot xs) (map kept_slot ys) (λ i k found.
+          let f = kept-from i k found in (
             slot_of f.0,
-            there i f.0 f.1,
-            (ap (λ (j : KeptSlot). j.held.query) (sym y.2)
-                ∙ elim f.2 [
-                  | inl d ↦ query i f.0 y.0 d.1
-                  | inr d ↦ ap (λ (q : PreparedSlot). q.sub.held.query) (sym d.1)
-                ]),
+            f.2,
+            ap (λ (j : KeptSlot). j.held.query) (sym f.3) ∙ elim f.4 [
+              | inl d ↦ query i f.0 f.1 d.1
+              | inr d ↦ ap (λ (q : PreparedSlot). q.sub.held.query) (sym d.1)
+            ],
           )) all.watched;
     }
-  where
-    kept-from : (zs : List (Option PreparedSlot)) (i : ℕ) (k : KeptSlot)
-        → slice_get (map kept_slot zs) i ≡ Some (Some k)
-        → (x : PreparedSlot) × (slice_get zs i ≡ Some (Some x)) × (slot_of x ≡ k)
-    kept-from zs i k at = by (slice_get zs i) refl (sym (slice_get-map kept_slot zs i) ∙ at)
-      where
-        by : (o : Option (Option PreparedSlot)) → slice_get zs i ≡ o
-            → option_map kept_slot o ≡ Some (Some k)
-            → (x : PreparedSlot) × (slice_get zs i ≡ Some (Some x)) × (slot_of x ≡ k)
-        by None was is = absurd (let no : ⊥ = cc in no)
-        by (Some None) was is = absurd (let no : ⊥ = cc in no)
-        by (Some (Some x)) was is = (x, was, let same : slot_of x ≡ k = cc in same)
-
-    there : (i : ℕ) (x : PreparedSlot) → slice_get xs i ≡ Some (Some x)
-        → slice_get (map kept_slot xs) i ≡ Some (Some (slot_of x))
-    there i x at = slice_get-map kept_slot xs i ∙ ap (option_map kept_slot) at
 
 -- ---- free places
 
@@ -101,16 +104,16 @@ pub places-none : (ends moves : ℕ) (w : Watch)
     → ArePlaces ends moves w (map kept_slot (replicate 64 None))
 places-none ends moves w = record {
   wide = refl;
-  ends = λ i k at is. absurd (free 64 i k at);
-  moves = λ i k at is. absurd (free 64 i k at);
-  watched = λ c i k at clear. absurd (free 64 i k at);
+  ends = λ i k found is. absurd (free 64 i k found);
+  moves = λ i k found is. absurd (free 64 i k found);
+  watched = λ c i k found clear. absurd (free 64 i k found);
 }
   where
     free : (n i : ℕ) (k : KeptSlot) → slice_get (map kept_slot (replicate n None)) i
         ≡ Some (Some k) → ⊥
-    free zero i k at = cc
-    free (suc n) zero k at = cc
-    free (suc n) (suc i) k at = free n i k at
+    free zero i k found = cc
+    free (suc n) zero k found = cc
+    free (suc n) (suc i) k found = free n i k found
 
 -- ---- one place
 
@@ -119,9 +122,9 @@ marked-set : (test : KeptSlot → Bool) (old new : ℕ) (ks : List (Option KeptS
     (o : Option KeptSlot) → ((i : ℕ) → i ≢ place → has new i ≡ has old i)
     → (passes test o ≡ true → has new place ≡ true) → IsMarked test old ks
     → IsMarked test new (slice_set ks place o)
-marked-set test old new ks place o others here marked i k at is =
-    elim (get-put ks place i o (Some k) at) [
-      | inl there ↦ ap (has new) there.0 ∙ here (ap (passes test) (sym there.1) ∙ is)
+marked-set test old new ks place o others here marked i k found is =
+    elim (get-put ks place i o (Some k) found) [
+      | inl there ↦ rw there.0 (here (rw (← there.1) is))
       | inr other ↦ others i other.0 ∙ marked i k other.1 is
     ]
 
@@ -139,46 +142,43 @@ places-set ends moves ends' moves' w w' ks place o others here others' here' wat
   watched = watched;
 }
 
--- what is at the place of a slot after something was done there
-pub acted-at : (does : KeptSlot → Answer × Option KeptSlot) (ks js : List (Option KeptSlot))
-    (place : ℕ) → js ≡ (outcome_in does ks place).1 → place < length ks
-    → option_flatten (slice_get js place)
-    ≡ (outcome_at does (option_flatten (slice_get ks place))).1
-acted-at does ks js place is lt = ap (λ hs. option_flatten (slice_get hs place)) is
-    ∙ ap option_flatten (get-set_in ks place _ lt)
-
 -- something was done at a place, and the sets have it again just if it is needed
-pub places-acted : (does : KeptSlot → Answer × Option KeptSlot) → KeepsQuery does
-    → (ends moves ends' moves' : ℕ) (w : Watch) (ks js : List (Option KeptSlot)) (place : ℕ)
-    → js ≡ (outcome_in does ks place).1 → place < 64
+pub places-acted : (does : KeptSlot → Answer × Option KeptSlot) → KeepsSub does
+    → (ends moves ends' moves' : ℕ) (w : Watch) (ks js : List (Option KeptSlot)) (r : Answer)
+    (index place : ℕ) → (r, js) ≡ outcome_in does ks index → index ≡ place → place < 64
     → ((i : ℕ) → i ≢ place → has ends' i ≡ has ends i)
-    → (passes is_ending (option_flatten (slice_get js place)) ≡ true → has ends' place ≡ true)
+    → (passes is_ending (option_flatten (slice_get js place)) ≡ true
+    → passes is_ending (outcome_at does (option_flatten (slice_get ks place))).1 ≡ true
+    → has ends' place ≡ true)
     → ((i : ℕ) → i ≢ place → has moves' i ≡ has moves i)
-    → (passes can_move (option_flatten (slice_get js place)) ≡ true → has moves' place ≡ true)
+    → (passes can_move (option_flatten (slice_get js place)) ≡ true
+    → passes can_move (outcome_at does (option_flatten (slice_get ks place))).1 ≡ true
+    → has moves' place ≡ true)
     → ArePlaces ends moves w ks → ArePlaces ends' moves' w js
-places-acted does keeps ends moves ends' moves' w ks js place is lt others here others' here' all =
+places-acted does keeps ends moves ends' moves' w ks js r index place did at lt others here others'
+    here' all =
     let o = (outcome_at does (option_flatten (slice_get ks place))).1 in
-    let there = acted-at does ks js place is (omega (arith, lt, all.wide)) in
-    subst (ArePlaces ends' moves' w) (sym is) (places-set ends moves ends' moves' w w ks place o
-    others (λ e. here (ap (passes is_ending) there ∙ e)) others'
-    (λ e. here' (ap (passes can_move) there ∙ e))
-    (subst (AreWatched w) is (watched-acted w does keeps ks js place is all.watched)) all)
+    let is : js ≡ slice_set ks place o =
+    ap (λ (p : Answer × List (Option KeptSlot)). p.1) (rw at at did) in
+    let left : option_flatten (slice_get js place) ≡ o =
+    rw is (ap option_flatten (get-set ks place o (omega (arith, lt, all.wide)))) in
+    rw is (places-set ends moves ends' moves' w w ks place o
+    others (λ e. here (ap (passes is_ending) left ∙ e) e)
+    others' (λ e. here' (ap (passes can_move) left ∙ e) e)
+    (rw is at (watched-acted w does keeps ks js place is all.watched)) all)
 
 -- after a read with its turn no slot is ending
 pub read-ends : (number : ℕ) (o : Option KeptSlot)
     → passes is_ending (outcome_at (read_turn number) o).1 ≡ false
 read-ends number None = refl
-read-ends number (Some k) = by (slice_get t.queue 0)
-  where
-    t : KeptSlot
-    t = filled (noticed number k)
-
-    still : is_ending t ≡ false
-    still = filled-ends (noticed number k) ∙ noticed-still number k
-
-    by : (o : Option Parcel) → passes is_ending (read_if t o).1 ≡ false
-    by None = still
-    by (Some p) = still
+read-ends number (Some k) =
+    let t : KeptSlot = filled (noticed number k) in
+    let still : is_ending t ≡ false = filled-ends (noticed number k) ∙ noticed-still number k in
+    elim (slice_get t.queue 0) as
+    (λ (o : Option Parcel). passes is_ending (read_if t o).1 ≡ false) [
+      | None ↦ still
+      | Some p ↦ still
+    ]
 
 -- after a close with its turn a slot isn't ending, and nothing can move into its port
 pub close-rests : (number : ℕ) (o : Option KeptSlot)
@@ -203,14 +203,10 @@ pub work-marked : (ends moves : ℕ) (w : Watch) (ks : List (Option KeptSlot)) (
     → (has ends place || has moves place) ≡ true
 work-marked ends moves w ks place all is = by (slice_get ks place) refl is
   where
-    taken : (k : KeptSlot) → slice_get ks place ≡ Some (Some k) → (x : Bool) → is_ending k ≡ x
-        → (x || can_move k) ≡ true → (has ends place || has moves place) ≡ true
-    taken k at true e works = or_left _ _ (all.ends place k at e)
-    taken k at false e works = or_right _ _ (all.moves place k at works)
-
     by : (o : Option (Option KeptSlot)) → slice_get ks place ≡ o
         → passes has_work (option_flatten o) ≡ true
         → (has ends place || has moves place) ≡ true
-    by None at works = absurd (let no : ⊥ = cc in no)
-    by (Some None) at works = absurd (let no : ⊥ = cc in no)
-    by (Some (Some k)) at works = taken k at (is_ending k) refl works
+    by None found works = cc
+    by (Some None) found works = cc
+    by (Some (Some k)) found works =
+        grind (arith, all.ends place k found, all.moves place k found)

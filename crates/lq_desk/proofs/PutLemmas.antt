@@ -1,21 +1,22 @@
--- Puts at one slot, and what they leave as it was.
-use Rattle.std.proofs.Common.{◌≡◌, ℕ, zero, suc, ◌+◌, ◌-◌, ◌≤◌, refl, ap, length, length-append, ◌∙◌, sym, arith, Some, None, Option, Bool, true, false}
-use Rattle.std.specs.Prelude.{◌&&◌, nat_lt, is_some, unwrap_or}
-use Rattle.std.proofs.lemmas.Bool.{and_parts, ltb-true}
-use Rattle.lq_update.specs.declared.parcel.Parcel.{Parcel}
-use Rattle.lq_update.specs.declared.parcel.Parcel.TheVariants.{Update, Fin}
+-- Puts, notices and acts at one slot, and what they leave as it was.
+use Rattle.std.proofs.Common.{◌≡◌, ℕ, zero, suc, ◌+◌, ◌≤◌, refl, ap, length, length-append, ◌∙◌, arith, Some, None, Option, Bool, true, false, inl, inr}
+use Rattle.std.specs.Option.{option_map}
+use Rattle.std.proofs.lemmas.Bool.{both_ways, cases_Bool}
+use Rattle.std.proofs.lemmas.Bool.Decides.{nat_tests}
+use Rattle.lq_desk_world.specs.declared.event.Act.{Act}
+use Rattle.lq_desk_world.specs.declared.event.Act.TheVariants as act
 use Rattle.lq_desk_world.specs.Events.{Answer, Moved}
-use Rattle.lq_desk_sub.specs.Held.{next_parcel}
-use Rattle.lq_desk.specs.Slot.{KeptSlot, put_if, put_slot, after_put, after_puts, can_move, filled, is_ending}
+use Rattle.lq_desk.specs.Slot.{KeptSlot, put_slot, close_slot, after_put, after_puts, can_move, filled, is_ending, noticed}
+use Rattle.lq_desk.specs.Act.{act_of, close_turn, read_turn}
 
 -- a put leaves the slot taken
 pub put-some : (k : KeptSlot) → (put_slot k).1 ≡ Some (after_put k)
-put-some k = by (nat_lt (length k.queue) k.port) (next_parcel k.held)
-  where
-    by : (x : Bool) (o : Option Parcel) → (put_if k x o).1 ≡ Some (unwrap_or (put_if k x o).1 k)
-    by true (Some p) = refl
-    by true None = refl
-    by false o = refl
+put-some k = grind arith
+
+-- what a put answers and leaves
+pub put-did : (k l : KeptSlot) (was : Bool) → (Moved was, Some l) ≡ put_slot k
+    → (l ≡ after_put k) × (was ≡ can_move k)
+put-did k l was does = grind arith
 
 -- what a put leaves
 pub record Keeps (k l : KeptSlot) : Type 0 where
@@ -28,44 +29,16 @@ pub record Keeps (k l : KeptSlot) : Type 0 where
 -- a put keeps the query, the number of messages made, the mark, the port and whether the end was
 -- asked for
 put-keeps : (k : KeptSlot) → Keeps k (after_put k)
-put-keeps k = by (nat_lt (length k.queue) k.port) (next_parcel k.held)
-  where
-    by : (x : Bool) (o : Option Parcel) → Keeps k (unwrap_or (put_if k x o).1 k)
-    by true (Some (Update m)) =
-        record { query = refl; sent = refl; mark = refl; port = refl; hang_up_asked = refl }
-    by true (Some (Fin m)) =
-        record { query = refl; sent = refl; mark = refl; port = refl; hang_up_asked = refl }
-    by true None =
-        record { query = refl; sent = refl; mark = refl; port = refl; hang_up_asked = refl }
-    by false o =
-        record { query = refl; sent = refl; mark = refl; port = refl; hang_up_asked = refl }
+put-keeps k = grind arith
 
 -- and so do several
 pub puts-keep : (n : ℕ) (k : KeptSlot) → Keeps k (after_puts n k)
-puts-keep zero k =
-    record { query = refl; sent = refl; mark = refl; port = refl; hang_up_asked = refl }
-puts-keep (suc n) k =
-    let rest = puts-keep n (after_put k) in
-    let here = put-keeps k in
-    record {
-      query = rest.query ∙ here.query;
-      sent = rest.sent ∙ here.sent;
-      mark = rest.mark ∙ here.mark;
-      port = rest.port ∙ here.port;
-      hang_up_asked = rest.hang_up_asked ∙ here.hang_up_asked;
-    }
-
--- ---- a put that moves nothing
+puts-keep zero k = grind arith
+puts-keep (suc n) k = grind (arith, puts-keep n (after_put k), put-keeps k)
 
 -- a put that can't move a parcel leaves the slot
-pub put-quiet : (k : KeptSlot) → can_move k ≡ false → after_put k ≡ k
-put-quiet k still = by (nat_lt (length k.queue) k.port) (next_parcel k.held) still
-  where
-    by : (x : Bool) (o : Option Parcel) → (x && is_some o) ≡ false
-        → unwrap_or (put_if k x o).1 k ≡ k
-    by true (Some p) still = absurd (let no : ⊥ = cc in no)
-    by true None still = refl
-    by false o still = refl
+put-quiet : (k : KeptSlot) → can_move k ≡ false → after_put k ≡ k
+put-quiet k still = grind arith
 
 -- and so do several
 pub puts-quiet : (n : ℕ) (k : KeptSlot) → can_move k ≡ false → after_puts n k ≡ k
@@ -76,92 +49,82 @@ puts-quiet (suc n) k still = ap (after_puts n) (put-quiet k still) ∙ puts-quie
 pub filled-quiet : (k : KeptSlot) → can_move k ≡ false → filled k ≡ k
 filled-quiet k still = puts-quiet k.port k still
 
--- what a put answers
-pub put-says : (k : KeptSlot) → (put_slot k).0 ≡ Moved (can_move k)
-put-says k = by (nat_lt (length k.queue) k.port) (next_parcel k.held)
-  where
-    by : (x : Bool) (o : Option Parcel) → (put_if k x o).0 ≡ Moved (x && is_some o)
-    by true (Some p) = refl
-    by true None = refl
-    by false o = refl
+-- a put makes no queue shorter, and one longer if it moves a parcel
+pub put-longer : (k : KeptSlot) → (length k.queue ≤ length (after_put k).queue)
+    × (can_move k ≡ true → length (after_put k).queue ≡ length k.queue + 1)
+put-longer k = grind (arith, length-append)
 
--- ---- a put that moves a parcel
-
--- a put that moves a parcel makes the queue one longer
-pub one-longer : (k : KeptSlot) → can_move k ≡ true
-    → length (after_put k).queue ≡ length k.queue + 1
-one-longer k moves = by (nat_lt (length k.queue) k.port) (next_parcel k.held) moves
-  where
-    by : (x : Bool) (o : Option Parcel) → (x && is_some o) ≡ true
-        → length (unwrap_or (put_if k x o).1 k).queue ≡ length k.queue + 1
-    by true (Some p) moves = length-append k.queue _
-    by true None moves = absurd (let no : ⊥ = cc in no)
-    by false o moves = absurd (let no : ⊥ = cc in no)
+-- several puts make no queue shorter
+pub puts-longer : (n : ℕ) (k : KeptSlot) → length k.queue ≤ length (after_puts n k).queue
+puts-longer zero k = omega arith
+puts-longer (suc n) k = omega (arith, (put-longer k).0, puts-longer n (after_put k))
 
 -- where something can move after puts, each of them moved a parcel
 puts-move : (n : ℕ) (k : KeptSlot) → can_move (after_puts n k) ≡ true
     → length (after_puts n k).queue ≡ length k.queue + n
 puts-move zero k moves = omega arith
-puts-move (suc n) k moves = by (can_move k) refl (puts-move n (after_put k) moves)
-  where
-    by : (x : Bool) → can_move k ≡ x
-        → length (after_puts n (after_put k)).queue ≡ length (after_put k).queue + n
-        → length (after_puts n (after_put k)).queue ≡ length k.queue + suc n
-    by true is rest = omega (arith, rest, one-longer k is)
-    by false is rest = absurd (let stays = puts-quiet (suc n) k is in
-        let no : true ≡ false = sym moves ∙ (ap can_move stays ∙ is) in cc)
+puts-move (suc n) k moves = elim (cases_Bool (can_move k)) [
+  | inl is ↦ omega (arith, puts-move n (after_put k) moves, (put-longer k).1 is)
+  | inr is ↦ absurd (both_ways (can_move k) is (rw (puts-quiet (suc n) k is) at moves))
+]
 
 -- nothing moves in a full port
 pub filled-still : (k : KeptSlot) → can_move (filled k) ≡ false
-filled-still k = by (can_move (filled k)) refl
-  where
-    by : (x : Bool) → can_move (filled k) ≡ x → can_move (filled k) ≡ false
-    by false is = is
-    by true is =
-        absurd (let room = ltb-true (length (filled k).queue) (filled k).port (and_parts (nat_lt
-        (length (filled k).queue) (filled k).port) (is_some (next_parcel (filled k).held)) is).0 in
-        omega (arith, room, puts-move k.port k is, (puts-keep k.port k).port))
+filled-still k = grind (arith, nat_tests, puts-move k.port k, (puts-keep k.port k).port)
 
 -- puts don't alter whether a slot is ending
 pub filled-ends : (k : KeptSlot) → is_ending (filled k) ≡ is_ending k
-filled-ends k = let keeps = puts-keep k.port k in rw (keeps.mark, keeps.hang_up_asked) refl
+filled-ends k = let keeps = puts-keep k.port k in rw (keeps.mark, keeps.hang_up_asked)
 
--- ---- puts one after another
+-- ---- notices
 
--- a put after several is one more of them
-pub puts-more : (n : ℕ) (k : KeptSlot) → after_put (after_puts n k) ≡ after_puts (n + 1) k
-puts-more n k = by n k ∙ ap (λ m. after_puts m k) (let e : suc n ≡ n + 1 = omega arith in e)
+-- a notice keeps the query, the number of messages made, the port and what is in it
+pub noticed-keeps : (n : ℕ) (k : KeptSlot) → ((noticed n k).held.query ≡ k.held.query)
+    × ((noticed n k).held.sent ≡ k.held.sent) × ((noticed n k).port ≡ k.port)
+    × ((noticed n k).queue ≡ k.queue)
+noticed-keeps n k = grind arith
+
+-- a notice leaves a slot whose end wasn't asked for, or that has ended
+pub noticed-quiet : (n : ℕ) (k : KeptSlot) → is_ending k ≡ false → noticed n k ≡ k
+noticed-quiet n k is = grind arith
+
+-- after a notice a slot isn't ending
+pub noticed-still : (n : ℕ) (k : KeptSlot) → is_ending (noticed n k) ≡ false
+noticed-still n k = grind arith
+
+-- ---- acts
+
+-- what is in a slot after this was done there has the query that was there, and made as many
+-- messages
+abbrev pub KeepsSub : (KeptSlot → Answer × Option KeptSlot) → Type 0
+KeepsSub does = (k j : KeptSlot) → (does k).1 ≡ Some j
+    → (j.held.query ≡ k.held.query) × (j.held.sent ≡ k.held.sent)
+
+-- an act
+pub act-keeps : (number : ℕ) (a : Act) → KeepsSub (act_of number a)
+act-keeps number a k j is = grind arith
+
+-- a read with its turn
+pub read_turn-keeps : (number : ℕ) → KeepsSub (read_turn number)
+read_turn-keeps number k j is =
+    let u = noticed number k in
+    let read = act-keeps number act.Take (filled u) j is in
+    let puts = puts-keep u.port u in
+    let notice = noticed-keeps number k in
+    (read.0 ∙ (puts.query ∙ notice.0), read.1 ∙ (puts.sent ∙ notice.1))
+
+-- a close with its turn
+pub close_turn-keeps : (number : ℕ) → KeepsSub (close_turn number)
+close_turn-keeps number k j is = by (close_slot number (noticed number k)).1 refl is
   where
-    by : (n : ℕ) (k : KeptSlot) → after_put (after_puts n k) ≡ after_puts (suc n) k
-    by zero k = refl
-    by (suc n) k = by n (after_put k)
-
--- puts one after another are as many together
-puts-join : (m n : ℕ) (k : KeptSlot) → after_puts (m + n) k ≡ after_puts n (after_puts m k)
-puts-join zero n k = ap (λ i. after_puts i k) (let e : zero + n ≡ n = omega arith in e)
-puts-join (suc m) n k = ap (λ i. after_puts i k)
-    (let e : suc m + n ≡ suc (m + n) = omega arith in e) ∙ puts-join m n (after_put k)
-
--- once one moves nothing, so do those after it
-pub puts-end : (m n : ℕ) (k : KeptSlot) → m ≤ n → can_move (after_puts m k) ≡ false
-    → after_puts m k ≡ after_puts n k
-puts-end m n k le still =
-    let e : m + (n - m) ≡ n = omega (arith, le) in
-    sym (ap (λ i. after_puts i k) (sym e)
-    ∙ (puts-join m (n - m) k ∙ puts-quiet (n - m) (after_puts m k) still))
-
--- from what a put answers and leaves
-pub put-leaves : (k l : KeptSlot) (was : Bool) → (Moved was, Some l) ≡ put_slot k → l ≡ after_put k
-put-leaves k l was does =
-    let some : Some l ≡ Some (after_put k) =
-    ap (λ (p : Answer × Option KeptSlot). p.1) does ∙ put-some k in
-    ap (λ (o : Option KeptSlot). unwrap_or o k) some
-
--- where a put moved nothing, nothing can move
-pub put-stuck : (k l : KeptSlot) (was : Bool) → (Moved was, Some l) ≡ put_slot k → was ≡ false
-    → can_move k ≡ false
-put-stuck k l was does none =
-    let says : Moved was ≡ Moved (can_move k) =
-    ap (λ (p : Answer × Option KeptSlot). p.0) does ∙ put-says k in
-    let same : was ≡ can_move k = cc in
-    sym same ∙ none
+    by : (o : Option KeptSlot) → (close_slot number (noticed number k)).1 ≡ o
+        → option_map filled o ≡ Some j
+        → (j.held.query ≡ k.held.query) × (j.held.sent ≡ k.held.sent)
+    by None was is = cc
+    by (Some t) was is =
+        let same : filled t ≡ j = cc in
+        let close = act-keeps number act.Close (noticed number k) t was in
+        let puts = puts-keep t.port t in
+        let notice = noticed-keeps number k in
+        rw (← same)
+        (puts.query ∙ (close.0 ∙ notice.0), puts.sent ∙ (close.1 ∙ notice.1))

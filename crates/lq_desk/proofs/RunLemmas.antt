@@ -1,5 +1,5 @@
 -- Runs of a world, joined.
-use Rattle.std.proofs.Common.{◌≡◌, List, [], ◌∷◌, ◌++◌, refl, ap, subst, map, length, suc, inl}
+use Rattle.std.proofs.Common.{◌≡◌, List, [], ◌∷◌, ◌++◌, refl, ap, length, suc, inl}
 use Rattle.lq_desk_world.specs.World.{World}
 use Rattle.lq_desk_world.specs.declared.event.Event.{Event}
 use Rattle.lq_desk_world.specs.Events.{Answer, answer, next, outcome}
@@ -10,8 +10,7 @@ use Rattle.lq_desk_world.specs.Turns.{after_events}
 pub run-join : (w mid v : World) (events : List Event) (answers : List Answer)
     (more : List Event) (others : List Answer) → Run w events answers mid → Run mid more others v
     → Run w (events ++ more) (answers ++ others) v
-run-join w mid v [] [] more others run rest =
-    subst (λ (u : World). Run u more others v) run rest
+run-join w mid v [] [] more others run rest = rw (← run) rest
 run-join w mid v [] (b ∷ answers) more others run rest = absurd run
 run-join w mid v (f ∷ events) [] more others run rest = absurd run
 run-join w mid v (f ∷ events) (b ∷ answers) more others run rest =
@@ -31,9 +30,3 @@ run-along w [] = ([], refl, refl)
 run-along w (e ∷ events) =
     let rest = run-along (next w e) events in
     (answer w e ∷ rest.0, ap suc rest.1, (next w e, inl (refl, refl), rest.2))
-
--- the lists of the loop
-pub map-more : {A B : Type 0} (f : A → B) (xs : List A) (x : A)
-    → map f (xs ++ x ∷ []) ≡ map f xs ++ f x ∷ []
-map-more f [] x = refl
-map-more f (y ∷ xs) x = ap (λ zs. f y ∷ zs) (map-more f xs x)

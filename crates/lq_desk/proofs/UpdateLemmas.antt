@@ -1,7 +1,7 @@
 -- What a change does to an update list.
-use Rattle.std.proofs.Common.{◌≡◌, ℕ, zero, suc, ◌+◌, ◌-◌, ◌≤◌, List, [], ◌∷◌, ◌++◌, refl, ap, take, drop, length, ◌∙◌, arith, append-nil, length-drop}
+use Rattle.std.proofs.Common.{◌≡◌, ℕ, ◌+◌, ◌-◌, ◌≤◌, List, [], ◌∷◌, ◌++◌, refl, ap, take, drop, length, ◌∙◌, sym, arith, append-nil, length-drop}
 use Rattle.std.specs.Prelude.{Bool}
-use Rattle.std.proofs.lemmas.List.{drop-append-le, take-append-le, take_all}
+use Rattle.std.proofs.lemmas.List.{drop-append-le, take-append-drop, take-append-le, take_all}
 use Rattle.lq_predicate.specs.Query.{Query}
 use Rattle.lq_volume.specs.declared.change.Change.{Change as Change_}
 use Rattle.lq_volume.specs.State.{State}
@@ -24,13 +24,6 @@ pub number-all : ChangesCount → (s : State) (cs : List Change_)
 number-all count s [] = omega arith
 number-all count s (c ∷ cs) = omega (arith, number-all count (after s c) cs, count s c)
 
--- changes, split at a number
-after_all-split : (s : State) (n : ℕ) (cs : List Change_)
-    → after_all (after_all s (take n cs)) (drop n cs) ≡ after_all s cs
-after_all-split s zero cs = refl
-after_all-split s (suc n) [] = refl
-after_all-split s (suc n) (c ∷ cs) = after_all-split (after s c) n cs
-
 -- more changes at a book's end leave the updates up to a number of the book
 pub updates_of-stays : (q : Query) (moved : Bool) (b : Book) (cs : List Change_) (m n : ℕ)
     → b.start.number ≤ m → m ≤ n → n ≤ number_of b
@@ -39,24 +32,20 @@ updates_of-stays q moved b cs m n begun order within =
     let k = m - b.start.number in
     let inside : k ≤ length b.changes = omega arith in
     let between : n - m ≤ length (drop k b.changes) = omega (arith, length-drop k b.changes) in
-    ap (λ ds. updates_from q moved (after_all b.start ds)
-    (take (n - m) (drop k (b.changes ++ cs))) 1) (take-append-le k b.changes cs inside)
-    ∙ (ap (λ ds. updates_from q moved (state_at b m) (take (n - m) ds) 1)
-    (drop-append-le k b.changes cs inside)
-    ∙ ap (λ ds. updates_from q moved (state_at b m) ds 1)
-    (take-append-le (n - m) (drop k b.changes) cs between))
-
--- the update list up to the book's end, without its upper bound
-abbrev pub from_opening : Query → Bool → Book → ℕ → List Message
-from_opening q moved b m =
-    updates_from q moved (state_at b m) (drop (m - b.start.number) b.changes) 1
+    rw (
+      take-append-le k b.changes cs inside,
+      drop-append-le k b.changes cs inside,
+      take-append-le (n - m) (drop k b.changes) cs between,
+    )
 
 -- an update list up to the book's number is all since the opening
-pub whole-from : (q : Query) (moved : Bool) (b : Book) (m : ℕ)
-    → updates_of q moved b m (number_of b) ≡ from_opening q moved b m
+whole-from : (q : Query) (moved : Bool) (b : Book) (m : ℕ) → updates_of q moved b m (number_of b)
+    ≡ updates_from q moved (state_at b m) (drop (m - b.start.number) b.changes) 1
 whole-from q moved b m =
-    ap (λ cs. updates_from q moved (state_at b m) cs 1) (take_all (number_of b - m) (drop
-    (m - b.start.number) b.changes) (omega (arith, length-drop (m - b.start.number) b.changes)))
+    let k = m - b.start.number in
+    let all : length (drop k b.changes) ≤ number_of b - m =
+    omega (arith, length-drop k b.changes) in
+    rw (take_all (number_of b - m) (drop k b.changes) all)
 
 -- one more change adds what it tells, and nothing else
 pub updates_of-change : UpdatesJoin → (q : Query) (moved : Bool) (b : Book) (c : Change_) (m : ℕ)
@@ -65,22 +54,21 @@ pub updates_of-change : UpdatesJoin → (q : Query) (moved : Bool) (b : Book) (c
     ≡ updates_of q moved b m (number_of b)
     ++ step_of q moved (state_of b) c (length (updates_of q moved b m (number_of b)) + 1)
 updates_of-change join q moved b c m opened =
-    rw (whole-from q moved (grown b (c ∷ [])) m, whole-from q moved b m) from-change
-  where
-    from-change : from_opening q moved (grown b (c ∷ [])) m ≡ from_opening q moved b m
-        ++ step_of q moved (state_of b) c (length (from_opening q moved b m) + 1)
-    from-change =
-        let k = m - b.start.number in
-        let s = after_all b.start (take k b.changes) in
-        let past = drop k b.changes in
-        let inside : k ≤ length b.changes = omega arith in
-        ap (λ cs. updates_from q moved (after_all b.start cs) (drop k (b.changes ++ c ∷ [])) 1)
-        (take-append-le k b.changes (c ∷ []) inside)
-        ∙ (ap (λ cs. updates_from q moved s cs 1) (drop-append-le k b.changes (c ∷ []) inside)
-        ∙ (join q moved s past (c ∷ []) 1
-        ∙ (ap (λ xs. updates_from q moved s past 1 ++ xs) (append-nil _
-        ∙ (ap (λ t. step_of q moved t c (1 + length (updates_from q moved s past 1)))
-        (after_all-split b.start k b.changes)
-        ∙ ap (λ n. step_of q moved (state_of b) c n)
-        (let e : 1 + length (updates_from q moved s past 1)
-        ≡ length (updates_from q moved s past 1) + 1 = omega arith in e))))))
+    let k = m - b.start.number in
+    let past = drop k b.changes in
+    let told : List Message = updates_from q moved (state_at b m) past 1 in
+    let inside : k ≤ length b.changes = omega arith in
+    let split : after_all (state_at b m) past ≡ state_of b =
+    sym (after_all-append b.start (take k b.changes) past)
+    ∙ ap (after_all b.start) (take-append-drop k b.changes) in
+    let next : 1 + length told ≡ length told + 1 = omega arith in
+    rw (
+      whole-from q moved (grown b (c ∷ [])) m,
+      whole-from q moved b m,
+      take-append-le k b.changes (c ∷ []) inside,
+      drop-append-le k b.changes (c ∷ []) inside,
+      join q moved (state_at b m) past (c ∷ []) 1,
+      split,
+      next,
+    )
+    (ap (λ ms. told ++ ms) (append-nil _))

@@ -1,15 +1,6 @@
-use Rattle.std.proofs.Common.{refl}
 use Rattle.std.specs.Int.{w64}
 use Rattle.std.proofs.lemmas.Nat.Bits.{bit_at_set_other, bit_at_set_same}
 use Rattle.lq_desk.proofs.bits.with_bit.Goals as goal
-
-pub returns-then-not-is_set : goal.returns-then-not-is_set
-returns-then-not-is_set c =
-    record {
-      here = λ is. absurd (let set = c.if-not-is_set.true in let no : ⊥ = cc in no);
-      none = λ is. refl;
-      same = λ i other. refl;
-    }
 
 pub returns : goal.returns
 returns c = record {

@@ -1,25 +1,21 @@
-use Rattle.std.proofs.Common.{◌+◌, ap, subst, arith, map}
+use Rattle.std.proofs.Common.{◌+◌, ap, arith, map}
 use Rattle.std.proofs.lemmas.List.{length-map}
-use Rattle.lq_desk.specs.Words.{SetsBit}
-use Rattle.lq_desk.proofs.ParcelLemmas.{clear-more, kept-item, marks-all, marks-more}
-use Rattle.lq_desk.proofs.SlotsLemmas.{kept_slot}
+use Rattle.lq_desk.proofs.ParcelLemmas.{marks-all, marks-more}
+use Rattle.lq_desk.proofs.SlotsLemmas.{kept-item, kept_slot}
 use Rattle.lq_desk.proofs.slot_list.parcels_in.Goals as goal
 
 pub loop-slot-preserved : goal.loop-slot-preserved
 loop-slot-preserved c =
     let l = c.loop-slot in
-    let sets = subst (λ place. SetsBit l.word place c.has_parcel_at.result c.with_bit-word.result)
-    l.invariant.place c.with_bit-word.ensures in
     record {
       place = ap (λ n. n + 1) l.invariant.place;
       fits = c.with_bit-word.type_inv;
-      done = marks-more (map kept_slot c.args.slots.now) l.slot-index l.word
+      marks = marks-more (map kept_slot c.args.slots.now) l.slot-index l.word
           c.with_bit-word.result _ c.has_parcel_at.result
           (kept-item c.args.slots.now l.slot-index c.slot-item.result c.loop-slot-test.true
           c.slot-item.is)
-          c.has_parcel_at.ensures sets l.invariant.done l.invariant.clear;
-      clear = clear-more l.slot-index l.word c.with_bit-word.result c.has_parcel_at.result sets
-          l.invariant.clear;
+          c.has_parcel_at.ensures (rw l.invariant.place at c.with_bit-word.ensures)
+          l.invariant.marks;
     }
 
 pub returns : goal.returns
@@ -27,4 +23,4 @@ returns c =
     let l = c.loop-slot in
     marks-all (map kept_slot c.args.slots.now) l.slot-index l.word
     (omega (arith, c.loop-slot-test.false, length-map c.args.slots.now kept_slot))
-    l.invariant.done l.invariant.clear
+    l.invariant.marks

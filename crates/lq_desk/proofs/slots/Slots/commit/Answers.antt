@@ -1,22 +1,17 @@
-use Rattle.std.proofs.Common.{◌∙◌, ◌^◌, ◌-◌, List, Option, map, ap, subst, sym}
-use Rattle.std.specs.List.{AllByRecursion}
-use Rattle.std.specs.Option.{option_map}
+use Rattle.std.proofs.Common.{◌∙◌, ap, sym}
 use Rattle.std.proofs.lemmas.Bool.{or_left, or_right}
-use Rattle.lq_desk.specs.DeskState.{IsFew}
 use Rattle.lq_desk.specs.Slot.{PreparedSlot, is_ending, slot_after, slot_of}
-use Rattle.lq_desk.specs.Words.{AreReady}
+use Rattle.lq_desk.proofs.FewLemmas.{few-there}
 use Rattle.lq_desk.proofs.MarkLemmas.{places-passed}
 use Rattle.lq_desk.proofs.PassLemmas.{visits-map}
 use Rattle.lq_desk.proofs.ReadyLemmas.{committed-after, none-after}
-use Rattle.lq_desk.proofs.SlotsLemmas.{committed-ends, few-there, kept_slot}
+use Rattle.lq_desk.proofs.SlotsLemmas.{committed-ends}
 use Rattle.lq_desk.proofs.WatchLemmas.{committed-query}
 use Rattle.lq_desk.proofs.slots.Slots.commit.Goals as goal
 
 pub visit_in-requires-clause-allowed : goal.visit_in-requires-clause-allowed
-visit_in-requires-clause-allowed c i x set at =
-    few-there c.self.inside.places.items i x (subst (λ (zs : List (Option PreparedSlot)).
-    AllByRecursion (IsFew (2 ^ 63 - 1)) (map kept_slot zs)) (sym c.self.view_is)
-    c.requires.few) at
+visit_in-requires-clause-allowed c i x set found =
+    few-there c.self.inside.places.items i x (rw c.self.view_is c.requires.few) found
 
 pub invariant_of-self : goal.invariant_of-self
 invariant_of-self c =
@@ -27,16 +22,15 @@ invariant_of-self c =
     (λ i x y set d was is. was (committed-ends x
     (ap (λ (p : PreparedSlot). is_ending (slot_of p)) (sym d) ∙ is)))
     (λ i none is. is)
-    (λ i x y set d is. u i ∙ or_right _ _ set)
+    (λ i x y set d was is. u i ∙ or_right _ _ set)
     (λ i none is. u i ∙ or_left _ _ is) c.self.invariant
 
 pub returns : goal.returns
 returns c s change ready =
     let xs = c.self.inside.places.items in
-    let are = subst (AreReady s change c.args.told.word) (sym c.self.view_is) ready in
-    visits-map _ _ _ xs _ _ _ c.visit_in.ensures.visits slot_of (slot_after s change)
-    (λ i x y at set d. ap slot_of d
-    ∙ committed-after s change x (λ live. (are i x at live).some set))
-    (λ i x at none. none-after s change x (λ live. (are i x at live).none none))
-    ∙ ap (λ (zs : List (Option PreparedSlot)).
-    map (option_map (slot_after s change)) (map kept_slot zs)) c.self.view_is
+    let are = rw (← c.self.view_is) at ready in
+    rw (← c.self.view_is)
+    (visits-map _ _ _ xs _ _ _ c.visit_in.ensures.visits slot_of (slot_after s change)
+    (λ i x y found set d. ap slot_of d
+    ∙ committed-after s change x (λ live. (are i x found live).some set))
+    (λ i x found none. none-after s change x (λ live. (are i x found live).none none)))

@@ -1,19 +1,15 @@
-use Rattle.std.proofs.Common.{◌∙◌, ◌^◌, ◌-◌, List, Option, map, ap, subst, sym}
-use Rattle.std.specs.List.{AllByRecursion}
-use Rattle.std.specs.Option.{option_map}
+use Rattle.std.proofs.Common.{◌∙◌, ap, sym}
 use Rattle.std.proofs.lemmas.Bool.{both_ways, or_left, or_right}
-use Rattle.lq_desk.specs.DeskState.{IsFew}
-use Rattle.lq_desk.specs.Slot.{KeptSlot, PreparedSlot, is_ending, noticed, slot_of}
+use Rattle.lq_desk.specs.Slot.{KeptSlot, is_ending, noticed, slot_of}
+use Rattle.lq_desk.proofs.FewLemmas.{few-there}
 use Rattle.lq_desk.proofs.MarkLemmas.{places-passed, unmarked}
 use Rattle.lq_desk.proofs.PassLemmas.{visits-map}
-use Rattle.lq_desk.proofs.SlotsLemmas.{few-there, kept_slot, noticed-quiet, noticed-still}
-use Rattle.lq_desk.proofs.WatchLemmas.{noticed-query}
+use Rattle.lq_desk.proofs.PutLemmas.{noticed-keeps, noticed-quiet, noticed-still}
 use Rattle.lq_desk.proofs.slots.Slots.notice_all.Goals as goal
 
 pub visit_in-requires-clause-allowed : goal.visit_in-requires-clause-allowed
-visit_in-requires-clause-allowed c i x set at =
-    few-there c.self.inside.places.items i x (subst (λ (zs : List (Option PreparedSlot)).
-    AllByRecursion (IsFew (2 ^ 63 - 1)) (map kept_slot zs)) (sym c.self.view_is) c.requires) at
+visit_in-requires-clause-allowed c i x set found =
+    few-there c.self.inside.places.items i x (rw c.self.view_is c.requires) found
 
 pub invariant_of-self : goal.invariant_of-self
 invariant_of-self c =
@@ -21,19 +17,17 @@ invariant_of-self c =
     let u = c.union-self-inside.ensures in
     places-passed _ _ _ c.self.inside.places.items _ _ _ c.visit_in.ensures.visits
     c.visit_in.ensures.wide _ _ _ _ c.self.inside.watch
-    (λ i x y d. ap (λ (k : KeptSlot). k.held.query) d ∙ noticed-query n (slot_of x))
+    (λ i x y d. ap (λ (k : KeptSlot). k.held.query) d ∙ (noticed-keeps n (slot_of x)).0)
     (λ i x y set d was is. absurd (both_ways _ (noticed-still n (slot_of x))
     (ap is_ending (sym d) ∙ is)))
     (λ i none is. absurd (both_ways _ none is))
-    (λ i x y set d is. u i ∙ or_right _ _ set)
+    (λ i x y set d was is. u i ∙ or_right _ _ set)
     (λ i none is. u i ∙ or_left _ _ is) c.self.invariant
 
 pub returns : goal.returns
 returns c =
     let n = c.args.number in
     let xs = c.self.inside.places.items in
-    visits-map _ _ _ xs _ _ _ c.visit_in.ensures.visits slot_of (noticed n) (λ i x y at set d. d)
-    (λ i x at none. sym (noticed-quiet n (slot_of x)
-    (unmarked is_ending _ xs i x c.self.invariant.ends at none)))
-    ∙ ap (λ (zs : List (Option PreparedSlot)). map (option_map (noticed n)) (map kept_slot zs))
-    c.self.view_is
+    rw (← c.self.view_is) (visits-map _ _ _ xs _ _ _ c.visit_in.ensures.visits slot_of (noticed n)
+    (λ i x y found set d. d) (λ i x found none. sym (noticed-quiet n (slot_of x)
+    (unmarked is_ending _ xs i x c.self.invariant.ends found none))))

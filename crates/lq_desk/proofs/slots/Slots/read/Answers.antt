@@ -1,63 +1,39 @@
-use Rattle.std.proofs.Common.{◌∙◌, ◌^◌, ◌-◌, List, Option, map, ap, arith, refl, subst, sym}
-use Rattle.std.specs.List.{AllByRecursion}
+use Rattle.std.proofs.Common.{◌∙◌, map, refl}
 use Rattle.std.specs.Option.{option_flatten}
 use Rattle.std.specs.Prelude.{slice_get}
 use Rattle.std.proofs.lemmas.Bool.{both_ways}
 use Rattle.std.proofs.lemmas.List.{length-map}
-use Rattle.lq_desk_world.specs.Events.{Answer}
-use Rattle.lq_desk.specs.Act.{read_turn, outcome_in, outcome_of}
-use Rattle.lq_desk.specs.DeskState.{IsFew}
-use Rattle.lq_desk.specs.Slot.{KeptSlot, PreparedSlot, can_move, has_work, is_ending, passes}
-use Rattle.lq_desk.proofs.MarkLemmas.{acted-at, places-acted, read-ends, work-marked}
-use Rattle.lq_desk.proofs.PlaceLemmas.{of-in, of-past}
-use Rattle.lq_desk.proofs.SlotsLemmas.{kept_slot}
-use Rattle.lq_desk.proofs.WatchLemmas.{read_turn-query}
+use Rattle.lq_desk.specs.Act.{read_turn}
+use Rattle.lq_desk.proofs.MarkLemmas.{places-acted, read-ends, work-marked}
+use Rattle.lq_desk.proofs.PutLemmas.{read_turn-keeps}
+use Rattle.lq_desk.proofs.SlotsLemmas.{kept_slot, of-past, of-seen}
 use Rattle.lq_desk.proofs.slots.Slots.read.Goals as goal
 
 pub returns-in_default : goal.returns-in_default
-returns-in_default c =
-    let xs = c.args.self.now in
-    of-past (read_turn c.args.number) (map kept_slot xs) c.args.slot
-    (length-map xs kept_slot ∙ c.index_of.ensures.wide) c.in_default.ensures.index
+returns-in_default c = of-past (read_turn c.args.number) _ c.args.slot
+    (length-map c.args.self.now kept_slot ∙ c.index_of.ensures.wide) c.in_default.ensures.index
 
 pub read_in-reply-requires-clause-few : goal.read_in-reply-requires-clause-few
-read_in-reply-requires-clause-few c = subst (λ (zs : List (Option PreparedSlot)).
-    AllByRecursion (IsFew (2 ^ 63 - 1)) (map kept_slot zs)) (sym c.self.view_is) c.requires
+read_in-reply-requires-clause-few c = rw c.self.view_is c.requires
 
 pub returns : goal.returns
-returns c =
-    let does = read_turn c.args.number in
-    c.read_in-reply.ensures
-    ∙ (ap (outcome_in does (map kept_slot c.self.inside.places.items)) c.place.ensures.value
-    ∙ (of-in does _ c.args.slot c.in-Some.index.place c.in-Some.ensures.index
-    ∙ ap (λ (zs : List (Option PreparedSlot)). outcome_of does (map kept_slot zs) c.args.slot)
-    c.self.view_is))
+returns c = of-seen (read_turn c.args.number) _ _ c.args.slot _ _ _ c.read_in-reply.ensures
+    c.place.ensures.value c.in-Some.ensures.index c.self.view_is
 
 pub invariant_of-self : goal.invariant_of-self
 invariant_of-self c =
-    let does = read_turn c.args.number in
     let ks = map kept_slot c.self.inside.places.items in
-    let js = map kept_slot c.read_in-reply.new.slots.items in
-    let place = c.in-Some.index.place in
-    let kept = ap (λ (p : Answer × List (Option KeptSlot)). p.1)
-    (c.read_in-reply.ensures ∙ ap (outcome_in does ks) c.place.ensures.value) in
-    let there = acted-at does ks js place kept
-    (omega (arith, c.in-Some.index.within, c.self.invariant.wide)) in
-    places-acted does (read_turn-query c.args.number) c.self.inside.ending.word
-    c.self.inside.movable.word _ _ c.self.inside.watch ks js place kept c.in-Some.index.within
-    (λ i ne. refl)
-    (λ is. absurd (both_ways _ (ap (passes is_ending) there
-    ∙ read-ends c.args.number (option_flatten (slice_get ks place))) is))
-    c.put.ensures.others
-    (λ is. c.put.ensures.here ∙ (c.can_move_in.ensures
-    ∙ (ap (λ i. passes can_move (option_flatten (slice_get js i))) c.place-2.ensures.value ∙ is)))
+    let rests = read-ends c.args.number (option_flatten (slice_get ks c.in-Some.index.place)) in
+    places-acted (read_turn c.args.number) (read_turn-keeps c.args.number)
+    c.self.inside.ending.word c.self.inside.movable.word _ _ c.self.inside.watch ks _ _ _
+    c.in-Some.index.place c.read_in-reply.ensures c.place.ensures.value c.in-Some.index.within
+    (λ i ne. refl) (λ _ is. absurd (both_ways _ rests is)) c.put.ensures.others
+    (λ is _. c.put.ensures.here ∙ ((rw c.place-2.ensures.value at c.can_move_in.ensures) ∙ is))
     c.self.invariant
 
 pub read_in-reply-requires-clause-work : goal.read_in-reply-requires-clause-work
 read_in-reply-requires-clause-work c is =
-    let ks = map kept_slot c.self.inside.places.items in
     let place = c.in-Some.index.place in
     c.contains-may_work.ensures ∙ (c.union.ensures place
-    ∙ work-marked c.self.inside.ending.word c.self.inside.movable.word c.self.inside.watch ks
-    place c.self.invariant (ap (λ j. passes has_work (option_flatten (slice_get ks j)))
-    (sym c.place.ensures.value) ∙ is))
+    ∙ work-marked c.self.inside.ending.word c.self.inside.movable.word c.self.inside.watch _
+    place c.self.invariant (rw (← c.place.ensures.value) is))

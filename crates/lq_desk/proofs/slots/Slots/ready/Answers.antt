@@ -1,25 +1,22 @@
-use Rattle.std.proofs.Common.{◌≡◌, ◌∙◌, ◌^◌, ◌-◌, ◌+◌, ℕ, Bool, List, Option, Some, false, inl, inr, map, ap, arith, subst, sym}
+use Rattle.std.proofs.Common.{◌≡◌, ◌∙◌, ◌^◌, ◌-◌, ◌+◌, ℕ, Bool, List, Option, Some, false, inl, inr, map, ap, arith, sym}
 use Rattle.std.specs.Prelude.{slice_get}
 use Rattle.std.specs.List.{AllByRecursion}
-use Rattle.std.specs.Int.{bit_at}
-use Rattle.std.specs.Option.{option_map}
 use Rattle.std.proofs.lemmas.Bool.{both_ways}
 use Rattle.std.proofs.lemmas.List.{length-map}
-use Rattle.std.proofs.lemmas.Option.{slice_get-map}
+use Rattle.std.proofs.lemmas.Option.{slice_get_within}
 use Rattle.lq_volume.specs.declared.change.Change.{Change}
 use Rattle.lq_volume.specs.State.{State}
 use Rattle.lq_desk_sub.specs.declared.slot_set.SlotSet.{SlotSet}
 use Rattle.lq_desk_sub.specs.SlotSet.{has, IsEmpty}
 use Rattle.lq_desk_sub.specs.Visits.{Visits}
-use Rattle.lq_desk_sub.specs.Watch.{slots_for}
 use Rattle.lq_desk.specs.declared.visitors.Told.{Told}
 use Rattle.lq_desk.specs.DeskState.{IsFew}
 use Rattle.lq_desk.specs.Slot.{PreparedSlot, slot_of}
 use Rattle.lq_desk.specs.Words.{MayReady, Readies}
-use Rattle.lq_desk.proofs.ListLemmas.{get-within}
+use Rattle.lq_desk.proofs.FewLemmas.{few-there}
 use Rattle.lq_desk.proofs.PassLemmas.{visits-alike, visits-from}
 use Rattle.lq_desk.proofs.ReadyLemmas.{bit-clear}
-use Rattle.lq_desk.proofs.SlotsLemmas.{few-there, kept_slot}
+use Rattle.lq_desk.proofs.SlotsLemmas.{kept-there, kept_slot}
 use Rattle.lq_desk.proofs.slots.Slots.ready.Goals as goal
 
 -- what is kept of each slot stays
@@ -48,8 +45,7 @@ may-first : (xs ys : List (Option PreparedSlot)) (none : SlotSet) → xs ≡ ys
     (x : PreparedSlot) → slice_get xs i ≡ Some (Some x)
     → MayReady (record { told = none; full = false }) i x
 may-first xs ys none view few empty i x at = record {
-  few = few-there xs i x (subst (λ (zs : List (Option PreparedSlot)).
-      AllByRecursion (IsFew (2 ^ 63 - 1)) (map kept_slot zs)) (sym view) few) at;
+  few = few-there xs i x (rw view few) at;
   untold = empty i;
 }
 
@@ -72,17 +68,15 @@ returns-clause-told c i y at live =
           record {
             some = λ told. absurd (both_ways _ none told);
             none = λ untold. c.self.invariant.watched change i (slot_of y)
-                (slice_get-map kept_slot xs i ∙ (ap (option_map kept_slot) f.1
-                ∙ ap (λ (q : PreparedSlot). Some (Some (slot_of q))) d.1))
-                (ap (λ w. bit_at w i) (ap (slots_for c.self.inside.watch) (sym c.change.ensures)
-                ∙ sym c.slots_for.ensures)
-                ∙ bit-clear c.slots_for.result i (sym (c.from_word-asked.ensures i
+                (rw d.1 at (kept-there xs i f.0 f.1))
+                (rw (← c.change.ensures, ← c.slots_for.ensures)
+                (bit-clear c.slots_for.result i (sym (c.from_word-asked.ensures i
                 (omega (
                   arith,
-                  get-within xs i (Some f.0) f.1,
+                  slice_get_within xs i (Some f.0) f.1,
                   length-map xs kept_slot,
                   c.self.invariant.wide,
-                ))) ∙ d.0))
+                ))) ∙ d.0)))
                 y.sub.held.moved s (y.sub.held.sent + 1) c.applied.ensures.volume
                 c.applied.ensures.lawful;
           }
