@@ -1,7 +1,7 @@
 -- What the bits of masks say of elements and of the ends of elements.
 use Rattle.std.proofs.Common.{◌≡◌, ◌<◌, ◌≤◌, ◌+◌, ◌*◌, ◌^◌, ◌%◌, ◌&&◌, ◌||◌, ◌==◌, ℕ, zero, suc, not, nat_le, min, List, [], ◌∷◌, length, take, drop, slice_index, bit_and, bit_or, bit_xor, Bool, true, refl, ◌∙◌, arith, inl, inr, take-add, take-suc, take_all, length-take-le, drop-drop, w32}
 use Rattle.std.specs.Int.{bit_at}
-use Rattle.std.proofs.Math.Bool.{and-true}
+use Rattle.std.proofs.Math.Bool.{and-true, or-false}
 use Rattle.std.proofs.lemmas.Nat.{shl_whole}
 use Rattle.std.proofs.lemmas.Nat.Bits.{bit_at_and, bit_at_xor, bit_at-pow_same, bit_at-pow_other, bit_at_set_same, bit_at_set_other, bit_at-lt, bit_at_cat_low, bit_at_cat_high}
 use Rattle.std.proofs.lemmas.List.{drop_more}
@@ -52,25 +52,17 @@ put_join items j cs old now new i n so_far step = λ x lt.
       others = λ k other. (step x lt).others k other ∙ (so_far x lt).others k other;
     }
 
--- the bits of tests that pass for the same characters
-same_put : (test other : ℕ → Bool) (j : ℕ) (cs old new : List ℕ)
-    → ((c : ℕ) → test c ≡ other c) → ArePut test j cs old new → ArePut other j cs old new
-same_put test other j cs old new same are = λ x lt. rw (same (slice_index cs x)) at (are x lt)
-
 -- the bits of the first item
 pub one_put : (items : List Item) (item : Item) (j : ℕ) (cs old new : List ℕ)
     → take 1 items ≡ item ∷ [] → ArePut (has item) j cs old new
     → ArePut (set_has (take 1 items)) j cs old new
-one_put items item j cs old new one put =
-    same_put (has item) (set_has (take 1 items)) j cs old new (λ c. grind (arith, one)) put
+one_put items item j cs old new one put = rw one (simp or-false put)
 
 -- the bits of the first two
 pub pair_put : (items : List Item) (c d j : ℕ) (cs old new : List ℕ)
     → IsPair items c d → ArePut (λ e. c == e || d == e) j cs old new
     → ArePut (set_has (take 2 items)) j cs old new
-pair_put items c d j cs old new pair put =
-    same_put (λ e. c == e || d == e) (set_has (take 2 items)) j cs old new
-    (λ e. grind (arith, pair.are)) put
+pair_put items c d j cs old new pair put = rw pair.are (simp or-false put)
 
 -- then the bits say what the test says
 pub marked_taken : (test : ℕ → Bool) (j : ℕ) (cs old new : List ℕ) → length old ≡ length cs

@@ -1,12 +1,12 @@
 -- What a pattern's test says of splits of a text, and what plain elements fit.
-use Rattle.std.proofs.Common.{◌≡◌, ◌≤◌, ◌<◌, ◌+◌, ℕ, zero, suc, List, [], ◌∷◌, ◌++◌, Bool, true, not, if◌then◌else◌, None, length, take, drop, get_or, refl, sym, ap, ◌∙◌, inl, inr, arith, append-nil, take-append-drop, drop-drop, drop-cons, eqb-true, eq-eqb, option_map, chars, IsUtf8, encode_utf8, encode_utf8_all}
+use Rattle.std.proofs.Common.{◌≡◌, ◌≤◌, ◌<◌, ◌+◌, ℕ, zero, suc, List, [], ◌∷◌, ◌++◌, Bool, true, None, length, take, drop, get_or, refl, sym, ap, ◌∙◌, inl, inr, arith, append-nil, take-append-drop, drop-drop, drop-cons, eqb-true, eq-eqb, option_map, chars, IsUtf8, encode_utf8, encode_utf8_all}
 use Rattle.std.proofs.lemmas.Bool.{and_parts, or_cases, or_right, false≢true}
 use Rattle.std.proofs.lemmas.List.{take_more}
 use Rattle.std.proofs.lemmas.List.Prefix.{front_rest}
 use Rattle.std.proofs.lemmas.Str.{encodes-chars, encodes-append, chars_from_encodes}
 use Rattle.lq_value_pattern.specs.declared.element.Element.{Element}
 use Rattle.lq_value_pattern.specs.declared.element.Element.TheVariants.{Star, Any, Plain, Set}
-use Rattle.lq_value_pattern.specs.Element.{set_has, takes}
+use Rattle.lq_value_pattern.specs.Element.{takes}
 use Rattle.lq_value_pattern.specs.Pattern.{Fits, fits, some_rest, head_then, plain_chars, plain_elements}
 
 -- a test that some rest passes is passed at some place
@@ -38,14 +38,6 @@ head_found : (t : ℕ → Bool) (p : List ℕ → Bool) (cs : List ℕ) → head
 head_found t p [] e = absurd (false≢true e)
 head_found t p (c ∷ cs) e = let h = and_parts (t c) (p cs) e in (c, cs, refl, h.0, h.1)
 
--- a set takes a character where its items have it, or where it is negated and they don't
-set-takes : (n h : Bool) → (if n then not h else h) ≡ true → h ≡ not n
-set-takes n h e = grind arith
-
--- a set takes a character that it has, or that it lacks if it is negated
-takes-set : (n h : Bool) → h ≡ not n → (if n then not h else h) ≡ true
-takes-set n h e = grind arith
-
 -- the test is the same as a split
 pub fits-sound : (es : List Element) (cs : List ℕ) → fits es cs ≡ true → Fits es cs
 fits-sound [] [] e = refl
@@ -61,7 +53,7 @@ fits-sound (Plain d ∷ es) cs e =
     (h.0 ∷ [], h.1, h.2, ap (λ x. x ∷ []) (sym (eqb-true d h.0 h.3)), fits-sound es h.1 h.4)
 fits-sound (Set n is ∷ es) cs e =
     let h = head_found (takes (Set n is)) (fits es) cs e in
-    (h.0 ∷ [], h.1, h.2, (h.0, refl, set-takes n (set_has is h.0) h.3), fits-sound es h.1 h.4)
+    (h.0 ∷ [], h.1, h.2, (h.0, refl, grind (arith, h.3)), fits-sound es h.1 h.4)
 
 -- each text that a pattern fits passes its test
 pub fits-complete : (es : List Element) (cs : List ℕ) → Fits es cs → fits es cs ≡ true
@@ -71,7 +63,8 @@ fits-complete (Star ∷ es) cs h =
 fits-complete (Any ∷ es) cs h = rw (h.2, h.3.1) (fits-complete es h.1 h.4)
 fits-complete (Plain d ∷ es) cs h = rw (h.2, h.3, eq-eqb d d refl) (fits-complete es h.1 h.4)
 fits-complete (Set n is ∷ es) cs h =
-    rw (h.2, h.3.1, takes-set n (set_has is h.3.0) h.3.2) (fits-complete es h.1 h.4)
+    let taken : takes (Set n is) h.3.0 ≡ true = grind (arith, h.3.2) in
+    rw (h.2, h.3.1, taken) (fits-complete es h.1 h.4)
 
 -- ---- the text of plain elements, character by character
 

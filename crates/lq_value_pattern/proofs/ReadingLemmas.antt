@@ -1,5 +1,5 @@
 -- What the reader of a set's items knows at each step.
-use Rattle.std.proofs.Common.{◌≡◌, List, [], ◌∷◌, ◌++◌, length, Result, Ok, Err, ap, ◌∙◌, arith, length-append}
+use Rattle.std.proofs.Common.{◌≡◌, List, [], ◌∷◌, ◌++◌, length, Result, ap, arith, length-append}
 use Rattle.lq_value_pattern.specs.declared.element.Item.{Item}
 use Rattle.lq_value_pattern.specs.declared.error.SourceError.{SourceError}
 use Rattle.lq_value_pattern.specs.declared.sign.Sign.{Sign}
@@ -22,10 +22,7 @@ not_none items item e = omega (arith, ap length e, length-append items (item ∷
 -- one item more is gathered, unless memory runs out
 gathered_more : (items : List Item) (item : Item) (g g' : Result (List Item) SourceError)
     → AreGathered items g → IsWithItem g item g' → AreGathered (items ++ item ∷ []) g'
-gathered_more items item (Ok is) (Ok more) a w = w ∙ ap (λ l. l ++ item ∷ []) a
-gathered_more items item (Ok is) (Err e) a w = (w, not_none items item)
-gathered_more items item (Err e) (Ok more) a w = absurd w
-gathered_more items item (Err e) (Err e') a w = (w ∙ a.0, not_none items item)
+gathered_more items item g g' a w = grind (arith, not_none items item)
 
 -- one item more is read, and gathered unless memory runs out
 pub items_more : (start left rest : List Sign) (item : Item) (g g' : Result (List Item) SourceError)

@@ -7,7 +7,7 @@ use Rattle.lq_value_pattern.specs.declared.error.SourceError.TheVariants.{Faulty
 use Rattle.lq_value_pattern.specs.declared.sign.Sign.{Sign}
 use Rattle.lq_value_pattern.specs.SourceError.{IsFailedBy}
 use Rattle.lq_value_pattern.specs.Sign.{signs_of, signs_len}
-use Rattle.lq_value_pattern.specs.Source.{First, ends, has, faulty, Pieces, whole, stuck, begin, after_first, pieces_of, element_at, elements_or_place, pattern_of, fault_error, source_error}
+use Rattle.lq_value_pattern.specs.Source.{First, ends, has, faulty, whole, stuck, after_first, pieces_of, element_at, pattern_of, source_error}
 use Rattle.lq_value_pattern.specs.Written.{IsElement, Writes, HasFaultAt}
 use Rattle.lq_value_pattern.proofs.PieceLemmas.{begins, begins-whole, begins-stuck, pieces_of-step, whole_none, whole_more}
 use Rattle.lq_value_pattern.proofs.ElementLemmas.{IsFirstElement, element_read, element_written}
@@ -35,11 +35,6 @@ abbrev pub StopsAt : List Sign → List Sign → Type 0
 StopsAt ss left = (es : List Element) × (front : List Sign) × (ss ≡ front ++ left) × Writes front es
     × (element_at left ≡ faulty)
 
--- an element before pieces that are stuck leaves them stuck there
-begin-stuck : (x : Element) (p : Pieces Element) (left : List Sign) → begin x p ≡ stuck left
-    → p ≡ stuck left
-begin-stuck x p left e = grind arith
-
 -- elements that are read up to a fault stop at it
 elements_stop : (n : ℕ) (ss left : List Sign)
     → length ss < n → pieces_of element_at ss ≡ stuck left → StopsAt ss left
@@ -54,8 +49,8 @@ elements_stop (suc n) ss left l e =
     by stops (ends rest) is k = absurd (let no : ⊥ = cc in no)
     by stops (has x rest) is k =
         let p = element_split ss x rest is in
-        let s = stops rest (omega (arith, element_shrinks ss x rest is))
-        (begin-stuck x (pieces_of element_at rest) left k) in (
+        let more : pieces_of element_at rest ≡ stuck left = grind (arith, k) in
+        let s = stops rest (omega (arith, element_shrinks ss x rest is)) more in (
           x ∷ s.0,
           p.0 ++ s.1,
           cc (p.1, s.2, append_assoc p.0 s.1 left),
@@ -79,17 +74,13 @@ elements_written (e ∷ es) front rest h =
 
 -- ---- the laws
 
--- pieces of which a pattern is read are whole
-ok_whole : (text : List ℕ) (es : List Element) (p : Pieces Element)
-    → elements_or_place text p ≡ Ok es → (rest : List Sign) × (p ≡ whole es rest)
-ok_whole text es p h = grind arith
-
 -- what is read without a fault is written by the source
 ok_writes : (text : List ℕ) (es : List Element) → pattern_of text ≡ Ok es
     → Writes (signs_of text) es
 ok_writes text es h =
-    let w = ok_whole text es (pieces_of element_at (signs_of text)) h in
-    elements_read es (signs_of text) w.0 w.1
+    let ss = signs_of text in
+    let w : (rest : List Sign) × (pieces_of element_at ss ≡ whole es rest) = grind arith in
+    elements_read es ss w.0 w.1
 
 -- what the source writes is read without a fault
 writes_ok : (text : List ℕ) (es : List Element) → Writes (signs_of text) es
@@ -106,26 +97,13 @@ pub source_written : (text : List ℕ) (es : List Element)
     → (pattern_of text ≡ Ok es) ↔ Writes (signs_of text) es
 source_written text es = (ok_writes text es, writes_ok text es)
 
--- where the reader is stuck, no element is written
-none_begins : (left : List Sign) → element_at left ≡ faulty
-    → (e : Element) (part behind : List Sign) → left ≡ part ++ behind → IsElement e part → ⊥
-none_begins left is e part behind h w = cc (element_written e part behind w)
-
--- where the reader is stuck, something is left
-some_left : (left : List Sign) → element_at left ≡ faulty → left ≡ [] → ⊥
-some_left left is h = cc
-
--- pieces of which no pattern is read are stuck at the place of the fault
-err_stuck : (text : List ℕ) (place : ℕ) (p : Pieces Element) → elements_or_place text p ≡ Err place
-    → (left : List Sign) × (p ≡ stuck left) × (length text - signs_len left ≡ place)
-err_stuck text place p h = grind arith
-
 -- a source that is read up to a place has its fault there
 err_fault : (text : List ℕ) (place : ℕ) → IsUtf8 text → pattern_of text ≡ Err place
     → HasFaultAt text place
 err_fault text place u h =
     let ss = signs_of text in
-    let k = err_stuck text place (pieces_of element_at ss) h in
+    let k : (left : List Sign) × (pieces_of element_at ss ≡ stuck left)
+    × (length text - signs_len left ≡ place) = grind arith in
     let s = elements_stop (suc (length ss)) ss k.0 (omega arith) k.1 in
     record {
       elements = s.0;
@@ -133,8 +111,8 @@ err_fault text place u h =
       rest = k.0;
       split = s.2;
       before = s.3;
-      some = some_left k.0 s.4;
-      none = none_begins k.0 s.4;
+      some = λ e. cc (e, s.4);
+      none = λ x part behind e w. cc (e, s.4, element_written x part behind w);
       bytes = omega (arith, k.2, signs-text text u, ap signs_len s.2, signs-split s.1 k.0);
     }
 
@@ -172,15 +150,10 @@ pub answer_written : (text : List ℕ) (r : Result (Vec Element) SourceError)
 answer_written text (Ok v) h = ok_writes text v.items h
 answer_written text (Err e) h = tt
 
--- a refusal with a place is that of a source with its fault there
-refused_fault : (place : ℕ) (p : Result (List Element) ℕ)
-    → Faulty place ≡ unwrap_or (fault_error p) NoMemory → p ≡ Err place
-refused_fault place p h = grind arith
-
 -- the place of an error is that of the fault
 pub fault_named : (text : List ℕ) (place : ℕ) → IsUtf8 text
     → Faulty place ≡ unwrap_or (source_error text) NoMemory → HasFaultAt text place
-fault_named text place u is = err_fault text place u (refused_fault place (pattern_of text) is)
+fault_named text place u is = err_fault text place u (grind arith)
 
 -- an answer that refuses with a place names the place of the fault
 pub answer_fault : (text : List ℕ) (r : Result (Vec Element) SourceError)

@@ -1,6 +1,6 @@
 -- Reading a whole source: its bytes, what is known at each
 -- step, and that the definition is what is written.
-use Rattle.std.proofs.Common.{◌≡◌, ◌<◌, ◌≤◌, ◌+◌, ◌-◌, ℕ, List, [], ◌∷◌, ◌++◌, length, Bool, true, false, None, Result, Ok, Err, IfOk, unwrap_or, chars, IsUtf8, encode_utf8, encode_utf8_all, refl, ap, ◌∙◌, inl, inr, arith, sym, append_assoc, length-append, eq-eqb, ne_eqb}
+use Rattle.std.proofs.Common.{◌≡◌, ◌<◌, ◌≤◌, ◌+◌, ◌-◌, ℕ, List, [], ◌∷◌, ◌++◌, length, Bool, true, false, Result, Ok, IfOk, unwrap_or, chars, IsUtf8, encode_utf8, encode_utf8_all, refl, ap, inl, inr, arith, append_assoc, length-append, eq-eqb, ne_eqb}
 use Rattle.std.specs.Char.{len_utf8}
 use Rattle.std.specs.Global.{Vec}
 use Rattle.std.proofs.lemmas.Bool.{cases_eq}
@@ -87,12 +87,7 @@ pub record ElementsSoFar (start : List Sign) (gathered : Result (Vec Element) So
 found_more : (es : List Element) (e : Element) (g : Result (Vec Element) SourceError)
     (x : Result Element SourceError) (g' : Result (Vec Element) SourceError)
     → AreFound es g → IsFound e x → IsWithElement g x g' → AreFound (es ++ e ∷ []) g'
-found_more es e (Ok v) (Ok y) (Ok more) a f w = cc (w, a, f)
-found_more es e (Ok v) (Ok y) (Err r) a f w = w
-found_more es e (Ok v) (Err r) (Ok more) a f w = absurd w
-found_more es e (Ok v) (Err r) (Err r') a f w = w ∙ f
-found_more es e (Err r) x (Ok more) a f w = absurd w
-found_more es e (Err r) x (Err r') a f w = w ∙ a
+found_more es e g x g' a f w = grind arith
 
 -- one element more is read, and found unless memory runs out
 pub elements_more : (start left rest : List Sign) (e : Element)
@@ -111,18 +106,6 @@ elements_more start left rest e g x g' s is f w =
       are = found_more s.elements e g x g' s.are f w;
     }
 
--- what was found refuses nothing but for want of memory
-refused_none : (es : List Element) (g : Result (Vec Element) SourceError) → AreFound es g
-    → IsFailedBy g None
-refused_none es (Ok v) a = (refl, tt)
-refused_none es (Err e) a = (tt, a)
-
--- what was found is what the source is read as
-value_found : (es : List Element) (g : Result (Vec Element) SourceError)
-    (p : Result (List Element) ℕ) → AreFound es g → p ≡ Ok es → IfOk g (λ v. p ≡ Ok v.items)
-value_found es (Ok v) p a e = e ∙ ap Ok (sym a)
-value_found es (Err r) p a e = tt
-
 -- a source that ends here is read as what was found
 elements_end : (text : List ℕ) (left : List Sign) (g : Result (Vec Element) SourceError)
     (s : ElementsSoFar (signs_of text) g left) → element_at left ≡ ends []
@@ -135,14 +118,15 @@ elements_end text left g s e =
 pub end_refused : (text : List ℕ) (left : List Sign) (g : Result (Vec Element) SourceError)
     → ElementsSoFar (signs_of text) g left → element_at left ≡ ends []
     → IsFailedBy g (source_error text)
-end_refused text left g s e = rw (elements_end text left g s e) (refused_none s.elements g s.are)
+end_refused text left g s e =
+    let are = s.are in rw (elements_end text left g s e) (grind arith)
 
 -- a source that ends here is read as the answer
 pub end_value : (text : List ℕ) (left : List Sign) (g : Result (Vec Element) SourceError)
     → ElementsSoFar (signs_of text) g left → element_at left ≡ ends []
     → IfOk g (λ v. pattern_of text ≡ Ok v.items)
 end_value text left g s e =
-    value_found s.elements g (pattern_of text) s.are (elements_end text left g s e)
+    let are = s.are in rw (elements_end text left g s e) (grind arith)
 
 -- what is left of a source is no longer than the source
 pub left_within : (text left : List ℕ) (g : Result (Vec Element) SourceError) → IsUtf8 text
