@@ -55,8 +55,7 @@ module _ {T F : Type 0} (follows : List T → F → T → Type 0) where
       → Pushes (PortRule follows) n pass v x (AddsItem v x)
   adds n pass v x may all_room ok items views room h at =
       let w : Known T F = known_alone v.room true false v.floor v.taken (v.ahead ++ x ∷ []) in
-      let mine = h.fits pass v at in
-      let m = mine.0 may in
+      let m = (h.fits pass v at).0 may in
       let put : List T = h.put ++ x ∷ [] in
       let ok' : follows h.put h.floor x = rw (← m.2, ← m.1) ok in
       let all : put_of w ≡ put = cc (m.2, append_assoc v.taken v.ahead (x ∷ [])) in
@@ -93,8 +92,7 @@ module _ {T F : Type 0} (follows : List T → F → T → Type 0) where
   removes pass v may x items views h at =
       let w : Known T F = known_alone v.room false true v.floor (v.taken ++ x ∷ [])
       (drop 1 v.ahead) in
-      let mine = h.fits pass v at in
-      let t = mine.1 may in
+      let t = (h.fits pass v at).1 may in
       let taken : List T = h.taken ++ x ∷ [] in
       let now : x ∷ items ≡ v.ahead ++ t.3.0 =
       append_cancel_left v.taken (x ∷ items) (v.ahead ++ t.3.0)
@@ -190,7 +188,6 @@ module _ {T F : Type 0} (follows : List T → F → T → Type 0) where
       let m = mine.0 a in
       let t = mine.1 b in
       let vs : List (Known T F) = set views pass (putter n f v) in
-      let legal : IsLegal follows h.floor h.put = h.legal in
       let old : AllAt (NoTaker h.input n f h.put h.taken) vs =
       AllAt-set (NoTaker h.input n f h.put h.taken) views pass (putter n f v)
       ((λ _. (m.0, refl, m.2, m.3, refl)), (λ p. true≢false (sym p)))
@@ -210,7 +207,7 @@ module _ {T F : Type 0} (follows : List T → F → T → Type 0) where
         within =
             room (length items) (let less = h.within in omega (arith, m.4))
             (omega (arith, ap length (m.2 ∙ h.in_order), length-append h.taken items));
-        legal = rw m.2 at (again (rw (← m.1, ← m.2) at legal));
+        legal = rw m.2 at (again (rw (← m.1, ← m.2) at h.legal));
         fits = taker_joins h.input n f h.put h.taken vs (taker n f v) old refl refl
             (refl, t.2, t.3);
       }
@@ -263,17 +260,15 @@ module _ {T F : Type 0} (follows : List T → F → T → Type 0) where
       → Merges (PortRule follows) pass v other w (together v w) (known_alone 0 false false f [] [])
   merges pass v other w f a b items views h at two at' =
       let both : Known T F = together v w in
-      let mine = h.fits pass v at in
-      let m = mine.0 a in
+      let m = (h.fits pass v at).0 a in
       let vs : List (Known T F) = set views pass both in
       let was : get_elem? views other ≡ some w =
       ⊎_elim (λ x. absurd (two x.0)) (λ x. x.1) (at_set views pass other both w at') in
-      let theirs = h.fits other w was in
-      let t = theirs.1 b in
+      let t = (h.fits other w was).1 b in
       let all : put_of v ≡ w.taken ++ items = cc (m.2, h.in_order, t.2) in
       let rest : drop (length w.taken) (put_of v) ≡ items =
       ap (drop (length w.taken)) all ∙ drop-append_seam w.taken items in
-      let put : put_of both ≡ h.put = ap (λ l. w.taken ++ l) rest ∙ sym all ∙ m.2 in
+      let put : put_of both ≡ h.put = cc (rest, all, m.2) in
       let fits : PassFits follows h.input pass h.room h.floor h.put h.taken pass both = (
         (λ _. (m.0, m.1, put, IsPrefix-equal w.taken h.taken t.2, m.4)),
         (λ _. (refl, m.1, t.2, IsPrefix-equal (put_of both) h.put put)),
