@@ -1,5 +1,5 @@
 -- Lemmas on lists: an item at the back, an item at the front, fronts, and what stands at a place.
-use Rattle.std.proofs.Common.{◌≡◌, ◌≢◌, ◌⊎◌, inl, inr, ℕ, zero, suc, List, [], ◌∷◌, ◌++◌, length, drop, set, sym, refl, ap, ◌∙◌, subst, ⊎_elim, append_assoc, append-nil}
+use Rattle.std.proofs.Common.{◌≡◌, ◌≢◌, ◌⊎◌, inl, inr, ℕ, zero, suc, List, [], ◌∷◌, ◌++◌, length, drop, set, sym, refl, ap, ◌∙◌, append_assoc, append-nil}
 use mathlib.Core.List.{IsPrefix}
 use mathlib.Core.Option.{some, some-ne-none}
 use lib.ListN.{get_elem?}
@@ -19,35 +19,23 @@ module _ {T : Type 0} where
       → ((xs ≡ before) × (x ≡ y)) ⊎ ((rest : List T) × (xs ≡ before ++ y ∷ rest))
   split_at_back [] x [] y after e = inl (refl, cc)
   split_at_back [] x (b ∷ bs) y after e = absurd (nil_has_no_place bs y after (cc))
-  split_at_back (a ∷ zs) x [] y after e =
-      let p : a ≡ y = cc in inr (zs, ap (λ c. c ∷ zs) p)
-  split_at_back (a ∷ zs) x (b ∷ bs) y after e =
-      let p : a ≡ b = cc in
-      let q : zs ++ x ∷ [] ≡ bs ++ y ∷ after = cc in
-      ⊎_elim (λ (r : (zs ≡ bs) × (x ≡ y)). inl ((λ i. p i ∷ r.0 i), r.1))
-      (λ (r : (rest : List T) × (zs ≡ bs ++ y ∷ rest)). inr (r.0, λ i. p i ∷ r.1 i))
-      (split_at_back zs x bs y after q)
-
-  -- behind a list stands what was joined to it
-  pub drop-length_append : (xs ys : List T) → drop (length xs) (xs ++ ys) ≡ ys
-  drop-length_append [] ys = refl
-  drop-length_append (x ∷ xs) ys = drop-length_append xs ys
+  split_at_back (a ∷ zs) x [] y after e = inr (zs, cc)
+  split_at_back (a ∷ zs) x (b ∷ bs) y after e = elim (split_at_back zs x bs y after cc) [
+    | inl r ↦ inl (cc (r.0), r.1)
+    | inr r ↦ inr (r.0, cc (r.1))
+  ]
 
   -- the item at the front is the first of those ahead, if any are
   pub front_of :
       (ahead rest items : List T) (x : T) → x ∷ items ≡ ahead ++ rest
       → ((ahead ≡ []) ⊎ (ahead ≡ x ∷ drop 1 ahead)) × IsPrefix (drop 1 ahead) items
   front_of [] rest items x e = (inl refl, (items, refl))
-  front_of (a ∷ zs) rest items x e =
-      let p : a ≡ x = cc in
-      let q : items ≡ zs ++ rest = cc in
-      (inr (ap (λ y. y ∷ zs) p), (rest, sym q))
+  front_of (a ∷ zs) rest items x e = (inr cc, (rest, cc))
 
   -- a front stays one when an item joins at the back
   pub IsPrefix-snoc :
       (front xs : List T) (x : T) → IsPrefix front xs → IsPrefix front (xs ++ x ∷ [])
-  IsPrefix-snoc front xs x s =
-      (s.0 ++ x ∷ [], sym (append_assoc front s.0 (x ∷ [])) ∙ ap (λ l. l ++ x ∷ []) s.1)
+  IsPrefix-snoc front xs x s = (s.0 ++ x ∷ [], cc (s.1, append_assoc front s.0 (x ∷ [])))
 
   -- a list is a front of itself
   pub IsPrefix-equal : (xs ys : List T) → xs ≡ ys → IsPrefix xs ys
@@ -72,8 +60,7 @@ module _ {V : Type 0} where
       (P : ℕ → V → Type 0) (views : List V) (pass : ℕ) (w : V) → P pass w
       → ((j : ℕ) (u : V) → j ≢ pass → get_elem? views j ≡ some u → P j u)
       → AllAt P (set views pass w)
-  AllAt-set P views pass w mine others j u e =
-      ⊎_elim (λ (x : (j ≡ pass) × (w ≡ u)).
-      subst (λ (y : ℕ × V). P y.0 y.1) (λ i. (sym x.0 i, x.1 i)) mine)
-      (λ (x : (j ≢ pass) × (get_elem? views j ≡ some u)). others j u x.0 x.1)
-      (at_set views pass j w u e)
+  AllAt-set P views pass w mine others j u e = elim (at_set views pass j w u e) [
+    | inl x ↦ rw (x.0, ← x.1) mine
+    | inr x ↦ others j u x.0 x.1
+  ]

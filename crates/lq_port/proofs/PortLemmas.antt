@@ -1,13 +1,14 @@
 -- Each step of a port keeps its rule.
-use Rattle.std.proofs.Common.{◌≡◌, ◌≢◌, ℕ, ◌≤◌, true, false, true≢false, List, [], ◌∷◌, ◌++◌, length, drop, set, sym, refl, ap, ◌∙◌, subst, ⊎_elim, append_assoc, arith, length-append}
+use Rattle.std.proofs.Common.{◌≡◌, ◌≢◌, ℕ, ◌≤◌, true, false, true≢false, List, [], ◌∷◌, ◌++◌, length, drop, set, sym, refl, ap, ◌∙◌, subst, inl, inr, ⊎_elim, append_assoc, arith, length-append}
 use mathlib.Core.List.{IsPrefix, append_cancel_left}
-use mathlib.Core.Option.{some, some-ne-none}
+use mathlib.Core.Option.{some}
 use lib.ListN.{get_elem?}
+use Rattle.std.proofs.Math.Seq.{drop-append_seam}
 use Rattle.crossbeam_channel.specs.Fifo.{Pushes, Pops, Forks, Merges, Learns}
 use Rattle.atomic_table.proofs.Lists.{at_set, at_snoc}
 use Rattle.lq_port.specs.declared.step_types.Known.{Known}
 use Rattle.lq_port.specs.Port.{known_alone, putter, taker, idle, together, put_of, AddsItem, Totals, IsLegal, Removes, PassFits, PortRule}
-use Rattle.lq_port.proofs.ListLemmas.{nil_has_no_place, split_at_back, drop-length_append, front_of, IsPrefix-snoc, IsPrefix-equal, place_at_back, AllAt, AllAt-set}
+use Rattle.lq_port.proofs.ListLemmas.{nil_has_no_place, split_at_back, front_of, IsPrefix-snoc, IsPrefix-equal, place_at_back, AllAt, AllAt-set}
 
 module _ {T F : Type 0} (follows : List T → F → T → Type 0) where
   -- an empty list is legal
@@ -18,11 +19,10 @@ module _ {T F : Type 0} (follows : List T → F → T → Type 0) where
   pub snoc_is_legal :
       (f : F) (xs : List T) (x : T)
       → IsLegal follows f xs → follows xs f x → IsLegal follows f (xs ++ x ∷ [])
-  snoc_is_legal f xs x legal ok before y after e =
-      ⊎_elim (λ (r : (xs ≡ before) × (x ≡ y)).
-      subst (λ (z : List T × T). follows z.0 f z.1) (λ i. (r.0 i, r.1 i)) ok)
-      (λ (r : (rest : List T) × (xs ≡ before ++ y ∷ rest)). legal before y r.0 r.1)
-      (split_at_back xs x before y after e)
+  snoc_is_legal f xs x legal ok before y after e = elim (split_at_back xs x before y after e) [
+    | inl r ↦ rw (← r.0, ← r.1) ok
+    | inr r ↦ legal before y r.0 r.1
+  ]
 
   -- The rule holds of a new channel, and its one pass.
   pub begins : (f : F) → PortRule follows [] (known_alone 0 true true f [] [] ∷ [])
@@ -45,8 +45,7 @@ module _ {T F : Type 0} (follows : List T → F → T → Type 0) where
               (λ _. (refl, refl, refl, none)),
               (λ _ _. (refl, none, refl)),
             )
-            (λ j u other e.
-            absurd (other (place_at_back [] k u j (λ x. some-ne-none u (sym x)) e)));
+            (λ j u other e. absurd (other (place_at_back [] k u j (λ x. cc) e)));
       }
 
   -- A put keeps the rule.
@@ -56,27 +55,20 @@ module _ {T F : Type 0} (follows : List T → F → T → Type 0) where
       → Pushes (PortRule follows) n pass v x (AddsItem v x)
   adds n pass v x may all_room ok items views room h at =
       let w : Known T F = known_alone v.room true false v.floor v.taken (v.ahead ++ x ∷ []) in
-      let mine = h.fits pass v at in
-      let m = mine.0 may in
+      let m = (h.fits pass v at).0 may in
       let put : List T = h.put ++ x ∷ [] in
-      let ok' : follows h.put h.floor x =
-      subst (λ (z : List T × F). follows z.0 z.1 x) (λ i. (m.2 i, m.1 i)) ok in
-      let all : put_of w ≡ put =
-      sym (append_assoc v.taken v.ahead (x ∷ [])) ∙ ap (λ l. l ++ x ∷ []) m.2 in
-      let fits : AllAt (PassFits follows h.input h.output h.room h.floor put h.taken)
-      (set views pass w) =
-      AllAt-set (PassFits follows h.input h.output h.room h.floor put h.taken) views pass w (
-        (λ _. (m.0, m.1, all, m.3, m.4)),
-        (λ p. absurd (true≢false (sym p))),
-        (λ _ p. absurd (true≢false (sym p))),
-      )
-      (λ j u other e.
+      let ok' : follows h.put h.floor x = rw (← m.2, ← m.1) ok in
+      let all : put_of w ≡ put = cc (m.2, append_assoc v.taken v.ahead (x ∷ [])) in
+      let Fits = PassFits follows h.input h.output h.room h.floor put h.taken in
+      let mine' : Fits pass w = ((λ _. (m.0, m.1, all, m.3, m.4)), (λ p. cc), (λ _ p. cc)) in
+      let others : (j : ℕ) (u : Known T F) → j ≢ pass → get_elem? views j ≡ some u → Fits j u =
+      λ j u other e.
       let o = h.fits j u e in (
         (λ p. absurd (other ((o.0 p).0 ∙ sym m.0))),
         (λ p.
             let t = o.1 p in (t.0, t.1, t.2, IsPrefix-snoc (put_of u) h.put x t.3)),
         (λ p _. absurd (other ((o.0 p).0 ∙ sym m.0))),
-      )) in (
+      ) in (
         w,
         record {
           input = h.input;
@@ -85,10 +77,10 @@ module _ {T F : Type 0} (follows : List T → F → T → Type 0) where
           floor = h.floor;
           put = put;
           taken = h.taken;
-          in_order = ap (λ l. l ++ x ∷ []) h.in_order ∙ append_assoc h.taken items (x ∷ []);
+          in_order = cc (h.in_order, append_assoc h.taken items (x ∷ []));
           within = omega (arith, length-append items (x ∷ []), m.4);
           legal = snoc_is_legal h.floor h.put x h.legal ok';
-          fits = fits;
+          fits = AllAt-set Fits views pass w mine' others;
         },
         refl,
       )
@@ -100,34 +92,26 @@ module _ {T F : Type 0} (follows : List T → F → T → Type 0) where
   removes pass v may x items views h at =
       let w : Known T F = known_alone v.room false true v.floor (v.taken ++ x ∷ [])
       (drop 1 v.ahead) in
-      let mine = h.fits pass v at in
-      let t = mine.1 may in
+      let t = (h.fits pass v at).1 may in
       let taken : List T = h.taken ++ x ∷ [] in
       let now : x ∷ items ≡ v.ahead ++ t.3.0 =
       append_cancel_left v.taken (x ∷ items) (v.ahead ++ t.3.0)
-      (ap (λ l. l ++ x ∷ items) t.2 ∙ sym h.in_order ∙ sym t.3.1
-      ∙ append_assoc v.taken v.ahead t.3.0) in
+      (cc (t.2, h.in_order, t.3.1, append_assoc v.taken v.ahead t.3.0)) in
       let f = front_of v.ahead t.3.0 items x now in
-      let step : h.put ≡ taken ++ items =
-      h.in_order ∙ sym (append_assoc h.taken (x ∷ []) items) in
-      let same : v.taken ++ x ∷ [] ≡ taken = ap (λ l. l ++ x ∷ []) t.2 in
+      let step : h.put ≡ taken ++ items = cc (h.in_order, append_assoc h.taken (x ∷ []) items) in
+      let same : v.taken ++ x ∷ [] ≡ taken = cc (t.2) in
       let begin : put_of w ++ f.1.0 ≡ h.put =
-      append_assoc (v.taken ++ x ∷ []) (drop 1 v.ahead) f.1.0
-      ∙ (λ i. same i ++ f.1.1 i) ∙ sym step in
-      let fits : AllAt (PassFits follows h.input h.output h.room h.floor h.put taken)
-      (set views pass w) =
-      AllAt-set (PassFits follows h.input h.output h.room h.floor h.put taken) views pass w (
-        (λ p. absurd (true≢false (sym p))),
-        (λ _. (t.0, t.1, same, (f.1.0, begin))),
-        (λ p _. absurd (true≢false (sym p))),
-      )
-      (λ j u other e.
+      cc (step, same, f.1.1, append_assoc (v.taken ++ x ∷ []) (drop 1 v.ahead) f.1.0) in
+      let Fits = PassFits follows h.input h.output h.room h.floor h.put taken in
+      let mine' : Fits pass w = ((λ p. cc), (λ _. (t.0, t.1, same, (f.1.0, begin))), (λ p _. cc)) in
+      let others : (j : ℕ) (u : Known T F) → j ≢ pass → get_elem? views j ≡ some u → Fits j u =
+      λ j u other e.
       let o = h.fits j u e in (
         (λ p.
             let m = o.0 p in (m.0, m.1, m.2, IsPrefix-snoc u.taken h.taken x m.3, m.4)),
         (λ p. absurd (other ((o.1 p).0 ∙ sym t.0))),
         (λ _ p. absurd (other ((o.1 p).0 ∙ sym t.0))),
-      )) in (
+      ) in (
         w,
         record {
           input = h.input;
@@ -139,14 +123,9 @@ module _ {T F : Type 0} (follows : List T → F → T → Type 0) where
           in_order = step;
           within = let less = h.within in omega arith;
           legal = h.legal;
-          fits = fits;
+          fits = AllAt-set Fits views pass w mine' others;
         },
-        (
-          refl,
-          f.0,
-          subst (λ (z : List T × F). follows z.0 z.1 x) (λ i. (sym t.2 i, sym t.1 i))
-              (h.legal h.taken x items h.in_order),
-        ),
+        (refl, f.0, rw (t.2, t.1) (h.legal h.taken x items h.in_order)),
       )
 
   -- What the port holds is no more than what the end for puts knows to wait.
@@ -156,8 +135,7 @@ module _ {T F : Type 0} (follows : List T → F → T → Type 0) where
   full pass v may items views h at =
       let m = (h.fits pass v at).0 may in
       let s = m.3 in
-      let e : v.taken ++ v.ahead ≡ (v.taken ++ s.0) ++ items =
-      m.2 ∙ h.in_order ∙ ap (λ l. l ++ items) (sym s.1) in
+      let e : v.taken ++ v.ahead ≡ (v.taken ++ s.0) ++ items = cc (m.2, h.in_order, s.1) in
       omega (
         arith,
         ap length e,
@@ -174,9 +152,30 @@ module _ {T F : Type 0} (follows : List T → F → T → Type 0) where
       let t = (h.fits pass v at).1 may in (
         t.3.0,
         append_cancel_left v.taken (v.ahead ++ t.3.0) items
-            (sym (append_assoc v.taken v.ahead t.3.0) ∙ t.3.1 ∙ h.in_order
-            ∙ ap (λ l. l ++ items) (sym t.2)),
+            (cc (t.2, t.3.1, h.in_order, append_assoc v.taken v.ahead t.3.0)),
       )
+
+  -- Of a pass that may not take, and one that may put knows all puts and the room.
+  abbrev NoTaker : ℕ → ℕ → F → List T → List T → ℕ → Known T F → Type 0
+  NoTaker input room f put taken j u =
+      (u.puts ≡ true
+      → (j ≡ input) × (u.floor ≡ f) × (put_of u ≡ put) × IsPrefix u.taken taken × (u.room ≡ room))
+      × (u.takes ≢ true)
+
+  -- Where no pass may take, one more may that knows all takes, and may not put.
+  taker_joins :
+      (input room : ℕ) (f : F) (put taken : List T) (vs : List (Known T F)) (r : Known T F)
+      → AllAt (NoTaker input room f put taken) vs → r.puts ≡ false → r.takes ≡ true
+      → (r.floor ≡ f) × (r.taken ≡ taken) × IsPrefix (put_of r) put
+      → AllAt (PassFits follows input (length vs) room f put taken) (vs ++ r ∷ [])
+  taker_joins input room f put taken vs r old off on fits j u e = elim (at_snoc vs r u j e) [
+    | inl x ↦
+        let o = old j u x in (o.0, (λ p. absurd (o.1 p)), (λ _ p. absurd (o.1 p)))
+    | inr is ↦
+        let takes : u.takes ≡ true = rw is at on in
+        let here = place_at_back vs r u j (λ x. (old j u x).1 takes) e in
+        rw (here, ← is) ((λ p. cc), (λ _. (refl, fits.0, fits.1, fits.2)), (λ p _. cc))
+  ]
 
   -- A pass is cut into the two ends, with a floor under which the list stays legal.
   cuts :
@@ -185,35 +184,18 @@ module _ {T F : Type 0} (follows : List T → F → T → Type 0) where
       → (IsLegal follows v.floor (put_of v) → IsLegal follows f (put_of v))
       → Forks (PortRule follows) pass v (putter n f v) (taker n f v)
   cuts pass v n f a b room again items views h at =
-      let l : Known T F = putter n f v in
-      let r : Known T F = taker n f v in
       let mine = h.fits pass v at in
       let m = mine.0 a in
       let t = mine.1 b in
-      let vs : List (Known T F) = set views pass l in
-      let legal : IsLegal follows f h.put =
-      subst (IsLegal follows f) m.2
-      (again (subst (λ (z : F × List T). IsLegal follows z.0 z.1)
-      (λ i. (sym m.1 i, sym m.2 i)) h.legal)) in
-      let Old : ℕ → Known T F → Type 0 =
-      λ j u.
-      (u.puts ≡ true
-      → (j ≡ h.input) × (u.floor ≡ f) × (put_of u ≡ h.put) × IsPrefix u.taken h.taken
-      × (u.room ≡ n))
-      × (u.takes ≢ true) in
-      let old : AllAt Old vs =
-      AllAt-set Old views pass l
+      let vs : List (Known T F) = set views pass (putter n f v) in
+      let old : AllAt (NoTaker h.input n f h.put h.taken) vs =
+      AllAt-set (NoTaker h.input n f h.put h.taken) views pass (putter n f v)
       ((λ _. (m.0, refl, m.2, m.3, refl)), (λ p. true≢false (sym p)))
       (λ j u other e.
       let o = h.fits j u e in (
         (λ p. absurd (other ((o.0 p).0 ∙ sym m.0))),
         (λ p. other ((o.1 p).0 ∙ sym t.0)),
       )) in
-      let fits : PassFits follows h.input (length vs) n f h.put h.taken (length vs) r = (
-        (λ p. absurd (true≢false (sym p))),
-        (λ _. (refl, refl, t.2, t.3)),
-        (λ p _. absurd (true≢false (sym p))),
-      ) in
       record {
         input = h.input;
         output = length vs;
@@ -224,24 +206,10 @@ module _ {T F : Type 0} (follows : List T → F → T → Type 0) where
         in_order = h.in_order;
         within =
             room (length items) (let less = h.within in omega (arith, m.4))
-            (omega (
-              arith,
-              ap length (m.2 ∙ h.in_order),
-              length-append h.taken items,
-            ));
-        legal = legal;
-        fits = λ j u e.
-            ⊎_elim (λ x.
-            let o = old j u x in
-            (o.0, (λ p. absurd (o.1 p)), (λ _ p. absurd (o.1 p))))
-            (λ (is : r ≡ u).
-            let here : j ≡ length vs =
-            place_at_back vs r u j
-            (λ x. (old j u x).1 (ap (λ (y : Known T F). y.takes) (sym is))) e in
-            subst (λ (z : ℕ × Known T F).
-            PassFits follows h.input (length vs) n f h.put h.taken z.0 z.1)
-            (λ i. (sym here i, is i)) fits)
-            (at_snoc vs r u j e);
+            (omega (arith, ap length (m.2 ∙ h.in_order), length-append h.taken items));
+        legal = rw m.2 at (again (rw (← m.1, ← m.2) at h.legal));
+        fits = taker_joins h.input n f h.put h.taken vs (taker n f v) old refl refl
+            (refl, t.2, t.3);
       }
 
   -- The joined pass is cut anew.
@@ -264,26 +232,13 @@ module _ {T F : Type 0} (follows : List T → F → T → Type 0) where
       (pass : ℕ) (v : Known T F) → v.takes ≡ true → v.puts ≡ false
       → Forks (PortRule follows) pass v (idle v) v
   leaves pass v b alone items views h at =
-      let l : Known T F = idle v in
-      let mine = h.fits pass v at in
-      let t = mine.1 b in
-      let vs : List (Known T F) = set views pass l in
-      let Old : ℕ → Known T F → Type 0 =
-      λ j u.
-      (u.puts ≡ true
-      → (j ≡ h.input) × (u.floor ≡ h.floor) × (put_of u ≡ h.put)
-      × IsPrefix u.taken h.taken × (u.room ≡ h.room))
-      × (u.takes ≢ true) in
-      let old : AllAt Old vs =
-      AllAt-set Old views pass l
-      ((λ p. absurd (true≢false (sym p))), (λ p. true≢false (sym p)))
+      let t = (h.fits pass v at).1 b in
+      let vs : List (Known T F) = set views pass (idle v) in
+      let old : AllAt (NoTaker h.input h.room h.floor h.put h.taken) vs =
+      AllAt-set (NoTaker h.input h.room h.floor h.put h.taken) views pass (idle v)
+      ((λ p. cc), (λ p. true≢false (sym p)))
       (λ j u other e.
       let o = h.fits j u e in (o.0, (λ p. other ((o.1 p).0 ∙ sym t.0)))) in
-      let fits : PassFits follows h.input (length vs) h.room h.floor h.put h.taken (length vs) v = (
-        (λ p. absurd (true≢false (sym p ∙ alone))),
-        (λ _. (refl, t.1, t.2, t.3)),
-        (λ p _. absurd (true≢false (sym p ∙ alone))),
-      ) in
       record {
         input = h.input;
         output = length vs;
@@ -294,18 +249,8 @@ module _ {T F : Type 0} (follows : List T → F → T → Type 0) where
         in_order = h.in_order;
         within = h.within;
         legal = h.legal;
-        fits = λ j u e.
-            ⊎_elim (λ x.
-            let o = old j u x in
-            (o.0, (λ p. absurd (o.1 p)), (λ _ p. absurd (o.1 p))))
-            (λ (is : v ≡ u).
-            let here : j ≡ length vs =
-            place_at_back vs v u j
-            (λ x. (old j u x).1 (ap (λ (y : Known T F). y.takes) (sym is) ∙ b)) e in
-            subst (λ (z : ℕ × Known T F).
-            PassFits follows h.input (length vs) h.room h.floor h.put h.taken z.0 z.1)
-            (λ i. (sym here i, is i)) fits)
-            (at_snoc vs v u j e);
+        fits = taker_joins h.input h.room h.floor h.put h.taken vs v old alone b
+            (t.1, t.2, t.3);
       }
 
   -- The two ends are joined, and the other pass is spent.
@@ -315,18 +260,15 @@ module _ {T F : Type 0} (follows : List T → F → T → Type 0) where
       → Merges (PortRule follows) pass v other w (together v w) (known_alone 0 false false f [] [])
   merges pass v other w f a b items views h at two at' =
       let both : Known T F = together v w in
-      let mine = h.fits pass v at in
-      let m = mine.0 a in
+      let m = (h.fits pass v at).0 a in
       let vs : List (Known T F) = set views pass both in
       let was : get_elem? views other ≡ some w =
       ⊎_elim (λ x. absurd (two x.0)) (λ x. x.1) (at_set views pass other both w at') in
-      let theirs = h.fits other w was in
-      let t = theirs.1 b in
-      let all : put_of v ≡ w.taken ++ items =
-      m.2 ∙ h.in_order ∙ ap (λ l. l ++ items) (sym t.2) in
+      let t = (h.fits other w was).1 b in
+      let all : put_of v ≡ w.taken ++ items = cc (m.2, h.in_order, t.2) in
       let rest : drop (length w.taken) (put_of v) ≡ items =
-      ap (drop (length w.taken)) all ∙ drop-length_append w.taken items in
-      let put : put_of both ≡ h.put = ap (λ l. w.taken ++ l) rest ∙ sym all ∙ m.2 in
+      ap (drop (length w.taken)) all ∙ drop-append_seam w.taken items in
+      let put : put_of both ≡ h.put = cc (rest, all, m.2) in
       let fits : PassFits follows h.input pass h.room h.floor h.put h.taken pass both = (
         (λ _. (m.0, m.1, put, IsPrefix-equal w.taken h.taken t.2, m.4)),
         (λ _. (refl, m.1, t.2, IsPrefix-equal (put_of both) h.put put)),
@@ -354,12 +296,8 @@ module _ {T F : Type 0} (follows : List T → F → T → Type 0) where
         within = h.within;
         legal = h.legal;
         fits =
-            AllAt-set (PassFits follows h.input pass h.room h.floor h.put h.taken) vs other s (
-              (λ p. absurd (true≢false (sym p))),
-              (λ p. absurd (true≢false (sym p))),
-              (λ p _. absurd (true≢false (sym p))),
-            )
-            (λ j y apart e. now j y e apart);
+            AllAt-set (PassFits follows h.input pass h.room h.floor h.put h.taken) vs other s
+            ((λ p. cc), (λ p. cc), (λ p _. cc)) (λ j y apart e. now j y e apart);
       }
 
   -- The joined pass knows all that the port holds.
@@ -371,8 +309,7 @@ module _ {T F : Type 0} (follows : List T → F → T → Type 0) where
       let m = mine.0 a in
       let t = mine.1 b in
       let j = mine.2 a b in (
-        append_cancel_left v.taken v.ahead items
-            (m.2 ∙ h.in_order ∙ ap (λ l. l ++ items) (sym t.2)),
+        append_cancel_left v.taken v.ahead items (cc (m.2, h.in_order, t.2)),
         m.2 ∙ sym j.0,
         (j.1.0, j.1.1 ∙ sym m.2),
         j.2 ∙ sym m.1,

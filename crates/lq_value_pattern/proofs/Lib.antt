@@ -1,13 +1,12 @@
--- Read in this order. Sources: PieceLemmas, ReadingLemmas, WrittenLemmas, ElementLemmas,
--- SourceLemmas, SourceLaws; copies: CopyLemmas. What fits: PatternLemmas, MatchingLemmas,
--- SeekLemmas, LongLemmas, FlagLemmas, MaskLemmas, StarredLemmas.
+-- Read in this order. Sources: PieceLemmas, WrittenLemmas, ReadingLemmas, ElementLemmas,
+-- SourceLemmas, SourceLaws. What fits: PatternLemmas, MatchingLemmas, SeekLemmas, LongLemmas,
+-- FlagLemmas, MaskLemmas, StarredLemmas.
 pub mod PieceLemmas
 pub mod ReadingLemmas
 pub mod WrittenLemmas
 pub mod ElementLemmas
 pub mod SourceLemmas
 pub mod SourceLaws
-pub mod CopyLemmas
 pub mod PatternLemmas
 pub mod MatchingLemmas
 pub mod StarredLemmas

@@ -1,9 +1,8 @@
 -- Where a part of a pattern ends, and the characters of a text.
-use Rattle.std.proofs.Common.{◌≡◌, ◌≤◌, ◌<◌, ◌+◌, ℕ, List, [], ◌∷◌, ◌++◌, length, take, drop, get_or, refl, sym, ap, ◌∙◌, subst, append_assoc}
-use Rattle.std.specs.Prelude.{set}
-use Rattle.std.proofs.lemmas.List.{take-append-drop, drop_all, drop_more, take_more, take_more_set, append-nil}
+use Rattle.std.proofs.Common.{◌≡◌, ◌≤◌, ◌<◌, ◌+◌, ℕ, List, [], ◌∷◌, ◌++◌, length, take, drop, get_or, set, refl, append_assoc, append-nil, take-append-drop}
+use Rattle.std.proofs.lemmas.List.{drop_all, drop_more, take_more, take_more_set}
 use Rattle.lq_value_pattern.specs.declared.element.Element.{Element}
-use Rattle.lq_value_pattern.specs.declared.element.Element.TheVariants.{Star, Any, Plain, Set}
+use Rattle.lq_value_pattern.specs.declared.element.Element.TheVariants.{Star}
 use Rattle.lq_value_pattern.specs.Matching.{IsSingle, AreSingle, IsAtStar}
 use Rattle.lq_value_pattern.specs.Seek.{IsPiece}
 use Rattle.lq_value_pattern.proofs.MatchingLemmas.{AreSingle-push}
@@ -13,38 +12,28 @@ use Rattle.lq_value_pattern.proofs.MatchingLemmas.{AreSingle-push}
 -- an element that is no star is single
 single_other : (e : Element) → (e ≡ Star → ⊥) → IsSingle e
 single_other Star h = absurd (h refl)
-single_other Any h = tt
-single_other (Plain d) h = tt
-single_other (Set n is) h = tt
+single_other e h = tt
 
 -- one single element more
 pub single_more : (es : List Element) (k : ℕ) (e : Element) → k < length es → e ≡ get_or es k e
     → (e ≡ Star → ⊥) → AreSingle (take k es) → AreSingle (take (k + 1) es)
 single_more es k e h is other s =
-    subst AreSingle (sym (take_more es k e h))
-    (AreSingle-push (take k es) (get_or es k e) s (subst IsSingle is (single_other e other)))
+    rw (take_more es k e h, ← is) (AreSingle-push (take k es) e s (single_other e other))
 
 -- a star is next
 pub star_at : (es : List Element) (k : ℕ) (e : Element) → k < length es → e ≡ get_or es k e
     → e ≡ Star → IsAtStar (drop k es)
-star_at es k e h is star =
-    let next : drop k es ≡ Star ∷ drop (k + 1) es =
-    drop_more es k e h ∙ ap (λ x. x ∷ drop (k + 1) es) (sym is ∙ star) in
-    subst IsAtStar (sym next) tt
+star_at es k e h is star = rw (drop_more es k e h, ← is, star) tt
 
 -- no element is left
 pub star_end : (es : List Element) (k : ℕ) → length es ≤ k → IsAtStar (drop k es)
-star_end es k h = subst IsAtStar (sym (drop_all k es h)) tt
+star_end es k h = rw (drop_all k es h) tt
 
 -- a pattern that is split at its first star
 pub piece_at : (es piece after : List Element) (k : ℕ) → piece ≡ take k es → after ≡ drop k es
     → AreSingle (take k es) → IsAtStar (drop k es) → IsPiece es piece after
-piece_at es piece after k front back s star = record {
-  elements = sym (take-append-drop k es)
-      ∙ (ap (λ l. l ++ drop k es) (sym front) ∙ ap (λ l. piece ++ l) (sym back));
-  single = subst AreSingle (sym front) s;
-  star = subst IsAtStar (sym back) star;
-}
+piece_at es piece after k front back s star =
+    record { elements = cc (take-append-drop k es); single = rw front s; star = rw back star }
 
 -- ---- the characters of a text
 
@@ -53,14 +42,11 @@ pub copied_char : (buffer : List ℕ) (count c : ℕ) (cs rest all : List ℕ) �
     → take count buffer ++ cs ≡ all → cs ≡ c ∷ rest
     → take (count + 1) (set buffer count c) ++ rest ≡ all
 copied_char buffer count c cs rest all h so_far next =
-    ap (λ l. l ++ rest) (take_more_set buffer count c h)
-    ∙ (append_assoc (take count buffer) (c ∷ []) rest
-    ∙ (ap (λ l. take count buffer ++ l) (sym next) ∙ so_far))
+    cc (take_more_set buffer count c h, append_assoc (take count buffer) (c ∷ []) rest)
 
 -- all are copied
 pub copied_all : (front cs all : List ℕ) → front ++ cs ≡ all → cs ≡ [] → front ≡ all
-copied_all front cs all so_far none =
-    sym (append-nil front) ∙ (ap (λ l. front ++ l) (sym none) ∙ so_far)
+copied_all front cs all so_far none = cc (append-nil front)
 
 -- for the copying of a text
 pub ruleset copied = (copied_char, copied_all)

@@ -1,26 +1,21 @@
 -- Reading a whole source: its bytes, what is known at each
 -- step, and that the definition is what is written.
-use Rattle.std.proofs.Common.{◌≡◌, ◌<◌, ◌≤◌, ◌+◌, ◌-◌, ℕ, List, [], ◌∷◌, ◌++◌, length, refl, sym, ap, ◌∙◌, arith, subst, Bool, true, false, append_assoc, length-append}
-use Rattle.std.specs.Prelude.{◌==◌, if◌then◌else◌, None, Result, Ok, Err, IfOk, unwrap_or}
+use Rattle.std.proofs.Common.{◌≡◌, ◌<◌, ◌≤◌, ◌+◌, ◌-◌, ℕ, List, [], ◌∷◌, ◌++◌, length, Bool, true, false, Result, Ok, IfOk, unwrap_or, chars, IsUtf8, encode_utf8, encode_utf8_all, refl, ap, inl, inr, arith, append_assoc, length-append, eq-eqb, ne_eqb}
 use Rattle.std.specs.Char.{len_utf8}
 use Rattle.std.specs.Global.{Vec}
-use Rattle.std.specs.Str.{chars, IsUtf8, encode_utf8_all}
-use Rattle.std.proofs.lemmas.Bool.{eqb-true}
+use Rattle.std.proofs.lemmas.Bool.{cases_eq}
 use Rattle.std.proofs.lemmas.Str.{encodes-chars, length-encode, len_utf8_ascii}
-use Rattle.std.specs.Prelude.{encode_utf8}
 use Rattle.lq_value_pattern.specs.declared.element.Element.{Element}
-use Rattle.lq_value_pattern.specs.declared.element.Element.TheVariants.{Star, Any, Plain, Set}
 use Rattle.lq_value_pattern.specs.declared.error.SourceError.{SourceError}
 use Rattle.lq_value_pattern.specs.declared.error.SourceError.TheVariants.{Faulty, NoMemory}
 use Rattle.lq_value_pattern.specs.declared.sign.Sign.{Sign}
-use Rattle.lq_value_pattern.specs.declared.sign.Sign.TheVariants.{Bare}
 use Rattle.lq_value_pattern.specs.SourceError.{IsFailedBy}
 use Rattle.lq_value_pattern.specs.Sign.{signs, signs_of, signs_len}
-use Rattle.lq_value_pattern.specs.Source.{First, ends, has, faulty, element_at, elements_or_place, pattern_of, source_error}
+use Rattle.lq_value_pattern.specs.Source.{ends, has, faulty, element_at, elements_or_place, pattern_of, source_error}
 use Rattle.lq_value_pattern.specs.Written.{IsElement}
 use Rattle.lq_value_pattern.specs.Reading.{IsFound, IsWithElement, AreFound}
 use Rattle.lq_value_pattern.proofs.PieceLemmas.{Shrinks, SoFar, so_far_more, so_far_end, so_far_stuck}
-use Rattle.lq_value_pattern.proofs.ElementLemmas.{IsFirstElement, element_read}
+use Rattle.lq_value_pattern.proofs.ElementLemmas.{element_read}
 
 -- ---- the bytes of signs
 
@@ -32,24 +27,22 @@ behind_len true = 1
 -- a text's bytes are those of its first character and of the others
 whole_len : (c : ℕ) (cs : List ℕ)
     → length (encode_utf8 c ++ encode_utf8_all cs) ≡ len_utf8 c + length (encode_utf8_all cs)
-whole_len c cs = length-append (encode_utf8 c) (encode_utf8_all cs)
-    ∙ ap (λ n. n + length (encode_utf8_all cs)) (length-encode c)
+whole_len c cs = omega (
+  arith,
+  length-append (encode_utf8 c) (encode_utf8_all cs),
+  length-encode c,
+)
 
 -- the signs of a text have as many bytes as the text
 signs-len : (b : Bool) (cs : List ℕ)
     → signs_len (signs b cs) ≡ behind_len b + length (encode_utf8_all cs)
 signs-len false [] = refl
 signs-len true [] = refl
-signs-len false (c ∷ cs) = by (signs-len true cs) (signs-len false cs) (c == 92) refl
-  where
-    by : signs_len (signs true cs) ≡ 1 + length (encode_utf8_all cs)
-        → signs_len (signs false cs) ≡ 0 + length (encode_utf8_all cs) → (b : Bool) → (c == 92) ≡ b
-        → signs_len (if b then signs true cs else Bare c ∷ signs false cs)
-        ≡ 0 + length (encode_utf8 c ++ encode_utf8_all cs)
-    by h k true e =
-        let is : c ≡ 92 = eqb-true c 92 e in
-        omega (arith, h, whole_len c cs, len_utf8_ascii c (omega arith))
-    by h k false e = omega (arith, k, whole_len c cs)
+signs-len false (c ∷ cs) = elim (cases_eq c 92) [
+  | inl is ↦ rw (eq-eqb c 92 is)
+      (omega (arith, signs-len true cs, whole_len c cs, len_utf8_ascii c (omega arith)))
+  | inr other ↦ rw (ne_eqb c 92 other) (omega (arith, signs-len false cs, whole_len c cs))
+]
 signs-len true (c ∷ cs) = omega (arith, signs-len false cs, whole_len c cs)
 
 -- the signs of a text of UTF-8 have as many bytes as the text
@@ -66,18 +59,12 @@ signs-split (s ∷ front) rest = omega (arith, signs-split front rest)
 
 -- an element is written by a sign at least
 part_some : (e : Element) (part : List Sign) → IsElement e part → 0 < length part
-part_some Star part h = rw h (omega arith)
-part_some Any part h = rw h (omega arith)
-part_some (Plain c) part h = rw h.1 (omega arith)
-part_some (Set true items) part h = rw h.1 (omega arith)
-part_some (Set false items) part h = rw h.1 (omega arith)
+part_some e part h = grind arith
 
 -- what is read is the part in front
-element_split : (ss : List Sign) (e : Element) (rest : List Sign) → element_at ss ≡ has e rest
+pub element_split : (ss : List Sign) (e : Element) (rest : List Sign) → element_at ss ≡ has e rest
     → (part : List Sign) × (ss ≡ part ++ rest) × IsElement e part
-element_split ss e rest is =
-    let P : First Element → Type 0 = λ r. IsFirstElement ss r in
-    subst P is (element_read ss)
+element_split ss e rest is = rw is at (element_read ss)
 
 -- each element that is read has a sign at least
 pub element_shrinks : Shrinks Element element_at
@@ -100,13 +87,7 @@ pub record ElementsSoFar (start : List Sign) (gathered : Result (Vec Element) So
 found_more : (es : List Element) (e : Element) (g : Result (Vec Element) SourceError)
     (x : Result Element SourceError) (g' : Result (Vec Element) SourceError)
     → AreFound es g → IsFound e x → IsWithElement g x g' → AreFound (es ++ e ∷ []) g'
-found_more es e (Ok v) (Ok y) (Ok more) a f w =
-    w ∙ ap (λ l. l ++ y ∷ []) a ∙ ap (λ z. es ++ z ∷ []) f
-found_more es e (Ok v) (Ok y) (Err r) a f w = w
-found_more es e (Ok v) (Err r) (Ok more) a f w = absurd w
-found_more es e (Ok v) (Err r) (Err r') a f w = w ∙ f
-found_more es e (Err r) x (Ok more) a f w = absurd w
-found_more es e (Err r) x (Err r') a f w = w ∙ a
+found_more es e g x g' a f w = grind arith
 
 -- one element more is read, and found unless memory runs out
 pub elements_more : (start left rest : List Sign) (e : Element)
@@ -121,21 +102,9 @@ elements_more start left rest e g x g' s is f w =
       front = s.front ++ p.0;
       pieces =
           so_far_more Element element_at element_shrinks start s.elements left e rest s.pieces is;
-      split = s.split ∙ ap (λ l. s.front ++ l) p.1 ∙ sym (append_assoc s.front p.0 rest);
+      split = cc (p.1, append_assoc s.front p.0 rest);
       are = found_more s.elements e g x g' s.are f w;
     }
-
--- what was found refuses nothing but for want of memory
-refused_none : (es : List Element) (g : Result (Vec Element) SourceError) → AreFound es g
-    → IsFailedBy g None
-refused_none es (Ok v) a = (refl, tt)
-refused_none es (Err e) a = (tt, a)
-
--- what was found is what the source is read as
-value_found : (es : List Element) (g : Result (Vec Element) SourceError)
-    (p : Result (List Element) ℕ) → AreFound es g → p ≡ Ok es → IfOk g (λ v. p ≡ Ok v.items)
-value_found es (Ok v) p a e = e ∙ ap Ok (sym a)
-value_found es (Err r) p a e = tt
 
 -- a source that ends here is read as what was found
 elements_end : (text : List ℕ) (left : List Sign) (g : Result (Vec Element) SourceError)
@@ -149,14 +118,15 @@ elements_end text left g s e =
 pub end_refused : (text : List ℕ) (left : List Sign) (g : Result (Vec Element) SourceError)
     → ElementsSoFar (signs_of text) g left → element_at left ≡ ends []
     → IsFailedBy g (source_error text)
-end_refused text left g s e = rw (elements_end text left g s e) (refused_none s.elements g s.are)
+end_refused text left g s e =
+    let are = s.are in rw (elements_end text left g s e) (grind arith)
 
 -- a source that ends here is read as the answer
 pub end_value : (text : List ℕ) (left : List Sign) (g : Result (Vec Element) SourceError)
     → ElementsSoFar (signs_of text) g left → element_at left ≡ ends []
     → IfOk g (λ v. pattern_of text ≡ Ok v.items)
 end_value text left g s e =
-    value_found s.elements g (pattern_of text) s.are (elements_end text left g s e)
+    let are = s.are in rw (elements_end text left g s e) (grind arith)
 
 -- what is left of a source is no longer than the source
 pub left_within : (text left : List ℕ) (g : Result (Vec Element) SourceError) → IsUtf8 text
@@ -174,8 +144,6 @@ pub stuck_refused : (text left : List ℕ) (g : Result (Vec Element) SourceError
     → ElementsSoFar (signs_of text) g (signs_of left) → element_at (signs_of left) ≡ faulty
     → Faulty (length text - length left) ≡ unwrap_or (source_error text) NoMemory
 stuck_refused text left g v s e =
-    let is : pattern_of text ≡ Err (length text - length left) =
-    ap (elements_or_place text) (so_far_stuck Element element_at element_shrinks
-    (signs_of text) s.elements (signs_of left) s.pieces e)
-    ∙ ap (λ n. Err (length text - n)) (signs-text left v) in
-    rw is refl
+    let stuck = so_far_stuck Element element_at element_shrinks (signs_of text) s.elements
+    (signs_of left) s.pieces e in
+    rw (stuck, signs-text left v) refl

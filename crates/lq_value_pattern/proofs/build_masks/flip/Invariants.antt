@@ -1,5 +1,4 @@
-use Rattle.std.proofs.Common.{◌≡◌, ◌≤◌, ◌<◌, ℕ}
-use Rattle.std.specs.Prelude.{slice_index}
+use Rattle.std.proofs.Common.{◌≡◌, ◌≤◌, ◌<◌, ℕ, slice_index}
 use Rattle.lq_value_pattern.specs.Masks.{IsFlipped}
 use Rattle.lq_value_pattern.proofs.build_masks.flip.Given as goal
 

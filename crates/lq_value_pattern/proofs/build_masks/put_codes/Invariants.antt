@@ -1,5 +1,4 @@
-use Rattle.std.proofs.Common.{◌≡◌, ◌≤◌, ◌<◌, ℕ, true}
-use Rattle.std.specs.Prelude.{slice_index}
+use Rattle.std.proofs.Common.{◌≡◌, ◌≤◌, ◌<◌, ℕ, true, slice_index}
 use Rattle.lq_value_pattern.specs.Masks.{IsPut}
 use Rattle.lq_value_pattern.proofs.build_masks.put_codes.Given as goal
 

@@ -1,4 +1,4 @@
-use Rattle.std.specs.Prelude.{◌==◌}
+use Rattle.std.proofs.Common.{◌==◌}
 use Rattle.lq_value_pattern.proofs.MaskLemmas.{any_taken, marked_taken}
 use Rattle.lq_value_pattern.proofs.build_masks.put_element.Goals as goal
 

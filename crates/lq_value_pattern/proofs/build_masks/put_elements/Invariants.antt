@@ -1,5 +1,4 @@
-use Rattle.std.proofs.Common.{◌≡◌, ◌≤◌, ◌<◌, ℕ, length}
-use Rattle.std.specs.Prelude.{slice_index}
+use Rattle.std.proofs.Common.{◌≡◌, ◌≤◌, ◌<◌, ℕ, length, slice_index}
 use Rattle.std.specs.Int.{bit_at}
 use Rattle.lq_value_pattern.specs.Seek.{kept}
 use Rattle.lq_value_pattern.specs.Masks.{takes_at}

@@ -1,5 +1,4 @@
-use Rattle.std.proofs.Common.{◌≡◌, ◌≤◌, ◌<◌, ℕ}
-use Rattle.std.specs.Prelude.{◌==◌, slice_index}
+use Rattle.std.proofs.Common.{◌≡◌, ◌≤◌, ◌<◌, ℕ, ◌==◌, slice_index}
 use Rattle.lq_value_pattern.specs.Seek.{kept}
 use Rattle.lq_value_pattern.proofs.element_runs.keep_char.Given as goal
 

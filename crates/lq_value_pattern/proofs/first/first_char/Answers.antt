@@ -1,12 +1,7 @@
-use Rattle.std.proofs.Common.{◌≡◌, ℕ, List, [], ◌∷◌, refl, arith, ◌++◌, sym, ap, ◌∙◌, length, length-append, ◌+◌}
-use Rattle.std.specs.Prelude.{encode_utf8}
-use Rattle.std.specs.Str.{chars}
+use Rattle.std.proofs.Common.{◌++◌, sym, ap, ◌∙◌, length, length-append, ◌+◌, encode_utf8, chars}
+use Rattle.std.proofs.lemmas.List.{nil_from_length}
 use Rattle.std.proofs.lemmas.Str.{chars-nil, chars_past_char, length-encode}
 use Rattle.lq_value_pattern.proofs.first.first_char.Goals as goal
-
-nothing : (l : List ℕ) → length l ≡ 0 → l ≡ []
-nothing [] e = refl
-nothing (x ∷ l) e = absurd (omega arith)
 
 pub returns-in-Some-clause-value : goal.returns-in-Some-clause-value
 returns-in-Some-clause-value c =
@@ -23,4 +18,4 @@ returns-in-Some-clause-len c =
 
 pub returns-in-None-clause-value : goal.returns-in-None-clause-value
 returns-in-None-clause-value c = ap chars (sym c.chars-all.ensures.rest
-    ∙ nothing c.chars-all.result.rest.now c.in-None.ensures.steps.0.0) ∙ chars-nil
+    ∙ nil_from_length c.chars-all.result.rest.now c.in-None.ensures.steps.0.0) ∙ chars-nil

@@ -1,5 +1,5 @@
 use Rattle.lq_value_pattern.proofs.PieceLemmas.{pieces_of-step}
-use Rattle.lq_value_pattern.proofs.ReadingLemmas.{item_shrinks}
+use Rattle.lq_value_pattern.proofs.WrittenLemmas.{item_shrinks}
 use Rattle.lq_value_pattern.proofs.SourceLemmas.{element_shrinks, signs-text}
 use Rattle.lq_value_pattern.proofs.laws.sources_are_walked.Goals as goal
 

@@ -1,5 +1,4 @@
-use Rattle.std.proofs.Common.{◌≡◌, ◌≤◌, ◌++◌, length, take}
-use Rattle.std.specs.Str.{chars}
+use Rattle.std.proofs.Common.{◌≡◌, ◌≤◌, ◌++◌, length, take, chars}
 use Rattle.lq_value_pattern.proofs.long.copy_chars.Given as goal
 
 -- the characters that are left come behind those in the buffer

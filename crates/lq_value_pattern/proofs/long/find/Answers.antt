@@ -1,7 +1,6 @@
 use Rattle.std.proofs.Common.{◌≡◌, length, false, arith, rules}
 use Rattle.std.proofs.lemmas.Bool.Decides.{nat_tests}
 use Rattle.lq_value_pattern.specs.Pattern.{fits, some_rest}
-use Rattle.lq_value_pattern.specs.Seek.{TakeNowhere}
 use Rattle.lq_value_pattern.proofs.SeekLemmas.{found_piece, nowhere_end}
 use Rattle.lq_value_pattern.proofs.long.find.Goals as goal
 
@@ -9,22 +8,14 @@ pub returns-in_err-find_place : goal.returns-in_err-find_place
 returns-in_err-find_place c =
     let es = c.args.start.elements.now in
     let cs = c.args.start.text.now in
-    let piece = c.split_at_star-piece.result.single.now in
-    let after = c.split_at_star-piece.result.after.now in
-    let end = c.from_place-end.result.now in
-    let none : length after ≡ 0 = grind (arith, nat_tests) in
-    let nowhere : TakeNowhere piece end = c.in_err-find_place.ensures in
+    let none : length c.split_at_star-piece.result.after.now ≡ 0 = grind (arith, nat_tests) in
     let no : some_rest (fits es) cs ≡ false =
-    nowhere_end es piece after cs end c.split_at_star-piece.ensures none (omega arith)
-    c.from_place-end.ensures nowhere in
+    nowhere_end es _ _ cs c.from_place-end.result.now c.split_at_star-piece.ensures none
+    (omega arith) c.from_place-end.ensures c.in_err-find_place.ensures in
     search rules
 
 pub returns : goal.returns
 returns c =
-    let es = c.args.start.elements.now in
-    let cs = c.args.start.text.now in
-    let piece = c.split_at_star-piece.result.single.now in
-    let after = c.split_at_star-piece.result.after.now in
-    let some : length after ≡ 0 → ⊥ = grind (arith, nat_tests) in
-    found_piece es piece after cs c.from_place-left.result.now c.in_ok-place.place
+    let some : length c.split_at_star-piece.result.after.now ≡ 0 → ⊥ = grind (arith, nat_tests) in
+    found_piece _ _ _ c.args.start.text.now c.from_place-left.result.now c.in_ok-place.place
     c.split_at_star-piece.ensures some c.in_ok-place.ensures c.from_place-left.ensures

@@ -1,7 +1,5 @@
-use Rattle.std.proofs.Common.{◌+◌, ◌-◌, ◌∙◌, length, drop, ap, arith, inl, inr}
-use Rattle.std.specs.Prelude.{slice_index}
+use Rattle.std.proofs.Common.{◌+◌, ◌-◌, ◌∙◌, length, arith, inl, inr}
 use Rattle.std.proofs.lemmas.Bool.{cases_eq}
-use Rattle.lq_value_pattern.specs.Seek.{kept, take_front}
 use Rattle.lq_value_pattern.specs.Masks.{AreEnds}
 use Rattle.lq_value_pattern.proofs.MaskLemmas.{ends_more, ends_all}
 use Rattle.lq_value_pattern.proofs.match_masks.match_window_ended.Goals as goal
@@ -21,11 +19,10 @@ loop-i-preserved c =
       small = c.next_ends-ends.ensures.small;
       ends = next;
       done = λ k le. elim (cases_eq (k + last) i) [
-        | inl here ↦ c.keep_end.ensures.at k here
-            ∙ (ap (λ b. kept b (slice_index c.loop-i.flags k))
-            (ends_all es cs ends last i k (omega arith) here next)
-            ∙ ap (kept (take_front es (drop k cs)))
-            (c.loop-i.invariant.left k (omega (arith, here))))
+        | inl here ↦
+            let hit = ends_all es cs ends last i k (omega arith) here next in
+            let old = c.loop-i.invariant.left k (omega (arith, here)) in
+            cc (c.keep_end.ensures.at k here, hit, old)
         | inr other ↦ c.keep_end.ensures.others k other
             ∙ c.loop-i.invariant.done k (omega arith)
       ];

@@ -1,5 +1,4 @@
-use Rattle.std.proofs.Common.{◌≡◌, ◌≤◌, ◌<◌, ◌+◌, ℕ, length, drop}
-use Rattle.std.specs.Prelude.{slice_index}
+use Rattle.std.proofs.Common.{◌≡◌, ◌≤◌, ◌<◌, ◌+◌, ℕ, length, drop, slice_index}
 use Rattle.lq_value_pattern.specs.Seek.{kept, take_front}
 use Rattle.lq_value_pattern.specs.Masks.{AreEnds}
 use Rattle.lq_value_pattern.proofs.match_masks.match_window_ended.Given as goal

@@ -1,5 +1,4 @@
-use Rattle.std.proofs.Common.{◌≡◌, length}
-use Rattle.std.specs.Str.{chars}
+use Rattle.std.proofs.Common.{◌≡◌, length, chars}
 use Rattle.lq_value_pattern.specs.Pattern.{fits, some_rest}
 use Rattle.lq_value_pattern.proofs.matching.find.Given as goal
 

@@ -1,5 +1,4 @@
-use Rattle.std.proofs.Common.{◌≡◌, length}
-use Rattle.std.specs.Str.{chars}
+use Rattle.std.proofs.Common.{◌≡◌, length, chars}
 use Rattle.lq_value_pattern.specs.Matching.{IsAtStar}
 use Rattle.lq_value_pattern.specs.Pattern.{fits}
 use Rattle.lq_value_pattern.proofs.matching.fits_short.Given as goal

@@ -1,6 +1,4 @@
-use Rattle.std.proofs.Common.{ap, ◌∙◌}
-use Rattle.std.specs.Str.{chars}
-use Rattle.std.specs.String.{string_bytes}
+use Rattle.std.proofs.Common.{ap, ◌∙◌, chars, string_bytes}
 use Rattle.std.proofs.lemmas.Str.{IsUtf8-string_bytes, chars-nil}
 use Rattle.lq_value_pattern.specs.Pattern.{plain_elements}
 use Rattle.lq_value_pattern.proofs.PatternLemmas.{text_more, text_none}

@@ -1,6 +1,4 @@
-use Rattle.std.proofs.Common.{◌≡◌, take}
-use Rattle.std.specs.Str.{chars}
-use Rattle.std.specs.String.{string_bytes}
+use Rattle.std.proofs.Common.{◌≡◌, take, chars, string_bytes}
 use Rattle.lq_value_pattern.specs.Pattern.{plain_elements}
 use Rattle.lq_value_pattern.proofs.plain.plain_text.Given as goal
 

@@ -1,5 +1,6 @@
 use Rattle.lq_value_pattern.specs.Sign.{signs_of}
-use Rattle.lq_value_pattern.proofs.ReadingLemmas.{items_end, items_more, items_stuck, item_shrinks}
+use Rattle.lq_value_pattern.proofs.ReadingLemmas.{items_end, items_more, items_stuck}
+use Rattle.lq_value_pattern.proofs.WrittenLemmas.{item_shrinks}
 use Rattle.lq_value_pattern.proofs.set.read_items.Goals as goal
 
 pub returns-in-End : goal.returns-in-End

@@ -1,5 +1,4 @@
-use Rattle.std.proofs.Common.{◌≡◌, ◌<◌, ◌≤◌, ◌-◌, length, take}
-use Rattle.std.specs.Prelude.{slice_index}
+use Rattle.std.proofs.Common.{◌≡◌, ◌<◌, ◌≤◌, ◌-◌, length, take, slice_index}
 use Rattle.lq_value_pattern.specs.Seek.{AreFlags, AreOff}
 use Rattle.lq_value_pattern.proofs.window_search.find_flagged.Given as goal
 

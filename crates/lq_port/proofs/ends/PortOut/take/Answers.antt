@@ -1,8 +1,7 @@
 -- A take keeps the rule, and leaves an end for takes.
-use Rattle.std.proofs.Common.{◌+◌, ap, sym, ◌∙◌}
 use Rattle.lq_port.specs.End.{known_of}
 use Rattle.lq_port.proofs.PortLemmas.{removes, empty}
-use Rattle.lq_port.proofs.EndLemmas.{taker_stays, take_is_legal, length-take}
+use Rattle.lq_port.proofs.EndLemmas.{after_take}
 use Rattle.lq_port.proofs.ends.PortOut.take.Goals as goal
 
 pub try_recv_as-requires-clause-rule : goal.try_recv_as-requires-clause-rule
@@ -12,16 +11,7 @@ try_recv_as-requires-clause-rule g c =
 
 pub invariant_of-self-2 : goal.invariant_of-self-2
 invariant_of-self-2 g c =
-    let follows = g.T.Follows.follows in
-    let r = c.in-Ok.ensures.rule in
     let i = c.self.invariant in
-    let v = known_of c.self.inside.pass in
-    let item = c.in-Ok.item in
-    let stays = taker_stays follows v (known_of c.try_recv_as.new.pass) item r in
-    let more = length-take follows v (known_of c.try_recv_as.new.pass) item r in
-    let legal = take_is_legal follows v (known_of c.try_recv_as.new.pass) item r i.3 in (
-      c.try_recv_as.ensures.channel.0,
-      stays,
-      ap (λ n. n + 1) i.2 ∙ sym more,
-      legal,
-    )
+    let after = after_take g.T.Follows.follows (known_of c.self.inside.pass)
+    (known_of c.try_recv_as.new.pass) c.in-Ok.item _ c.in-Ok.ensures.rule i.2 i.3 in
+    (c.try_recv_as.ensures.channel.0, after.0, after.1, after.2)
