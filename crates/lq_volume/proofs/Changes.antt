@@ -8,7 +8,7 @@ use Rattle.lq_value.specs.Refusal.{first_refusal}
 use Rattle.lq_volume.specs.declared.change.Change.{Change}
 use Rattle.lq_volume.specs.declared.change.Change.TheVariants.{Create, Remove, Move, Write, SetAttr, RemoveAttr}
 use Rattle.lq_volume.specs.State.{State, Record, Rises, IsNumbered}
-use Rattle.lq_volume.specs.Change.{refused, refusals, with_records, altered, without}
+use Rattle.lq_volume.specs.Change.{refused, with_records, altered, without}
 use Rattle.lq_volume_entries.specs.Laws.{RecordsAreKept}
 use Rattle.lq_volume.proofs.RecordLemmas.{Entries, All-push, All-weaker, All-filter, All-without, All-kept}
 
@@ -20,24 +20,12 @@ none_holds (row ∷ rows) h = let k = none_holds rows in grind (arith, nat_tests
 
 -- a change that nothing refuses finds the volume below its limit
 pub accepted_number : (s : State) (c : Change) → refused s c ≡ None → s.number < s.limit
-accepted_number s (Create dir name kind size time) h =
-    let rows = none_holds (refusals s (Create dir name kind size time)) h in
-    grind (arith, nat_tests)
-accepted_number s (Remove node) h =
-    let rows = none_holds (refusals s (Remove node)) h in
-    grind (arith, nat_tests)
-accepted_number s (Move node dir name clobber) h =
-    let rows = none_holds (refusals s (Move node dir name clobber)) h in
-    grind (arith, nat_tests)
-accepted_number s (Write node size time) h =
-    let rows = none_holds (refusals s (Write node size time)) h in
-    grind (arith, nat_tests)
-accepted_number s (SetAttr node attr value) h =
-    let rows = none_holds (refusals s (SetAttr node attr value)) h in
-    grind (arith, nat_tests)
-accepted_number s (RemoveAttr node attr) h =
-    let rows = none_holds (refusals s (RemoveAttr node attr)) h in
-    grind (arith, nat_tests)
+accepted_number s (Create dir name kind size time) h = grind (arith, nat_tests)
+accepted_number s (Remove node) h = grind (arith, nat_tests)
+accepted_number s (Move node dir name clobber) h = grind (arith, nat_tests)
+accepted_number s (Write node size time) h = grind (arith, nat_tests)
+accepted_number s (SetAttr node attr value) h = grind (arith, nat_tests)
+accepted_number s (RemoveAttr node attr) h = grind (arith, nat_tests)
 
 -- the nodes still rise without one
 Rises-without : RecordsAreKept → (other : Option ℕ) (es : Entries) → Rises es
