@@ -1,5 +1,5 @@
 -- What a parse says of the program's words.
-use Rattle.std.proofs.Common.{◌≡◌, ◌∙◌, inl, inr, false, true, refl, sym, ap, ap₂, subst, codes, List, [], Option, Some, None, option_map, ⊎_elim}
+use Rattle.std.proofs.Common.{◌≡◌, ◌∙◌, inl, inr, false, true, refl, sym, ap, ap₂, subst, codes, List, [], Option, Some, None, option_map, arith, ⊎_elim}
 use Rattle.std.specs.Str.{bytes_eq}
 use Rattle.clap.specs.Walk.{Text, Row, first_of, rows_of}
 use Rattle.clap.specs.Simple.{App, HasMatchesOf, is_simple, subcommand_of, subcommand_rows_of}
@@ -46,32 +46,19 @@ refused_is_usage words e fails memory = record {
 -- words that ask for `run` by its name ask for a run
 pub run_named : (words : List Text) (name : Text) (first : Option Text) → Asks words (name, first)
     → bytes_eq name (codes "run") ≡ true → IsRun words
-run_named words name first (inl run) e = run.0
-run_named words name first (inr (inl threads)) e =
-    absurd (let bad : false ≡ true = rw (ap (λ p. p.0) threads.1) at e in cc)
-run_named words name first (inr (inr (formula, (check, is)))) e =
-    absurd (let bad : false ≡ true = rw (ap (λ p. p.0) is) at e in cc)
+run_named words name first asks e = grind arith
 
 -- those that ask for `threads` ask for a run by threads
 pub threads_named : (words : List Text) (name : Text) (first : Option Text)
     → Asks words (name, first) → bytes_eq name (codes "threads") ≡ true → IsThreads words
-threads_named words name first (inl run) e =
-    absurd (let bad : false ≡ true = rw (ap (λ p. p.0) run.1) at e in cc)
-threads_named words name first (inr (inl threads)) e = threads.0
-threads_named words name first (inr (inr (formula, (check, is)))) e =
-    absurd (let bad : false ≡ true = rw (ap (λ p. p.0) is) at e in cc)
+threads_named words name first asks e = grind arith
 
 -- those that ask for another give a formula, and ask for a check of it
 pub check_named : (words : List Text) (name : Text) (first : Option Text)
     → Asks words (name, first) → bytes_eq name (codes "run") ≡ false
     → bytes_eq name (codes "threads") ≡ false
     → (formula : Text) × ((first ≡ Some formula) × IsCheckOf words formula)
-check_named words name first (inl run) no_run no_threads =
-    absurd (let bad : true ≡ false = rw (ap (λ p. p.0) run.1) at no_run in cc)
-check_named words name first (inr (inl threads)) no_run no_threads =
-    absurd (let bad : true ≡ false = rw (ap (λ p. p.0) threads.1) at no_threads in cc)
-check_named words name first (inr (inr (formula, (check, is)))) no_run no_threads =
-    (formula, (ap (λ p. p.1) is, check))
+check_named words name first asks no_run no_threads = grind arith
 
 -- equal options hold equal values
 pub some_is : {X : Type 0} (x y : X) → Some x ≡ Some y → x ≡ y

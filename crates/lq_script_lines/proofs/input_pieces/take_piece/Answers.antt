@@ -4,7 +4,6 @@ use Rattle.lq_script_lines.specs.declared.run_fault.RunFault.TheVariants.{Memory
 use Rattle.lq_script_lines.proofs.ResultLemmas.{neither, no_fault, no_other}
 use Rattle.lq_script_lines.proofs.ProgressLemmas.{given_rest, halted_at, line_rest, line_taken, run_taken, stands_fronts, stands_run}
 use Rattle.lq_script_lines.proofs.input_pieces.take_piece.Goals as goal
-use Rattle.lq_script_lines.proofs.input_pieces.take_piece.Goals.{else-at-piece-via-else-at-piece, else-at-piece-via-then-at-piece+else-run-most}
 use Rattle.lq_script_lines.proofs.input_pieces.take_piece.Goals.{then-intake-ge-MAX_LINES-via-then-intake-ge-MAX_LINES, then-intake-ge-MAX_LINES-via-else-intake-ge-MAX_LINES+then-intake-ge-MAX_BYTES}
 
 pub returns-then-intake-ge-MAX_LINES : goal.returns-then-intake-ge-MAX_LINES
@@ -87,23 +86,7 @@ returns-in_err-end_line g c =
     }
 
 pub loop-at-smaller : goal.loop-at-smaller
-loop-at-smaller g c =
-    let run = c.run_at-run.ensures in
-    elim c.else-at-piece.branch [
-      | else-at-piece-via-else-at-piece w ↦
-          omega (arith, c.loop-at-test.true, run.bound, w.if-at-piece.false)
-      | else-at-piece-via-then-at-piece+else-run-most w ↦
-          omega (
-            arith,
-            c.loop-at-test.true,
-            run.bound,
-            w.if-run-most.false,
-            c.if-intake-ge-MAX_BYTES.false,
-          )
-    ]
-
-pub loop-at-smaller-then-run-most : goal.loop-at-smaller-then-run-most
-loop-at-smaller-then-run-most g c = omega (arith, c.loop-at-test.true, c.if-at-piece.true)
+loop-at-smaller g c = let run = c.run_at-run.ensures in grind (arith, run.bound)
 
 pub returns : goal.returns
 returns g c = record {

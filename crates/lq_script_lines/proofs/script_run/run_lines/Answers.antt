@@ -2,7 +2,7 @@ use Rattle.std.proofs.Common.{refl, sym, ◌∙◌, rules, arith, Err, ◌≡◌
 use Rattle.std.proofs.KnownBytes.{Consumes-kept, Consumes-nil, Consumes-trans}
 use Rattle.std.proofs.lemmas.Result.{on_err_weaker, on_ok_weaker}
 use Rattle.lq_script_lines.specs.declared.run_fault.RunFault.TheVariants.{Write}
-use Rattle.lq_script_lines.proofs.ResultLemmas.{else_memory, neither, no_other}
+use Rattle.lq_script_lines.proofs.ResultLemmas.{else_memory, neither}
 use Rattle.lq_script_lines.proofs.ProgressLemmas.{fronts_all, fronts_handed, stands_handed, stands_stops, stands_within}
 use Rattle.lq_script_lines.proofs.RunLemmas.{less_left, read_none, run_ended, run_halted, run_passed, run_stopped, stands_none}
 use Rattle.lq_script_lines.proofs.script_run.run_lines.Goals as goal
@@ -31,49 +31,22 @@ receive-requires g c =
 pub returns-in_err-write_replies : goal.returns-in_err-write_replies
 returns-in_err-write_replies g c =
     let is : c.from_residual.result ≡ Err Write = search rules in
-    let i = c.loop-out.invariant in record {
-      outcome = rw is (record {
-        ok = tt;
-        flushed = tt;
-        works = tt;
-        err = run_stopped i.consumed
-            (fronts_handed (stands_stops i.stands) c.in_err-write_replies.ensures.err);
-        flush = inl refl;
-        read = λ h. no_other h refl;
-        limit = λ h. no_other h refl;
-        memory = λ h. no_other h refl;
-        memory_works = λ h. no_other h refl;
-        read_fails = λ h. no_other h refl;
-        write_fails = λ _. c.in_err-write_replies.ensures.cause;
-        no_thread = λ h. no_other h refl;
-      });
-      begun = λ h. no_other (sym is ∙ h) refl;
-    }
+    let i = c.loop-out.invariant in
+    let says = c.in_err-write_replies.ensures in
+    let stopped = run_stopped i.consumed (fronts_handed (stands_stops i.stands) says.err) in
+    rw is (search (arith, inl, stopped, says.cause))
 
 -- a fault of the writer after a read fault
 pub returns-in_err-write_and_flush : goal.returns-in_err-write_and_flush
 returns-in_err-write_and_flush g c =
     let is : c.from_residual-in_err-write_and_flush.result ≡ Err Write = search rules in
     let i = c.loop-out.invariant in
+    let says = c.in_err-write_and_flush.ensures in
     let stood = stands_handed i.stands c.in_ok-write_replies.ensures.ok
-    c.write_replies.ensures.empty in record {
-      outcome = rw is (record {
-        ok = tt;
-        flushed = tt;
-        works = tt;
-        err = run_stopped (Consumes-kept _ _ _ _ i.consumed c.in_default.ensures.bytes)
-            (fronts_handed (stands_stops stood) c.in_err-write_and_flush.ensures.err);
-        flush = inl refl;
-        read = λ h. no_other h refl;
-        limit = λ h. no_other h refl;
-        memory = λ h. no_other h refl;
-        memory_works = λ h. no_other h refl;
-        read_fails = λ h. no_other h refl;
-        write_fails = λ _. c.in_err-write_and_flush.ensures.cause;
-        no_thread = λ h. no_other h refl;
-      });
-      begun = λ h. no_other (sym is ∙ h) refl;
-    }
+    c.write_replies.ensures.empty in
+    let stopped = run_stopped (Consumes-kept _ _ _ _ i.consumed c.in_default.ensures.bytes)
+    (fronts_handed (stands_stops stood) says.err) in
+    rw is (search (arith, inl, stopped, says.cause))
 
 -- a read fault
 pub returns-in_default : goal.returns-in_default
@@ -82,24 +55,11 @@ returns-in_default g c =
     let stood = stands_handed i.stands c.in_ok-write_replies.ensures.ok
     c.write_replies.ensures.empty in
     let read = Consumes-kept _ _ _ _ i.consumed c.in_default.ensures.bytes in
-    let flush = c.in_ok-write_and_flush.ensures in
-    let none = c.write_and_flush.ensures.empty in record {
-      outcome = record {
-        ok = tt;
-        flushed = tt;
-        works = tt;
-        err = run_stopped read (fronts_all (stands_stops stood) flush.ok);
-        flush = inr flush.flushed;
-        read = λ _. run_ended (stands_handed stood flush.ok none) read none;
-        limit = λ h. no_other h refl;
-        memory = λ h. no_other h refl;
-        memory_works = λ h. no_other h refl;
-        read_fails = λ _. c.in_default.ensures.fails;
-        write_fails = λ h. no_other h refl;
-        no_thread = λ h. no_other h refl;
-      };
-      begun = λ h. no_other h refl;
-    }
+    let says = c.in_ok-write_and_flush.ensures in
+    let none = c.write_and_flush.ensures.empty in
+    let stopped = run_stopped read (fronts_all (stands_stops stood) says.ok) in
+    let ended = run_ended (stands_handed stood says.ok none) read none in
+    search (arith, inr, stopped, ended, says.flushed, c.in_default.ensures.fails)
 
 -- the end of the input
 pub returns-then-count-eq0 : goal.returns-then-count-eq0
