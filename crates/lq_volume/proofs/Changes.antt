@@ -53,39 +53,38 @@ IsNumbered-create laws s v n more = record {
       (λ e. e.0 < s.next + 1) s.records (λ e lt. omega arith) n.below) (omega arith);
 }
 
--- one more change, with fewer records
-pub IsNumbered-filter : RecordsAreKept → (s : State) (test : ℕ × Record → Bool) → IsNumbered s
-    → s.number < s.limit
-    → IsNumbered (record {
-      limit = s.limit;
-      number = s.number + 1;
-      next = s.next;
-      records = filter test s.records;
-    })
-IsNumbered-filter laws s test n more = record {
+-- one more change, with records under nodes that were there
+IsNumbered-with : (s : State) (es : Entries) → IsNumbered s → s.number < s.limit → Rises es
+    → AllByRecursion (λ e. 2 ≤ e.0) es → AllByRecursion (λ e. e.0 < s.next) es
+    → IsNumbered (with_records s es)
+IsNumbered-with s es n more rise above below = record {
   limit = n.limit;
   number = omega arith;
   next = n.next;
   few = omega (arith, n.few);
-  rise = laws.rise.filtered test s.records n.rise;
-  above = All-filter (λ e. 2 ≤ e.0) test s.records n.above;
-  below = All-filter (λ e. e.0 < s.next) test s.records n.below;
+  rise = rise;
+  above = above;
+  below = below;
 }
+
+-- one more change, with fewer records
+pub IsNumbered-filter : RecordsAreKept → (s : State) (test : ℕ × Record → Bool) → IsNumbered s
+    → s.number < s.limit → IsNumbered (with_records s (filter test s.records))
+IsNumbered-filter laws s test n more =
+    IsNumbered-with s (filter test s.records) n more (laws.rise.filtered test s.records n.rise)
+    (All-filter (λ e. 2 ≤ e.0) test s.records n.above)
+    (All-filter (λ e. e.0 < s.next) test s.records n.below)
 
 -- one more change, with a record altered, and perhaps one node less
 pub IsNumbered-altered : RecordsAreKept → (s : State) (other : Option ℕ) (node : ℕ)
     (f : Record → Record)
     → IsNumbered s → s.number < s.limit
     → IsNumbered (with_records s (altered node f (without other s.records)))
-IsNumbered-altered laws s other node f n more = record {
-  limit = n.limit;
-  number = omega arith;
-  next = n.next;
-  few = omega (arith, n.few);
-  rise = laws.rise.altered node f (without other s.records)
-      (Rises-without laws other s.records n.rise);
-  above = All-kept (λ e. 2 ≤ e.0) node f (without other s.records) (λ e h. h)
-      (All-without (λ e. 2 ≤ e.0) other s.records n.above);
-  below = All-kept (λ e. e.0 < s.next) node f (without other s.records) (λ e h. h)
-      (All-without (λ e. e.0 < s.next) other s.records n.below);
-}
+IsNumbered-altered laws s other node f n more =
+    let es = without other s.records in
+    IsNumbered-with s (altered node f es) n more
+    (laws.rise.altered node f es (Rises-without laws other s.records n.rise))
+    (All-kept (λ e. 2 ≤ e.0) node f es (λ e h. h)
+    (All-without (λ e. 2 ≤ e.0) other s.records n.above))
+    (All-kept (λ e. e.0 < s.next) node f es (λ e h. h)
+    (All-without (λ e. e.0 < s.next) other s.records n.below))

@@ -1,13 +1,12 @@
 -- An accepted change keeps the numbers, the nodes and the tree, and alters no record but those it
 -- touches.
 use Rattle.std.proofs.Common.{◌≡◌, ◌≢◌, ℕ, ℤ, ◌+◌, ◌<◌, List, [], ◌∷◌, ◌++◌, refl, sym, arith, eqb, ap, ◌∙◌, Bool, true, false}
-use Rattle.std.specs.Prelude.{not, filter, nat_eq, Option, Some, None, is_none, is_some, IsSome, ◌&&◌}
+use Rattle.std.specs.Prelude.{not, filter, nat_eq, Option, Some, None, is_none, ◌&&◌}
 use Rattle.std.specs.Option.{option_map, option_map_or, option_to_list}
 use Rattle.std.specs.List.{AllByRecursion}
 use Rattle.std.specs.Map.{lookup}
 use Rattle.std.proofs.lemmas.Bool.Decides.{nat_tests}
 use Rattle.lq_value.specs.declared.kind.Kind.{Kind}
-use Rattle.lq_value.specs.declared.kind.Kind.TheVariants.{File, Folder}
 use Rattle.lq_volume.specs.declared.change.Change.{Change}
 use Rattle.lq_volume.specs.declared.change.Change.TheVariants.{Create, Remove, Move, Write, SetAttr, RemoveAttr}
 use Rattle.lq_volume_entries.specs.Attributes.{Attributes, HasOwnNames, with_attr, without_attr}
@@ -27,9 +26,7 @@ use Rattle.lq_volume.proofs.Tree.{IsChildless, childless-from_test, less-folder,
 is_folder-from_tests : (o : Option Kind)
     → is_none o ≡ false → option_map_or (λ k. not (is_folder k)) o false ≡ false
     → option_map_or is_folder o false ≡ true
-is_folder-from_tests None h k = cc
-is_folder-from_tests (Some File) h k = cc
-is_folder-from_tests (Some Folder) h k = refl
+is_folder-from_tests o h k = grind arith
 
 -- one record more
 pub keeps-create : RecordsAreKept → (s : State) (new : Record) → new.attrs ≡ []
@@ -212,12 +209,8 @@ pub free-create : (s : State) (new : Record)
     → node_in s.records new.dir new.name ≡ None
 free-create s new h =
     let rows = none_holds (refusals s (Create new.dir new.name new.kind new.size new.time)) h in
-    none (node_in s.records new.dir new.name)
-    (sym (is_taken-node_in s.records new.dir new.name) ∙ rows.1.1.0)
-  where
-    none : (o : Option ℕ) → is_some o ≡ false → o ≡ None
-    none None e = refl
-    none (Some x) e = cc
+    let free = sym (is_taken-node_in s.records new.dir new.name) ∙ rows.1.1.0 in
+    grind (arith, nat_tests)
 
 -- an accepted move finds what the entries need of it
 pub can-move : RecordsAreKept → (s : State) (node dir : ℕ) (name : List ℕ) (clobber : Bool)
@@ -227,15 +220,10 @@ can-move laws s node dir name clobber v h =
     let rows = none_holds (refusals s (Move node dir name clobber)) h in
     record {
       apart = v.tree.apart;
-      there = some (record_at s node) refl rows.0 rows.1.0;
+      there = let is = rows.0 in let off = rows.1.0 in grind (arith, nat_tests);
       other_is = refl;
       stays_apart = (keeps-move laws s node dir name clobber v h).tree.apart;
     }
-  where
-    some : (o : Option Record) → record_at s node ≡ o → is_none (kind_at s node) ≡ false
-        → eqb node root ≡ false → IsSome (record_at s node)
-    some None is k l = absurd (grind (arith, nat_tests))
-    some (Some r) is k l = rw is refl
 
 -- each accepted change leaves a volume
 pub keeps-all : NamesStayApart → RecordsAreKept → ChangesKeepTrees

@@ -1,13 +1,11 @@
 -- An accepted change keeps the tree.
-use Rattle.std.proofs.Common.{◌≡◌, subst, ℕ, zero, suc, ◌<◌, [], ◌∷◌, ◌++◌, refl, sym, arith, eqb, ap, ◌∙◌, true, false, length, inl, inr}
+use Rattle.std.proofs.Common.{◌≡◌, ◌⊎◌, subst, ℕ, zero, suc, ◌<◌, [], ◌∷◌, ◌++◌, refl, sym, arith, eqb, ap, ◌∙◌, true, false, length, inl, inr}
 use Rattle.std.specs.Prelude.{Bool, not, filter, cond, Option, Some, None, ◌&&◌, ◌==◌}
 use Rattle.std.specs.Option.{option_map, option_map_or}
 use Rattle.std.specs.Str.{bytes_eq}
 use Rattle.std.proofs.lemmas.Bool.Decides.{nat_tests}
 use Rattle.std.proofs.lemmas.Bool.{cases_eq}
 use Rattle.std.proofs.lemmas.Slice.Eq.{bytes_eq-Decides}
-use Rattle.lq_value.specs.declared.kind.Kind.{Kind}
-use Rattle.lq_value.specs.declared.kind.Kind.TheVariants.{Folder}
 use Rattle.lq_volume_entries.specs.Kind.{is_folder}
 use Rattle.lq_volume.specs.State.{State, Record, root, record_at, is_folder_at, dir_of, reaches, has_entries, is_taken, IsNumbered, IsTree}
 use Rattle.lq_volume.specs.Change.{altered}
@@ -131,6 +129,18 @@ module _ (laws : RecordsAreKept) (s : State) (limit number next x : ℕ) (t : Is
     no_root = less-top;
   }
 
+-- in a tree the bounded walk from a folder finds all that any walk does
+pub reaches-all : RecordsAreKept → ReachesAll
+reaches-all laws s at to t folder = (
+  (λ h. let c = climbs-sound (length s.records) (dir_of s.records) to at h in (c.0, c.2)),
+  (λ w.
+      let c = folder-climb s at t folder in
+      let top : dir_of s.records root ≡ None = ap (option_map (λ (r : Record). r.dir)) t.no_root in
+      let short = Climb-short laws c.0 s.records root at top c.1 in
+      let less = Climb-within (dir_of s.records) root to c.0 w.0 at top c.1 w.1 in
+      climbs-complete (length s.records) w.0 (dir_of s.records) to at (omega arith) w.1),
+)
+
 -- what no walk finds, the bounded one doesn't
 pub reaches-none : (s : State) (at to : ℕ) → ((k : ℕ) → Climb (dir_of s.records) to k at → ⊥)
     → reaches s at to ≡ false
@@ -197,17 +207,8 @@ module _ (laws : RecordsAreKept) (s : State) (limit number next node : ℕ) (f :
   -- each node is a folder just where it was one
   edited-kind : (d : ℕ) → is_folder_at edited d ≡ is_folder_at s d
   edited-kind d =
-      ap (λ (o : Option Kind). option_map_or is_folder (cond (eqb d root) (Some Folder) o) false)
-      (same (record_at s d) refl)
-    where
-      same : (o : Option Record) → record_at s d ≡ o
-          → option_map (λ r. r.kind) (record_at edited d)
-          ≡ option_map (λ r. r.kind) (record_at s d)
-      same None e = let l = laws.found.altered s.records node f d in grind (arith, nat_tests)
-      same (Some v) e =
-          let l = laws.found.altered s.records node f d in
-          let k = kinds v in
-          grind (arith, nat_tests)
+      let l = laws.found.altered s.records node f d in
+      grind (arith, nat_tests, kinds)
 
   -- the root has no record
   edited-top : record_at edited root ≡ None
@@ -235,12 +236,8 @@ module _ (laws : RecordsAreKept) (s : State) (limit number next node : ℕ) (f :
         → (j : ℕ) × Climb (dir_of edited.records) root j node
     edited-climb v is =
         let c = folder-climb s (f v).dir t (folder v is) in
-        let top : dir_of s.records root ≡ None = ap (option_map (λ (r : Record). r.dir)) t.no_root
-        in
-        let short = Climb-short laws c.0 s.records root (f v).dir top c.1 in
         let off = λ (j : ℕ) (lt : j < c.0) (d : Climb (dir_of s.records) node j (f v).dir).
-        let hit = climbs-complete (length s.records) j (dir_of s.records) node (f v).dir
-        (omega arith) d in
+        let hit = (reaches-all laws s (f v).dir node t (folder v is)).1 (j, d) in
         let clash : true ≡ false = sym hit ∙ below v is in
         let no : ⊥ = cc in
         no in
@@ -349,11 +346,10 @@ module _ (laws : RecordsAreKept) (s : State) (limit number next : ℕ) (v : Reco
 
   -- each record that was there is there
   more-at : (k : ℕ) (r : Record) → record_at s k ≡ Some r → record_at more k ≡ Some r
-  more-at k r is = elim (cases_eq k s.next) [
-    | inl same ↦ absurd (let w : record_at s s.next ≡ Some r = rw (← same) is in let x = more-was in
-        let no : ⊥ = cc in no)
-    | inr differs ↦ more-same k differs ∙ is
-  ]
+  more-at k r is =
+      let l = laws.found.added s.records s.next v k n.below in
+      let x = more-was in
+      grind (arith, nat_tests)
 
   -- the root has no record
   more-top : record_at more root ≡ None
@@ -361,84 +357,65 @@ module _ (laws : RecordsAreKept) (s : State) (limit number next : ℕ) (v : Reco
 
   -- each folder is a folder still
   more-folder : (d : ℕ) → is_folder_at s d ≡ true → is_folder_at more d ≡ true
-  more-folder d h = elim (cases_eq d s.next) [
-    | inl same ↦ absurd (let x = more-was in let two = n.next in
-        let w : is_folder_at s s.next ≡ true = rw (← same) h in grind (arith, nat_tests))
-    | inr differs ↦ rw (more-same d differs) h
-  ]
+  more-folder d h =
+      let l = laws.found.added s.records s.next v d n.below in
+      let x = more-was in
+      grind (arith, nat_tests)
 
   -- each walk to the root is one still
   more-climb : (k j : ℕ) → Climb (dir_of s.records) root j k → Climb (dir_of more.records) root j k
   more-climb k j c = Climb-more (dir_of s.records) (dir_of more.records) root j k (λ m d is. let r =
       record-of s m d is in dir_of-is more m r.0 (more-at m r.0 r.1) ∙ ap Some r.2) c
 
+  -- a record there is the new one, or was there
+  more-old : (k : ℕ) (r : Record) → record_at more k ≡ Some r
+      → ((k ≡ s.next) × (v ≡ r)) ⊎ (record_at s k ≡ Some r)
+  more-old k r is =
+      let l = laws.found.added s.records s.next v k n.below in elim (cases_eq k s.next) [
+        | inl same ↦ inl (same, grind (arith, nat_tests))
+        | inr differs ↦ inr (grind (arith, nat_tests))
+      ]
+
   -- one more record, in a folder and at a free place, leaves a tree
   pub IsTree-more : is_folder_at s v.dir ≡ true → is_taken s v.dir v.name ≡ false
       → (is_folder v.kind ≡ true → v.size ≡ 0) → IsTree more
   IsTree-more folder free empty = record {
-    folders = λ k r is. elim (cases_eq k s.next) [
-      | inl same ↦ rw (here k r same is) (more-folder v.dir folder)
-      | inr differs ↦ more-folder r.dir (t.folders k r (old k r differs is))
+    folders = λ k r is. elim (more-old k r is) [
+      | inl new ↦ rw (← new.1) (more-folder v.dir folder)
+      | inr old ↦ more-folder r.dir (t.folders k r old)
     ];
-    climb = λ k r is. elim (cases_eq k s.next) [
-      | inl same ↦
+    climb = λ k r is. elim (more-old k r is) [
+      | inl new ↦
           let c = folder-climb s v.dir t folder in
           climb-reaches laws more k (suc c.0) more-top
-          (v.dir, rw same (dir_of-is more s.next v more-here), more-climb v.dir c.0 c.1)
-      | inr differs ↦
-          let c = node-climb s k r t (old k r differs is) in
+          (v.dir, rw new.0 (dir_of-is more s.next v more-here), more-climb v.dir c.0 c.1)
+      | inr old ↦
+          let c = node-climb s k r t old in
           climb-reaches laws more k c.0 more-top (more-climb k c.0 c.1)
     ];
-    apart = λ m k q r a b e f. elim (cases_eq m s.next) [
-      | inl x ↦ elim (cases_eq k s.next) [
-        | inl y ↦ x ∙ sym y
-        | inr differs ↦ absurd (let w = here m q x a in taken k r (old k r differs b) (sym e
-            ∙ ap (λ (u : Record). u.dir) w) (sym f ∙ ap (λ (u : Record). u.name) w))
+    apart = λ m k q r a b e f. elim (more-old m q a) [
+      | inl x ↦ elim (more-old k r b) [
+        | inl y ↦ x.0 ∙ sym y.0
+        | inr old ↦ let new = x.1 in absurd (taken k r old (cc) (cc))
       ]
-      | inr apart ↦ elim (cases_eq k s.next) [
-        | inl y ↦ absurd (let w = here k r y b in taken m q (old m q apart a) (e
-            ∙ ap (λ (u : Record). u.dir) w) (f ∙ ap (λ (u : Record). u.name) w))
-        | inr differs ↦ t.apart m k q r (old m q apart a) (old k r differs b) e f
+      | inr was ↦ elim (more-old k r b) [
+        | inl y ↦ let new = y.1 in absurd (taken m q was (cc) (cc))
+        | inr old ↦ t.apart m k q r was old e f
       ]
     ];
-    sizes = λ k r is h. elim (cases_eq k s.next) [
-      | inl same ↦
-          let w = here k r same is in
-          ap (λ (u : Record). u.size) w ∙ empty (sym (ap (λ (u : Record). is_folder u.kind) w) ∙ h)
-      | inr differs ↦ t.sizes k r (old k r differs is) h
+    sizes = λ k r is. elim (more-old k r is) [
+      | inl new ↦ subst (λ (u : Record). is_folder u.kind ≡ true → u.size ≡ 0) new.1 empty
+      | inr old ↦ t.sizes k r old
     ];
     no_root = more-top;
   }
     where
-      here : (k : ℕ) (r : Record) → k ≡ s.next → record_at more k ≡ Some r → r ≡ v
-      here k r same is =
-          let a = more-here in
-          let w : record_at more s.next ≡ Some r =
-          subst (λ (m : ℕ). record_at more m ≡ Some r) same is in
-          cc
-
-      old : (k : ℕ) (r : Record) → (k ≡ s.next → ⊥) → record_at more k ≡ Some r
-          → record_at s k ≡ Some r
-      old k r differs is = sym (more-same k differs) ∙ is
-
       taken : (k : ℕ) (r : Record) → record_at s k ≡ Some r → r.dir ≡ v.dir → r.name ≡ v.name → ⊥
       taken k r is e f =
           let fails = laws.found.failing
           (λ u. (u.dir == v.dir) && bytes_eq u.name v.name) s.records k r free is in
           let same = (bytes_eq-Decides r.name v.name).1 f in
           grind (arith, nat_tests)
-
--- in a tree the bounded walk from a folder finds all that any walk does
-pub reaches-all : RecordsAreKept → ReachesAll
-reaches-all laws s at to t folder = (
-  (λ h. let c = climbs-sound (length s.records) (dir_of s.records) to at h in (c.0, c.2)),
-  (λ w.
-      let c = folder-climb s at t folder in
-      let top : dir_of s.records root ≡ None = ap (option_map (λ (r : Record). r.dir)) t.no_root in
-      let short = Climb-short laws c.0 s.records root at top c.1 in
-      let less = Climb-within (dir_of s.records) root to c.0 w.0 at top c.1 w.1 in
-      climbs-complete (length s.records) w.0 (dir_of s.records) to at (omega arith) w.1),
-)
 
 -- no walk comes from a folder to a node that is none, since nothing is in it
 pub reaches-file : (s : State) (node dir : ℕ) → IsTree s → is_folder_at s node ≡ false

@@ -1,4 +1,4 @@
-use Rattle.std.proofs.Common.{◌≡◌, [], refl, rules, sym, subst, None}
+use Rattle.std.proofs.Common.{◌≡◌, [], arith, refl, rules, sym, subst, None}
 use Rattle.std.proofs.Math.Facts.{to_z-of_z}
 use mir.Syntax.{w64}
 use mir.Val.{SFits}
@@ -86,14 +86,7 @@ overflow_add-self c = next-fits _ c.self.invariant.numbered
 pub overflow_add-self-2 : goal.overflow_add-self-2
 overflow_add-self-2 c =
     let fits = number-fits _ c.self.invariant.numbered in
-    elim c.match-change.branch [
-      | in-Create+in_ok-copy-in-Create+in_ok-add-in-Create w ↦ rw w.self-inside-is fits
-      | in-Remove w ↦ rw w.self-inside-is fits
-      | in-Move+in_ok-move_entry-in-Move w ↦ rw w.self-inside-is fits
-      | in-Write w ↦ rw w.self-inside-is fits
-      | in-SetAttr+in_ok-set_attr-in-SetAttr w ↦ rw w.self-inside-is fits
-      | in-RemoveAttr w ↦ rw w.self-inside-is fits
-    ]
+    grind (arith, fits)
 
 pub returns-clause-value : goal.returns-clause-value
 returns-clause-value c = rw (c.applied_by-applied.ensures, ← c.self.view_is) refl
