@@ -74,7 +74,7 @@ keeps-move_none : RecordsAreKept → (s : State) (node dir : ℕ) (name : List �
     → other_at s node dir name ≡ None → is_folder_at s dir ≡ true → reaches s dir node ≡ false
     → IsTree (with_records s (altered node (at_place dir name) s.records))
 keeps-move_none laws s node dir name v is folder below =
-    IsTree-edited laws s s.limit (s.number + 1) s.next node (at_place dir name) v.tree (λ r. refl)
+    IsTree-edited laws s node (at_place dir name) v.tree (λ r. refl)
     (λ _ _. folder) (λ _ _. below)
     (λ _ _ n r at e f. alone n r at e f (node_in s.records dir name) refl) (v.tree.sizes node)
   where
@@ -136,7 +136,7 @@ module _ (laws : RecordsAreKept) (s : State) (x node dir : ℕ) (name : List ℕ
   keeps-move_some : reaches s dir node ≡ false
       → IsTree (with_records s (altered node (at_place dir name) without_x.records))
   keeps-move_some off =
-      IsTree-edited laws without_x s.limit (s.number + 1) s.next node (at_place dir name) tree
+      IsTree-edited laws without_x node (at_place dir name) tree
       (λ r. refl)
       (λ _ _. less-folder laws s s.limit s.number s.next x v.tree childless no_root dir
       (λ e. childless x there.0 there.1 (there.2 ∙ e)) folder)
@@ -183,7 +183,7 @@ keeps-write laws s node size time v h =
     record {
       numbered = IsNumbered-altered laws s None node (rewritten size time) v.numbered
           (accepted_number s (Write node size time) h);
-      tree = IsTree-kept laws s s.limit (s.number + 1) s.next node (rewritten size time) v.tree
+      tree = IsTree-kept laws s node (rewritten size time) v.tree
           (λ r. refl) (λ r. refl) (λ r. refl)
           (λ r is folder. absurd (let clash : is_folder_at s node ≡ true =
           grind (arith, nat_tests) in let no : ⊥ = cc in no));
@@ -197,7 +197,7 @@ pub keeps-attrs : RecordsAreKept → (s : State) (node : ℕ) (f : Record → At
     → IsVolume (with_records s (altered node (λ r. with_attrs (f r) r) s.records))
 keeps-attrs laws s node f own v more = record {
   numbered = IsNumbered-altered laws s None node (λ r. with_attrs (f r) r) v.numbered more;
-  tree = IsTree-kept laws s s.limit (s.number + 1) s.next node (λ r. with_attrs (f r) r) v.tree
+  tree = IsTree-kept laws s node (λ r. with_attrs (f r) r) v.tree
       (λ r. refl) (λ r. refl) (λ r. refl) (λ r is folder. v.tree.sizes node r is folder);
   named = All-kept (λ e. HasOwnNames e.1.attrs) node (λ r. with_attrs (f r) r) s.records
       (λ e h. own e.1 h) v.named;

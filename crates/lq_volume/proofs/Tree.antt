@@ -1,34 +1,35 @@
 -- An accepted change keeps the tree.
 use Rattle.std.proofs.Common.{◌≡◌, ◌⊎◌, subst, ℕ, zero, suc, ◌<◌, [], ◌∷◌, ◌++◌, refl, sym, arith, eqb, ap, ◌∙◌, true, false, length, inl, inr}
 use Rattle.std.specs.Prelude.{Bool, not, filter, cond, Option, Some, None, ◌&&◌, ◌==◌}
-use Rattle.std.specs.Option.{option_map, option_map_or}
+use Rattle.std.specs.Option.{option_map}
 use Rattle.std.specs.Str.{bytes_eq}
 use Rattle.std.proofs.lemmas.Bool.Decides.{nat_tests}
 use Rattle.std.proofs.lemmas.Bool.{cases_eq}
 use Rattle.std.proofs.lemmas.Slice.Eq.{bytes_eq-Decides}
 use Rattle.lq_volume_entries.specs.Kind.{is_folder}
-use Rattle.lq_volume.specs.State.{State, Record, root, record_at, is_folder_at, dir_of, reaches, has_entries, is_taken, IsNumbered, IsTree}
-use Rattle.lq_volume.specs.Change.{altered}
+use Rattle.lq_volume.specs.State.{State, Record, root, record_at, kind_at, is_folder_at, dir_of, reaches, has_entries, is_taken, IsNumbered, IsTree}
+use Rattle.lq_volume.specs.Change.{altered, with_records}
 use Rattle.lq_volume_entries.specs.Laws.{RecordsAreKept}
 use Rattle.lq_volume.proofs.Climbs.{climbs-sound, climbs-complete, Climb-above, Climb-short, Climb-avoid, Climb-more, Climb-childless, Climb-moved, Climb-within}
 use Rattle.lq_volume.specs.Walk.{Climb, ReachesAll}
 
+-- a walk up from a node that is there reaches the root
+pub reaches-root : (s : State) (n : ℕ) → IsTree s → (kind_at s n ≡ None → ⊥)
+    → reaches s n root ≡ true
+reaches-root s n t there = at (record_at s n) refl
+  where
+    at : (o : Option Record) → record_at s n ≡ o → reaches s n root ≡ true
+    at (Some r) is = t.climb n r is
+    at None is = climbs-complete (length s.records) 0 (dir_of s.records) root n (omega arith)
+        (grind (arith, nat_tests))
+
 -- a folder has a walk to the root
 folder-climb : (s : State) (d : ℕ) → IsTree s → is_folder_at s d ≡ true
     → (k : ℕ) × Climb (dir_of s.records) root k d
-folder-climb s d t h = elim (cases_eq d root) [
-  | inl same ↦ (0, same)
-  | inr differs ↦ at
-      (record_at s d) refl (let off : eqb d root ≡ false = grind (arith, nat_tests) in rw off at h)
-]
-  where
-    at : (o : Option Record)
-        → record_at s d ≡ o → option_map_or is_folder (option_map (λ r. r.kind) o) false ≡ true
-        → (k : ℕ) × Climb (dir_of s.records) root k d
-    at None is more = cc
-    at (Some r) is more =
-        let c = climbs-sound (length s.records) (dir_of s.records) root d (t.climb d r is) in
-        (c.0, c.2)
+folder-climb s d t h =
+    let up = reaches-root s d t (λ none. let no : false ≡ true = rw none at h in cc) in
+    let c = climbs-sound (length s.records) (dir_of s.records) root d up in
+    (c.0, c.2)
 
 -- each node with a record has one
 node-climb : (s : State) (n : ℕ) (r : Record) → IsTree s → record_at s n ≡ Some r
@@ -174,16 +175,11 @@ folder-off s n r t is = reaches-none s r.dir n (above c.0 c.1)
         (ap (option_map (λ (v : Record). v.dir)) t.no_root) (rw same at c.2) c (omega arith) d
 
 -- one node's record altered, which keeps its kind, and with it perhaps its place
-module _ (laws : RecordsAreKept) (s : State) (limit number next node : ℕ) (f : Record → Record)
+module _ (laws : RecordsAreKept) (s : State) (node : ℕ) (f : Record → Record)
     (t : IsTree s) (kinds : (r : Record) → (f r).kind ≡ r.kind) where
   -- the state with one record altered
   abbrev edited : State
-  edited = record {
-    limit = limit;
-    number = number;
-    next = next;
-    records = altered node f s.records;
-  }
+  edited = with_records s (altered node f s.records)
 
   -- a record there is one that was there, or what became of it
   edited-old : (n : ℕ) (r : Record) → record_at edited n ≡ Some r
@@ -303,18 +299,13 @@ module _ (laws : RecordsAreKept) (s : State) (limit number next node : ℕ) (f :
     }
 
 -- one node's record altered, which keeps its place and kind
-pub IsTree-kept : RecordsAreKept → (s : State) (limit number next node : ℕ) (f : Record → Record)
+pub IsTree-kept : RecordsAreKept → (s : State) (node : ℕ) (f : Record → Record)
     → IsTree s → ((r : Record) → (f r).dir ≡ r.dir) → ((r : Record) → (f r).name ≡ r.name)
     → ((r : Record) → (f r).kind ≡ r.kind)
     → ((r : Record) → record_at s node ≡ Some r → is_folder r.kind ≡ true → (f r).size ≡ 0)
-    → IsTree (record {
-      limit = limit;
-      number = number;
-      next = next;
-      records = altered node f s.records;
-    })
-IsTree-kept laws s limit number next node f t dirs names kinds empty =
-    IsTree-edited laws s limit number next node f t kinds
+    → IsTree (with_records s (altered node f s.records))
+IsTree-kept laws s node f t dirs names kinds empty =
+    IsTree-edited laws s node f t kinds
     (λ v is. rw (dirs v) (t.folders node v is)) (λ v is. rw (dirs v) (folder-off s node v t is))
     (λ v is n r at e g. t.apart n node r v at is (e ∙ dirs v) (g ∙ names v)) empty
 
