@@ -1,5 +1,6 @@
 -- What a parse says of the program's words.
-use Rattle.std.proofs.Common.{◌≡◌, ◌∙◌, inl, inr, false, true, refl, sym, ap, ap₂, subst, codes, List, [], Option, Some, None, option_map, ⊎_elim}
+use Rattle.std.proofs.Common.{◌≡◌, ◌∙◌, inl, inr, false, true, refl, sym, ap, ap₂, subst, codes, List, [], Option, Some, None, option_map, arith, ⊎_elim}
+use Rattle.std.specs.Str.{bytes_eq}
 use Rattle.clap.specs.Walk.{Text, Row, first_of, rows_of}
 use Rattle.clap.specs.Simple.{App, HasMatchesOf, is_simple, subcommand_of, subcommand_rows_of}
 use Rattle.clap.specs.Kinds.{HasKind, Kinds}
@@ -9,39 +10,25 @@ use Rattle.clap.specs.declared.error.Error.{Error}
 use Rattle.clap.specs.declared.error.kind.ErrorKind.TheVariants.{OutOfMemory}
 use Rattle.clap.specs.declared.parser.matches.ArgMatches.{ArgMatches}
 use Rattle.clap.specs.declared.parser.matches.ArgMatches.TheViews.{out-ArgMatches, out-SubCommand}
+use Rattle.clap.proofs.OnLiterals.{clap_on_literals}
 use Rattle.std.specs.Box.{box_value}
 use Rattle.std.specs.Borrow.{Bor}
 use Rattle.clap.specs.Faults.{fault_of, is_simple_and_free}
 use Rattle.clap.proofs.WalkLemmas.{first_value-rows}
 use Rattle.lq_script_lines.specs.CommandLine.{lq_app}
 use Rattle.lq_script_lines.specs.Words.{IsCheckOf, IsRun, IsThreads, IsUsage, has_stray}
-use Rattle.lq_script_lines.proofs.CommandWalkLemmas.{Asks, behind_dashes_given, behind_dashes_passes, check_given, check_passes, given, is_free, is_plain, run_given, run_passes, threads_given, threads_passes}
+use Rattle.lq_script_lines.proofs.CommandWalkLemmas.{Asks, check_taken, given, is_free, is_plain}
 use Rattle.lq_script_lines.proofs.CommandFaultLemmas.{taken}
 
--- words that ask for a subcommand give it, with its formula
-asks_given : (words : List Text) (p : Text × Option Text) → Asks words p → given words ≡ Some p
-asks_given words p (inl run) =
-    subst (λ (w : List Text). given w ≡ Some p) (sym run.0) (run_given ∙ ap Some (sym run.1))
-asks_given words p (inr (inl threads)) = subst (λ (w : List Text). given w ≡ Some p)
-    (sym threads.0) (threads_given ∙ ap Some (sym threads.1))
-asks_given words p (inr (inr (formula, (inl plain, is)))) =
-    subst (λ (w : List Text). given w ≡ Some p) (sym plain.0)
-    (check_given formula plain.1 ∙ ap Some (sym is))
-asks_given words p (inr (inr (formula, (inr dashes, is)))) =
-    subst (λ (w : List Text). given w ≡ Some p) (sym dashes)
-    (behind_dashes_given formula ∙ ap Some (sym is))
-
--- and clap takes them
+-- clap takes words that ask for a subcommand, and they give it, with its formula
 asks_taken : (words : List Text) (p : Text × Option Text) → Asks words p
-    → fault_of lq_app words ≡ []
-asks_taken words p (inl run) =
-    subst (λ (w : List Text). fault_of lq_app w ≡ []) (sym run.0) run_passes
-asks_taken words p (inr (inl threads)) =
-    subst (λ (w : List Text). fault_of lq_app w ≡ []) (sym threads.0) threads_passes
+    → (fault_of lq_app words ≡ []) × (given words ≡ Some p)
+unfolding clap_on_literals
+asks_taken words p (inl run) = rw (run.0, run.1) (refl, refl)
+asks_taken words p (inr (inl threads)) = rw (threads.0, threads.1) (refl, refl)
 asks_taken words p (inr (inr (formula, (inl plain, is)))) =
-    subst (λ (w : List Text). fault_of lq_app w ≡ []) (sym plain.0) (check_passes formula plain.1)
-asks_taken words p (inr (inr (formula, (inr dashes, is)))) =
-    subst (λ (w : List Text). fault_of lq_app w ≡ []) (sym dashes) (behind_dashes_passes formula)
+    rw (plain.0, is) (check_taken formula plain.1)
+asks_taken words p (inr (inr (formula, (inr dashes, is)))) = rw (dashes, is) (refl, refl)
 
 -- what clap refuses, but for want of memory, asks for nothing
 pub refused_is_usage : (words : List Text) (e : Error) → HasKind (fault_of lq_app words) e
@@ -54,52 +41,28 @@ refused_is_usage words e fails memory = record {
   where
     none : (p : Text × Option Text) → Asks words p → ⊥
     none p asks = ⊎_elim memory (λ among. among)
-        (subst (λ (k : Kinds). HasKind k e) (asks_taken words p asks) fails)
+        (subst (λ (k : Kinds). HasKind k e) (asks_taken words p asks).0 fails)
+
+-- words that ask for `run` by its name ask for a run
+pub run_named : (words : List Text) (name : Text) (first : Option Text) → Asks words (name, first)
+    → bytes_eq name (codes "run") ≡ true → IsRun words
+run_named words name first asks e = grind arith
+
+-- those that ask for `threads` ask for a run by threads
+pub threads_named : (words : List Text) (name : Text) (first : Option Text)
+    → Asks words (name, first) → bytes_eq name (codes "threads") ≡ true → IsThreads words
+threads_named words name first asks e = grind arith
+
+-- those that ask for another give a formula, and ask for a check of it
+pub check_named : (words : List Text) (name : Text) (first : Option Text)
+    → Asks words (name, first) → bytes_eq name (codes "run") ≡ false
+    → bytes_eq name (codes "threads") ≡ false
+    → (formula : Text) × ((first ≡ Some formula) × IsCheckOf words formula)
+check_named words name first asks no_run no_threads = grind arith
 
 -- equal options hold equal values
 pub some_is : {X : Type 0} (x y : X) → Some x ≡ Some y → x ≡ y
 some_is x y e = cc
-
--- of words that clap takes, without a stray `-`
-module _ (words : List Text) (stray : has_stray words ≡ false)
-    (passes : fault_of lq_app words ≡ []) where
-  -- they ask for the subcommand that they give
-  asks_for : (p : Text × Option Text) → given words ≡ Some p → Asks words p
-  asks_for p is =
-      let asked = taken words stray passes in
-      subst (Asks words) (some_is asked.0 p (sym (asks_given words asked.0 asked.1) ∙ is)) asked.1
-
-  -- if they name `run`, they ask for a run
-  pub run_named : (name : Text) (first : Option Text) → given words ≡ Some (name, first)
-      → name ≡ codes "run" → IsRun words
-  run_named name first is e = at (asks_for (name, first) is)
-    where
-      at : Asks words (name, first) → IsRun words
-      at (inl run) = run.0
-      at (inr (inl threads)) = absurd (let other = ap (λ p. p.0) threads.1 in cc)
-      at (inr (inr (formula, (check, p)))) = absurd (let other = ap (λ p. p.0) p in cc)
-
-  -- if they name `threads`, they ask for a run by threads
-  pub threads_named : (name : Text) (first : Option Text) → given words ≡ Some (name, first)
-      → name ≡ codes "threads" → IsThreads words
-  threads_named name first is e = at (asks_for (name, first) is)
-    where
-      at : Asks words (name, first) → IsThreads words
-      at (inl run) = absurd (let other = ap (λ p. p.0) run.1 in cc)
-      at (inr (inl threads)) = threads.0
-      at (inr (inr (formula, (check, p)))) = absurd (let other = ap (λ p. p.0) p in cc)
-
-  -- if they name another, they give a formula, and ask for a check of it
-  pub check_named : (name : Text) (first : Option Text) → given words ≡ Some (name, first)
-      → (name ≡ codes "run" → ⊥) → (name ≡ codes "threads" → ⊥)
-      → (formula : Text) × ((first ≡ Some formula) × IsCheckOf words formula)
-  check_named name first is not_run not_threads = at (asks_for (name, first) is)
-    where
-      at : Asks words (name, first)
-          → (formula : Text) × ((first ≡ Some formula) × IsCheckOf words formula)
-      at (inl run) = absurd (not_run (ap (λ p. p.0) run.1))
-      at (inr (inl threads)) = absurd (not_threads (ap (λ p. p.0) threads.1))
-      at (inr (inr (formula, (check, p)))) = (formula, (ap (λ p. p.1) p, check))
 
 -- the subcommand that a parse answers, read by its getters
 name_rows : {X : Type 0} (f : X → Text) (g : X → List Row) (o : Option X)
@@ -107,14 +70,8 @@ name_rows : {X : Type 0} (f : X → Text) (g : X → List Row) (o : Option X)
 name_rows f g None = refl
 name_rows f g (Some x) = refl
 
--- the name of the subcommand is that of its rows
-name_of_rows : (m : ArgMatches)
-    → subcommand_name_of m ≡ option_map (λ p. p.0) (subcommand_rows_of m)
-name_of_rows m = name_rows (λ b. (out-SubCommand (box_value b)).name.now)
-    (λ b. rows_of (found_of (out-SubCommand (box_value b)).matches)) (out-ArgMatches m).subcommand
-
 -- what is read of the subcommand: its name and its formula
-abbrev pub read_of : Option (Bor Text × Bor ArgMatches) → Option (Text × Option Text)
+abbrev read_of : Option (Bor Text × Bor ArgMatches) → Option (Text × Option Text)
 read_of = option_map (λ p. (p.0.now, first_value (found_of p.1.now) (codes "formula")))
 
 -- what is read is the rows' name and formula
@@ -131,20 +88,25 @@ read_is (Some p) (Some q) n e =
     ap₂ (λ (x : Text) (y : Option Text). Some (x, y)) name
     (first_value-rows (found_of p.1.now) (codes "formula") ∙ ap (first_of (codes "formula")) rows)
 
--- of a parse by the program's command: clap takes the words, and what is read is what they give
-pub parsed : (a : App) (words : List Text) (m : ArgMatches)
-    (r : Option (Bor Text × Bor ArgMatches)) → a ≡ lq_app
-    → (is_simple_and_free a ≡ true → fault_of a words ≡ []) → HasMatchesOf a words m
-    → option_map (λ p. p.0.now) r ≡ subcommand_name_of m
+-- words without a stray `-` that a parse by the program's command takes ask for what is read of it
+pub asked : (a : App) (words : List Text) (m : ArgMatches)
+    (r : Option (Bor Text × Bor ArgMatches)) (q : Bor Text × Bor ArgMatches) → a ≡ lq_app
+    → has_stray words ≡ false → (is_simple_and_free a ≡ true → fault_of a words ≡ [])
+    → HasMatchesOf a words m → option_map (λ p. p.0.now) r ≡ subcommand_name_of m
     → option_map (λ p. rows_of (found_of p.1.now)) r ≡ option_map (λ p. p.1) (subcommand_rows_of m)
-    → (fault_of lq_app words ≡ []) × (given words ≡ read_of r)
-parsed a words m r is kinds matches name rows =
+    → r ≡ Some q → Asks words (q.0.now, first_value (found_of q.1.now) (codes "formula"))
+asked a words m r q is stray kinds matches name rows found =
     let passes : fault_of lq_app words ≡ [] = subst (λ (b : App). fault_of b words ≡ []) is
     (kinds (ap is_simple_and_free is ∙ is_free)) in
-    let found : subcommand_rows_of m ≡ subcommand_of lq_app words =
+    let gives : subcommand_rows_of m ≡ subcommand_of lq_app words =
     subst (λ (b : App). subcommand_rows_of m ≡ subcommand_of b words) is
-    (matches (ap is_simple is ∙ is_plain)).1 in (
-      passes,
-      sym (read_is r (subcommand_of lq_app words) (name ∙ name_of_rows m
-          ∙ ap (option_map (λ p. p.0)) found) (rows ∙ ap (option_map (λ p. p.1)) found)),
-    )
+    (matches (ap is_simple is ∙ is_plain)).1 in
+    let named : subcommand_name_of m ≡ option_map (λ p. p.0) (subcommand_rows_of m) =
+    name_rows (λ b. (out-SubCommand (box_value b)).name.now)
+    (λ b. rows_of (found_of (out-SubCommand (box_value b)).matches)) (out-ArgMatches m).subcommand
+    in
+    let read : read_of r ≡ given words = read_is r (subcommand_of lq_app words)
+    (name ∙ named ∙ ap (option_map (λ p. p.0)) gives) (rows ∙ ap (option_map (λ p. p.1)) gives) in
+    let asks = taken words stray passes in
+    subst (Asks words)
+    (some_is _ _ (sym (asks_taken words asks.0 asks.1).1 ∙ sym read ∙ ap read_of found)) asks.1

@@ -8,7 +8,7 @@ use Rattle.lq_value.specs.Refusal.{first_refusal}
 use Rattle.lq_volume.specs.declared.change.Change.{Change}
 use Rattle.lq_volume.specs.declared.change.Change.TheVariants.{Create, Remove, Move, Write, SetAttr, RemoveAttr}
 use Rattle.lq_volume.specs.State.{State, Record, Rises, IsNumbered}
-use Rattle.lq_volume.specs.Change.{refused, refusals, with_records, altered, without}
+use Rattle.lq_volume.specs.Change.{refused, with_records, altered, without}
 use Rattle.lq_volume_entries.specs.Laws.{RecordsAreKept}
 use Rattle.lq_volume.proofs.RecordLemmas.{Entries, All-push, All-weaker, All-filter, All-without, All-kept}
 
@@ -20,24 +20,12 @@ none_holds (row ∷ rows) h = let k = none_holds rows in grind (arith, nat_tests
 
 -- a change that nothing refuses finds the volume below its limit
 pub accepted_number : (s : State) (c : Change) → refused s c ≡ None → s.number < s.limit
-accepted_number s (Create dir name kind size time) h =
-    let rows = none_holds (refusals s (Create dir name kind size time)) h in
-    grind (arith, nat_tests)
-accepted_number s (Remove node) h =
-    let rows = none_holds (refusals s (Remove node)) h in
-    grind (arith, nat_tests)
-accepted_number s (Move node dir name clobber) h =
-    let rows = none_holds (refusals s (Move node dir name clobber)) h in
-    grind (arith, nat_tests)
-accepted_number s (Write node size time) h =
-    let rows = none_holds (refusals s (Write node size time)) h in
-    grind (arith, nat_tests)
-accepted_number s (SetAttr node attr value) h =
-    let rows = none_holds (refusals s (SetAttr node attr value)) h in
-    grind (arith, nat_tests)
-accepted_number s (RemoveAttr node attr) h =
-    let rows = none_holds (refusals s (RemoveAttr node attr)) h in
-    grind (arith, nat_tests)
+accepted_number s (Create dir name kind size time) h = grind (arith, nat_tests)
+accepted_number s (Remove node) h = grind (arith, nat_tests)
+accepted_number s (Move node dir name clobber) h = grind (arith, nat_tests)
+accepted_number s (Write node size time) h = grind (arith, nat_tests)
+accepted_number s (SetAttr node attr value) h = grind (arith, nat_tests)
+accepted_number s (RemoveAttr node attr) h = grind (arith, nat_tests)
 
 -- the nodes still rise without one
 Rises-without : RecordsAreKept → (other : Option ℕ) (es : Entries) → Rises es
@@ -65,39 +53,38 @@ IsNumbered-create laws s v n more = record {
       (λ e. e.0 < s.next + 1) s.records (λ e lt. omega arith) n.below) (omega arith);
 }
 
--- one more change, with fewer records
-pub IsNumbered-filter : RecordsAreKept → (s : State) (test : ℕ × Record → Bool) → IsNumbered s
-    → s.number < s.limit
-    → IsNumbered (record {
-      limit = s.limit;
-      number = s.number + 1;
-      next = s.next;
-      records = filter test s.records;
-    })
-IsNumbered-filter laws s test n more = record {
+-- one more change, with records under nodes that were there
+IsNumbered-with : (s : State) (es : Entries) → IsNumbered s → s.number < s.limit → Rises es
+    → AllByRecursion (λ e. 2 ≤ e.0) es → AllByRecursion (λ e. e.0 < s.next) es
+    → IsNumbered (with_records s es)
+IsNumbered-with s es n more rise above below = record {
   limit = n.limit;
   number = omega arith;
   next = n.next;
   few = omega (arith, n.few);
-  rise = laws.rise.filtered test s.records n.rise;
-  above = All-filter (λ e. 2 ≤ e.0) test s.records n.above;
-  below = All-filter (λ e. e.0 < s.next) test s.records n.below;
+  rise = rise;
+  above = above;
+  below = below;
 }
+
+-- one more change, with fewer records
+pub IsNumbered-filter : RecordsAreKept → (s : State) (test : ℕ × Record → Bool) → IsNumbered s
+    → s.number < s.limit → IsNumbered (with_records s (filter test s.records))
+IsNumbered-filter laws s test n more =
+    IsNumbered-with s (filter test s.records) n more (laws.rise.filtered test s.records n.rise)
+    (All-filter (λ e. 2 ≤ e.0) test s.records n.above)
+    (All-filter (λ e. e.0 < s.next) test s.records n.below)
 
 -- one more change, with a record altered, and perhaps one node less
 pub IsNumbered-altered : RecordsAreKept → (s : State) (other : Option ℕ) (node : ℕ)
     (f : Record → Record)
     → IsNumbered s → s.number < s.limit
     → IsNumbered (with_records s (altered node f (without other s.records)))
-IsNumbered-altered laws s other node f n more = record {
-  limit = n.limit;
-  number = omega arith;
-  next = n.next;
-  few = omega (arith, n.few);
-  rise = laws.rise.altered node f (without other s.records)
-      (Rises-without laws other s.records n.rise);
-  above = All-kept (λ e. 2 ≤ e.0) node f (without other s.records) (λ e h. h)
-      (All-without (λ e. 2 ≤ e.0) other s.records n.above);
-  below = All-kept (λ e. e.0 < s.next) node f (without other s.records) (λ e h. h)
-      (All-without (λ e. e.0 < s.next) other s.records n.below);
-}
+IsNumbered-altered laws s other node f n more =
+    let es = without other s.records in
+    IsNumbered-with s (altered node f es) n more
+    (laws.rise.altered node f es (Rises-without laws other s.records n.rise))
+    (All-kept (λ e. 2 ≤ e.0) node f es (λ e h. h)
+    (All-without (λ e. 2 ≤ e.0) other s.records n.above))
+    (All-kept (λ e. e.0 < s.next) node f es (λ e h. h)
+    (All-without (λ e. e.0 < s.next) other s.records n.below))

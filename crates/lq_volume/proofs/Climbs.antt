@@ -40,17 +40,16 @@ climbs-complete (suc f) (suc k) up to at h c =
     let is = c.1 in
     grind (arith, nat_tests)
 
--- a walk to a node without a folder has one length
-pub Climb-one : (up : ℕ → Option ℕ) (to j k at : ℕ) → up to ≡ None → Climb up to j at
-    → Climb up to k at → j ≡ k
-Climb-one up to zero zero at none a b = refl
-Climb-one up to zero (suc k) at none a b = let e = b.1 in cc
-Climb-one up to (suc j) zero at none a b = let e = a.1 in cc
-Climb-one up to (suc j) (suc k) at none a b =
-    let e = a.1 in
-    let f = b.1 in
-    let same : a.0 ≡ b.0 = cc in
-    ap suc (Climb-one up to j k a.0 none a.2 (rw same b.2))
+-- no walk goes past the root
+pub Climb-within : (up : ℕ → Option ℕ) (to x k j at : ℕ) → up to ≡ None → Climb up to k at
+    → Climb up x j at → j ≤ k
+Climb-within up to x k zero at none c d = omega arith
+Climb-within up to x zero (suc j) at none c d =
+    absurd (let e = d.1 in let f : up to ≡ Some d.0 = rw (← c) e in let no : ⊥ = cc in no)
+Climb-within up to x (suc k) (suc j) at none c d =
+    let e = c.1 in let f = d.1 in let same : d.0 ≡ c.0 = cc in
+    let rest = Climb-within up to x k j c.0 none c.2 (subst (λ (n : ℕ). Climb up x j n) same d.2) in
+    omega arith
 
 -- a walk that keeps off a node is there without it
 pub Climb-avoid : (up new : ℕ → Option ℕ) (to x k at : ℕ) → ((n : ℕ) → (n ≡ x → ⊥) → new n ≡ up n)
@@ -66,7 +65,7 @@ Climb-avoid up new to x (suc k) at same off c = (
 pub Climb-above : (up : ℕ → Option ℕ) (to x k j at i : ℕ) → up to ≡ None → Climb up to k at
     → Climb up to j x → k < j → Climb up x i at → ⊥
 Climb-above up to x k j at zero none c d lt e =
-    let same = Climb-one up to k j at none c (rw e d) in
+    let less = Climb-within up to to k j at none c (rw e d) in
     omega arith
 Climb-above up to x zero j at (suc i) none c d lt e = let f = e.1 in cc
 Climb-above up to x (suc k) j at (suc i) none c d lt e =
@@ -126,14 +125,3 @@ Climb-moved up new to x (suc k) at same from c =
       | inl e ↦ rw e from
       | inr differs ↦ (suc rest.0, (c.0, same at differs ∙ c.1, rest.1))
     ]
-
--- no walk goes past the root
-pub Climb-within : (up : ℕ → Option ℕ) (to x k j at : ℕ) → up to ≡ None → Climb up to k at
-    → Climb up x j at → j ≤ k
-Climb-within up to x k zero at none c d = omega arith
-Climb-within up to x zero (suc j) at none c d =
-    absurd (let e = d.1 in let f : up to ≡ Some d.0 = rw (← c) e in let no : ⊥ = cc in no)
-Climb-within up to x (suc k) (suc j) at none c d =
-    let e = c.1 in let f = d.1 in let same : d.0 ≡ c.0 = cc in
-    let rest = Climb-within up to x k j c.0 none c.2 (subst (λ (n : ℕ). Climb up x j n) same d.2) in
-    omega arith

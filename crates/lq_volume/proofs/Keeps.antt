@@ -1,35 +1,32 @@
 -- An accepted change keeps the numbers, the nodes and the tree, and alters no record but those it
 -- touches.
-use Rattle.std.proofs.Common.{◌≡◌, ◌≢◌, ℕ, ℤ, ◌+◌, ◌<◌, List, [], ◌∷◌, ◌++◌, refl, sym, arith, eqb, ap, ◌∙◌, Bool, true, false, length}
-use Rattle.std.specs.Prelude.{not, filter, nat_eq, Option, Some, None, is_none, is_some, IsSome, ◌&&◌}
+use Rattle.std.proofs.Common.{◌≡◌, ◌≢◌, ℕ, ℤ, ◌+◌, ◌<◌, List, [], ◌∷◌, ◌++◌, refl, sym, arith, eqb, ap, ◌∙◌, Bool, true, false}
+use Rattle.std.specs.Prelude.{not, filter, nat_eq, Option, Some, None, is_none, ◌&&◌}
 use Rattle.std.specs.Option.{option_map, option_map_or, option_to_list}
 use Rattle.std.specs.List.{AllByRecursion}
 use Rattle.std.specs.Map.{lookup}
 use Rattle.std.proofs.lemmas.Bool.Decides.{nat_tests}
 use Rattle.lq_value.specs.declared.kind.Kind.{Kind}
-use Rattle.lq_value.specs.declared.kind.Kind.TheVariants.{File, Folder}
 use Rattle.lq_volume.specs.declared.change.Change.{Change}
 use Rattle.lq_volume.specs.declared.change.Change.TheVariants.{Create, Remove, Move, Write, SetAttr, RemoveAttr}
 use Rattle.lq_volume_entries.specs.Attributes.{Attributes, HasOwnNames, with_attr, without_attr}
 use Rattle.lq_volume_entries.specs.AttributeLaws.{NamesStayApart}
 use Rattle.lq_volume_entries.specs.Kind.{is_folder}
 use Rattle.lq_volume.specs.State.{State, Record, root, record_at, kind_at, is_folder_at, dir_of, reaches, node_in, has_entries, IsTree, IsVolume}
-use Rattle.lq_volume.specs.Change.{refused, refusals, after, node_of, record_left, at_place, rewritten, set_attr, remove_attr, with_attrs, with_records, altered, without, other_at, other_than, is_other}
+use Rattle.lq_volume.specs.Change.{refused, refusals, after, node_of, record_left, at_place, rewritten, with_attrs, with_records, altered, without, other_at, other_than, is_other}
 use Rattle.lq_volume_entries.specs.PlaceIndex.{CanMove}
 use Rattle.lq_volume.specs.Laws.{ChangesKeepTrees, UntouchedStay, ClobberedGo}
 use Rattle.lq_volume_entries.specs.Laws.{RecordsAreKept}
-use Rattle.lq_volume.proofs.RecordLemmas.{Entries, All-push, All-filter, All-without, All-kept, is_taken-node_in, length-filter_le}
-use Rattle.lq_volume.proofs.Climbs.{climbs-sound, climbs-complete, Climb-more}
+use Rattle.lq_volume.proofs.RecordLemmas.{Entries, All-push, All-filter, All-without, All-kept, is_taken-node_in}
+use Rattle.lq_volume.proofs.Climbs.{Climb-more}
 use Rattle.lq_volume.proofs.Changes.{none_holds, accepted_number, IsNumbered-create, IsNumbered-filter, IsNumbered-altered}
-use Rattle.lq_volume.proofs.Tree.{IsChildless, childless-from_test, less-folder, IsTree-less, IsTree-moved, IsTree-kept, IsTree-more, dir_of-is, record-of}
+use Rattle.lq_volume.proofs.Tree.{IsChildless, childless-from_test, less-folder, IsTree-less, IsTree-edited, IsTree-kept, IsTree-more, dir_of-is, reaches-all, reaches-none, record-of}
 
 -- a node that is there and is no file is a folder
 is_folder-from_tests : (o : Option Kind)
     → is_none o ≡ false → option_map_or (λ k. not (is_folder k)) o false ≡ false
     → option_map_or is_folder o false ≡ true
-is_folder-from_tests None h k = cc
-is_folder-from_tests (Some File) h k = cc
-is_folder-from_tests (Some Folder) h k = refl
+is_folder-from_tests o h k = grind arith
 
 -- one record more
 pub keeps-create : RecordsAreKept → (s : State) (new : Record) → new.attrs ≡ []
@@ -66,19 +63,20 @@ keeps-remove laws s node v h =
       named = All-filter (λ e. HasOwnNames e.1.attrs) (λ e. not (eqb e.0 node)) s.records v.named;
     }
 
+-- another node than this that is found at a place
+other-found : (node : ℕ) (o : Option ℕ) (x : ℕ) → other_than node o ≡ Some x
+    → (o ≡ Some x) × (x ≡ node → ⊥)
+other-found node None x e = cc
+other-found node (Some y) x e = (grind (arith, nat_tests), grind (arith, nat_tests))
+
 -- a move takes no other node away
 keeps-move_none : RecordsAreKept → (s : State) (node dir : ℕ) (name : List ℕ) → IsVolume s
-    → other_at s node dir name ≡ None
-    → (node ≡ root → ⊥) → is_folder_at s dir ≡ true → reaches s dir node ≡ false
-    → IsTree (record {
-      limit = s.limit;
-      number = s.number + 1;
-      next = s.next;
-      records = altered node (at_place dir name) s.records;
-    })
-keeps-move_none laws s node dir name v is no_root folder below =
-    IsTree-moved laws s s.limit (s.number + 1) s.next node dir name v.tree no_root folder below
-    (λ n r at e f. alone n r at e f (node_in s.records dir name) refl)
+    → other_at s node dir name ≡ None → is_folder_at s dir ≡ true → reaches s dir node ≡ false
+    → IsTree (with_records s (altered node (at_place dir name) s.records))
+keeps-move_none laws s node dir name v is folder below =
+    IsTree-edited laws s node (at_place dir name) v.tree (λ r. refl)
+    (λ _ _. folder) (λ _ _. below)
+    (λ _ _ n r at e f. alone n r at e f (node_in s.records dir name) refl) (v.tree.sizes node)
   where
     alone : (n : ℕ) (r : Record) → record_at s n ≡ Some r → r.dir ≡ dir → r.name ≡ name
         → (o : Option ℕ) → node_in s.records dir name ≡ o → n ≡ node
@@ -94,18 +92,10 @@ keeps-move_none laws s node dir name v is no_root folder below =
 module _ (laws : RecordsAreKept) (s : State) (x node dir : ℕ) (name : List ℕ)
     (v : IsVolume s) (is : other_at s node dir name ≡ Some x) (folder : is_folder_at s dir ≡ true)
     (empty : (is_folder_at s x && has_entries s x) ≡ false) where
-  -- if another node than this is found, it is the one found, and it is another
-  found-of : (o : Option ℕ) → other_than node o ≡ Some x → (o ≡ Some x) × (x ≡ node → ⊥)
-  found-of None e = cc
-  found-of (Some y) e = (grind (arith, nat_tests), grind (arith, nat_tests))
-
-  -- the other node is found at that place, and isn't the one that moves
-  found : (node_in s.records dir name ≡ Some x) × (x ≡ node → ⊥)
-  found = found-of (node_in s.records dir name) is
-
   -- it has a record, with that place
   there : (r : Record) × (record_at s x ≡ Some r) × (r.dir ≡ dir) × (r.name ≡ name)
-  there = laws.places.some s.records dir name x v.numbered.rise found.0
+  there = laws.places.some s.records dir name x v.numbered.rise
+      (other-found node (node_in s.records dir name) x is).0
 
   -- nothing is in it
   childless : IsChildless s x
@@ -118,18 +108,9 @@ module _ (laws : RecordsAreKept) (s : State) (x node dir : ℕ) (name : List ℕ
       let b : record_at s root ≡ Some there.0 = rw (← e) there.1 in
       cc
 
-  -- the folder that is moved into isn't the one taken away
-  dir_stays : dir ≡ x → ⊥
-  dir_stays e = childless x there.0 there.1 (there.2 ∙ e)
-
   -- the state without the node that is taken away
   abbrev without_x : State
-  without_x = record {
-    limit = s.limit;
-    number = s.number;
-    next = s.next;
-    records = filter (λ e. not (eqb e.0 x)) s.records;
-  }
+  without_x = record s { records = filter (λ e. not (eqb e.0 x)) s.records }
 
   -- it is a tree
   tree : IsTree without_x
@@ -143,50 +124,37 @@ module _ (laws : RecordsAreKept) (s : State) (x node dir : ℕ) (name : List ℕ
       (grind (arith, nat_tests), grind (arith, nat_tests))
 
   -- the folder that is moved into isn't below the node that moves, there either
-  below : reaches s dir node ≡ false → (b : Bool) → reaches without_x dir node ≡ b
-      → reaches without_x dir node ≡ false
-  below off false e = e
-  below off true e =
-      let c = climbs-sound (length without_x.records) (dir_of without_x.records) node dir e in
-      let le = length-filter_le s.records x in
-      let d = Climb-more (dir_of without_x.records) (dir_of s.records) node c.0 dir (λ n d h.
-      let r = record-of without_x n d h in dir_of-is s n r.0 (was n r.0 r.1).0 ∙ ap Some r.2) c.2 in
-      let hit = climbs-complete (length s.records) c.0 (dir_of s.records) node dir
-      (omega arith) d in
+  below : reaches s dir node ≡ false → reaches without_x dir node ≡ false
+  below off = reaches-none without_x dir node (λ k c.
+      let d = Climb-more (dir_of without_x.records) (dir_of s.records) node k dir (λ n d h.
+      let r = record-of without_x n d h in dir_of-is s n r.0 (was n r.0 r.1).0 ∙ ap Some r.2) c in
+      let hit = (reaches-all laws s dir node v.tree folder).1 (k, d) in
       let clash : true ≡ false = sym hit ∙ off in
-      cc
+      cc)
 
   -- a move that takes a node away leaves a tree
-  keeps-move_some : (node ≡ root → ⊥) → reaches s dir node ≡ false
-      → IsTree (record {
-        limit = s.limit;
-        number = s.number + 1;
-        next = s.next;
-        records = altered node (at_place dir name) (filter (λ e. not (eqb e.0 x)) s.records);
-      })
-  keeps-move_some root_no off =
-      IsTree-moved laws without_x s.limit (s.number + 1) s.next node dir name tree root_no
-      (less-folder laws s s.limit s.number s.next x v.tree childless no_root dir dir_stays folder)
-      (below off (reaches without_x dir node) refl)
-      (λ n r at e f. let w = was n r at in
-      absurd (w.1 (v.tree.apart n x r there.0 w.0 there.1 (e ∙ sym there.2) (f ∙ sym there.3))))
+  keeps-move_some : reaches s dir node ≡ false
+      → IsTree (with_records s (altered node (at_place dir name) without_x.records))
+  keeps-move_some off =
+      IsTree-edited laws without_x node (at_place dir name) tree
+      (λ r. refl)
+      (λ _ _. less-folder laws s s.limit s.number s.next x v.tree childless no_root dir
+      (λ e. childless x there.0 there.1 (there.2 ∙ e)) folder)
+      (λ _ _. below off)
+      (λ _ _ n r at e f. let w = was n r at in absurd
+      (w.1 (v.tree.apart n x r there.0 w.0 there.1 (e ∙ sym there.2) (f ∙ sym there.3))))
+      (tree.sizes node)
 
 -- a move leaves a tree, whether or not it takes a node away
 keeps-moved : RecordsAreKept → (s : State) (node dir : ℕ) (name : List ℕ) (other : Option ℕ)
-    → IsVolume s
-    → other_at s node dir name ≡ other
-    → (node ≡ root → ⊥) → is_folder_at s dir ≡ true → reaches s dir node ≡ false
+    → IsVolume s → other_at s node dir name ≡ other
+    → is_folder_at s dir ≡ true → reaches s dir node ≡ false
     → is_other other (λ x. is_folder_at s x && has_entries s x) ≡ false
-    → IsTree (record {
-      limit = s.limit;
-      number = s.number + 1;
-      next = s.next;
-      records = altered node (at_place dir name) (without other s.records);
-    })
-keeps-moved laws s node dir name None v is not_root folder off empty =
-    keeps-move_none laws s node dir name v is not_root folder off
-keeps-moved laws s node dir name (Some x) v is not_root folder off empty =
-    keeps-move_some laws s x node dir name v is folder empty not_root off
+    → IsTree (with_records s (altered node (at_place dir name) (without other s.records)))
+keeps-moved laws s node dir name None v is folder off empty =
+    keeps-move_none laws s node dir name v is folder off
+keeps-moved laws s node dir name (Some x) v is folder off empty =
+    keeps-move_some laws s x node dir name v is folder empty off
 
 -- an accepted move leaves a volume
 pub keeps-move : RecordsAreKept → (s : State) (node dir : ℕ) (name : List ℕ) (clobber : Bool)
@@ -194,11 +162,10 @@ pub keeps-move : RecordsAreKept → (s : State) (node dir : ℕ) (name : List �
     → IsVolume (after s (Move node dir name clobber))
 keeps-move laws s node dir name clobber v h =
     let rows = none_holds (refusals s (Move node dir name clobber)) h in
-    let differs : node ≡ root → ⊥ = let r = rows.1.0 in grind (arith, nat_tests) in
     record {
       numbered = IsNumbered-altered laws s (other_at s node dir name) node (at_place dir name)
           v.numbered (accepted_number s (Move node dir name clobber) h);
-      tree = keeps-moved laws s node dir name (other_at s node dir name) v refl differs
+      tree = keeps-moved laws s node dir name (other_at s node dir name) v refl
           (is_folder-from_tests (kind_at s dir) rows.1.1.0 rows.1.1.1.0) rows.1.1.1.1.0
           rows.1.1.1.1.1.1.1.0;
       named = All-kept (λ e. HasOwnNames e.1.attrs) node
@@ -216,7 +183,7 @@ keeps-write laws s node size time v h =
     record {
       numbered = IsNumbered-altered laws s None node (rewritten size time) v.numbered
           (accepted_number s (Write node size time) h);
-      tree = IsTree-kept laws s s.limit (s.number + 1) s.next node (rewritten size time) v.tree
+      tree = IsTree-kept laws s node (rewritten size time) v.tree
           (λ r. refl) (λ r. refl) (λ r. refl)
           (λ r is folder. absurd (let clash : is_folder_at s node ≡ true =
           grind (arith, nat_tests) in let no : ⊥ = cc in no));
@@ -230,7 +197,7 @@ pub keeps-attrs : RecordsAreKept → (s : State) (node : ℕ) (f : Record → At
     → IsVolume (with_records s (altered node (λ r. with_attrs (f r) r) s.records))
 keeps-attrs laws s node f own v more = record {
   numbered = IsNumbered-altered laws s None node (λ r. with_attrs (f r) r) v.numbered more;
-  tree = IsTree-kept laws s s.limit (s.number + 1) s.next node (λ r. with_attrs (f r) r) v.tree
+  tree = IsTree-kept laws s node (λ r. with_attrs (f r) r) v.tree
       (λ r. refl) (λ r. refl) (λ r. refl) (λ r is folder. v.tree.sizes node r is folder);
   named = All-kept (λ e. HasOwnNames e.1.attrs) node (λ r. with_attrs (f r) r) s.records
       (λ e h. own e.1 h) v.named;
@@ -242,12 +209,8 @@ pub free-create : (s : State) (new : Record)
     → node_in s.records new.dir new.name ≡ None
 free-create s new h =
     let rows = none_holds (refusals s (Create new.dir new.name new.kind new.size new.time)) h in
-    none (node_in s.records new.dir new.name)
-    (sym (is_taken-node_in s.records new.dir new.name) ∙ rows.1.1.0)
-  where
-    none : (o : Option ℕ) → is_some o ≡ false → o ≡ None
-    none None e = refl
-    none (Some x) e = cc
+    let free = sym (is_taken-node_in s.records new.dir new.name) ∙ rows.1.1.0 in
+    grind (arith, nat_tests)
 
 -- an accepted move finds what the entries need of it
 pub can-move : RecordsAreKept → (s : State) (node dir : ℕ) (name : List ℕ) (clobber : Bool)
@@ -257,15 +220,10 @@ can-move laws s node dir name clobber v h =
     let rows = none_holds (refusals s (Move node dir name clobber)) h in
     record {
       apart = v.tree.apart;
-      there = some (record_at s node) refl rows.0 rows.1.0;
+      there = let is = rows.0 in let off = rows.1.0 in grind (arith, nat_tests);
       other_is = refl;
       stays_apart = (keeps-move laws s node dir name clobber v h).tree.apart;
     }
-  where
-    some : (o : Option Record) → record_at s node ≡ o → is_none (kind_at s node) ≡ false
-        → eqb node root ≡ false → IsSome (record_at s node)
-    some None is k l = absurd (grind (arith, nat_tests))
-    some (Some r) is k l = rw is refl
 
 -- each accepted change leaves a volume
 pub keeps-all : NamesStayApart → RecordsAreKept → ChangesKeepTrees
@@ -281,6 +239,16 @@ keeps-all own laws s (RemoveAttr node attr) v h =
     keeps-attrs laws s node (λ r. without_attr r.attrs attr)
     (λ r h. own.removed r.attrs attr h) v (accepted_number s (RemoveAttr node attr) h)
 
+-- an altered record is what became of it, and each other is as it was
+altered-here : RecordsAreKept → (es : Entries) (node : ℕ) (f : Record → Record)
+    → lookup (nat_eq node) (altered node f es) ≡ option_map f (lookup (nat_eq node) es)
+altered-here laws es node f = let l = laws.found.altered es node f node in grind (arith, nat_tests)
+
+altered-other : RecordsAreKept → (es : Entries) (node : ℕ) (f : Record → Record) (n : ℕ) → n ≢ node
+    → lookup (nat_eq n) es ≡ lookup (nat_eq n) (altered node f es)
+altered-other laws es node f n differs =
+    let l = laws.found.altered es node f n in grind (arith, nat_tests)
+
 -- the record of a node that isn't the one taken away
 look-without : RecordsAreKept → (es : Entries) (p : Option ℕ) (x : ℕ) → (p ≡ Some x → ⊥)
     → lookup (nat_eq x) (without p es) ≡ lookup (nat_eq x) es
@@ -295,11 +263,6 @@ off-option : (o : Option ℕ) (n : ℕ) → AllByRecursion (λ node. n ≢ node)
     → o ≡ Some n → ⊥
 off-option None n off e = cc
 off-option (Some x) n off e = let differs = off.0 in grind (arith, nat_tests)
-
--- the other node at a place isn't the node itself
-other-differs : (node : ℕ) (o : Option ℕ) → other_than node o ≡ Some node → ⊥
-other-differs node None h = cc
-other-differs node (Some x) h = grind (arith, nat_tests)
 
 -- a node that a change doesn't touch keeps its record
 pub untouched-all : RecordsAreKept → UntouchedStay
@@ -318,23 +281,15 @@ untouched-all laws s (Remove node) n v h off =
     let differs = off.0 in
     grind (arith, nat_tests)
 untouched-all laws s (Move node dir name clobber) n v h off =
-    let l = laws.found.altered (without (other_at s node dir name) s.records) node
-    (at_place dir name) n in
-    let k = look-without laws s.records (other_at s node dir name) n
-    (off-option (other_at s node dir name) n off.1) in
-    let differs = off.0 in grind (arith, nat_tests)
+    let other = other_at s node dir name in
+    sym (look-without laws s.records other n (off-option other n off.1))
+    ∙ altered-other laws (without other s.records) node (at_place dir name) n off.0
 untouched-all laws s (Write node size time) n v h off =
-    let l = laws.found.altered s.records node (rewritten size time) n in
-    let differs = off.0 in
-    grind (arith, nat_tests)
+    altered-other laws s.records node _ n off.0
 untouched-all laws s (SetAttr node attr value) n v h off =
-    let l = laws.found.altered s.records node (set_attr attr value) n in
-    let differs = off.0 in
-    grind (arith, nat_tests)
+    altered-other laws s.records node _ n off.0
 untouched-all laws s (RemoveAttr node attr) n v h off =
-    let l = laws.found.altered s.records node (remove_attr attr) n in
-    let differs = off.0 in
-    grind (arith, nat_tests)
+    altered-other laws s.records node _ n off.0
 
 -- the record that is at the node of a change afterwards
 pub record-left : RecordsAreKept → (s : State) (c : Change) → IsVolume s
@@ -348,26 +303,12 @@ record-left laws s (Remove node) v =
     let l = laws.found.removed s.records node node in
     grind (arith, nat_tests)
 record-left laws s (Move node dir name clobber) v =
-    let l = laws.found.altered (without (other_at s node dir name) s.records) node
-    (at_place dir name) node in
-    let k = look-without laws s.records (other_at s node dir name) node
-    (other-differs node (node_in s.records dir name)) in
-    let j = ap (option_map (at_place dir name)) k in
-    grind (arith, nat_tests)
-record-left laws s (Write node size time) v =
-    let l = laws.found.altered s.records node (rewritten size time) node in
-    grind (arith, nat_tests)
-record-left laws s (SetAttr node attr value) v =
-    let l = laws.found.altered s.records node (set_attr attr value) node in
-    grind (arith, nat_tests)
-record-left laws s (RemoveAttr node attr) v =
-    let l = laws.found.altered s.records node (remove_attr attr) node in
-    grind (arith, nat_tests)
-
--- the other node at a place is not the node itself
-gone-from : (node : ℕ) (o : Option ℕ) (n : ℕ) → other_than node o ≡ Some n → n ≡ node → ⊥
-gone-from node None n h e = cc
-gone-from node (Some x) n h e = grind (arith, nat_tests)
+    altered-here laws (without (other_at s node dir name) s.records) node (at_place dir name)
+    ∙ ap (option_map (at_place dir name)) (look-without laws s.records (other_at s node dir name)
+    node (λ e. (other-found node (node_in s.records dir name) node e).1 refl))
+record-left laws s (Write node size time) v = altered-here laws s.records node _
+record-left laws s (SetAttr node attr value) v = altered-here laws s.records node _
+record-left laws s (RemoveAttr node attr) v = altered-here laws s.records node _
 
 -- the node that a move takes away is another one, and has no record afterwards
 pub clobbered-go : RecordsAreKept → ClobberedGo
@@ -377,23 +318,18 @@ clobbered-go laws s (Write node size time) n v is = cc
 clobbered-go laws s (SetAttr node attr value) n v is = cc
 clobbered-go laws s (RemoveAttr node attr) n v is = cc
 clobbered-go laws s (Move node dir name clobber) n v is =
-    let differs = gone-from node (node_in s.records dir name) n is in (
+    let differs = (other-found node (node_in s.records dir name) n is).1 in (
       differs,
       rw is (let l = laws.found.altered (filter (λ e. not (eqb e.0 n)) s.records) node
           (at_place dir name) n in let k = laws.found.removed s.records n n in
           grind (arith, nat_tests)),
     )
 
--- the other node at a place is the one that was found there
-found-at : (node : ℕ) (o : Option ℕ) (x : ℕ) → other_than node o ≡ Some x → o ≡ Some x
-found-at node None x e = cc
-found-at node (Some y) x e = grind (arith, nat_tests)
-
 -- the other node at a place has a record
 pub other-there : RecordsAreKept → (s : State) (node dir : ℕ) (name : List ℕ) (x : ℕ) → IsVolume s
     → other_at s node dir name ≡ Some x → record_at s x ≡ None → ⊥
 other-there laws s node dir name x v is none =
     let there = laws.places.some s.records dir name x v.numbered.rise
-    (found-at node (node_in s.records dir name) x is) in
+    (other-found node (node_in s.records dir name) x is).0 in
     let at = there.1 in
     cc

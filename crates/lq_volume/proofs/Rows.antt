@@ -53,7 +53,7 @@ module _ (s : State) (node dir : ℕ) (name : List ℕ) (clobber : Bool)
     (folder : first_refusal ((is_none (kind_at s dir), NoNode)
     ∷ (is_file_at s dir, NotFolder) ∷ []) ≡ None) where
   -- the rows after them
-  abbrev later : Option ℕ → List (Bool × Refusal)
+  abbrev pub later : Option ℕ → List (Bool × Refusal)
   later other =
       (reaches s dir node, WouldLoop)
       ∷ (is_other other (λ x. not clobber), Exists)
@@ -63,7 +63,7 @@ module _ (s : State) (node dir : ℕ) (name : List ℕ) (clobber : Bool)
       ∷ []
 
   -- these decide
-  by-later : (other : Option ℕ) (o : Option Refusal) → other ≡ other_at s node dir name
+  pub by-later : (other : Option ℕ) (o : Option Refusal) → other ≡ other_at s node dir name
       → first_refusal (later other) ≡ o → refused s (Move node dir name clobber) ≡ o
   by-later other o is h =
       two-pass (is_none (kind_at s node)) (node == root) NoNode Reserved
@@ -72,44 +72,3 @@ module _ (s : State) (node dir : ℕ) (name : List ℕ) (clobber : Bool)
       (two-pass (is_none (kind_at s dir)) (is_file_at s dir) NoNode NotFolder
       (later (other_at s node dir name)) o folder
       (subst (λ (x : Option ℕ). first_refusal (later x) ≡ o) is h))
-
-  -- into itself
-  pub move-loops : reaches s dir node ≡ true
-      → refused s (Move node dir name clobber) ≡ Some WouldLoop
-  move-loops loops = by-later (other_at s node dir name) (Some WouldLoop) refl (rw loops refl)
-
-  -- onto another node, which stays
-  pub move-exists : (x : ℕ) → Some x ≡ other_at s node dir name → reaches s dir node ≡ false
-      → clobber ≡ false → refused s (Move node dir name clobber) ≡ Some Exists
-  move-exists x is below stays = by-later (Some x) (Some Exists) is (rw (below, stays) refl)
-
-  -- onto a node of another kind
-  pub move-clashes : (x : ℕ) → Some x ≡ other_at s node dir name → reaches s dir node ≡ false
-      → clobber ≡ true → differ (is_folder_at s x) (is_folder_at s node) ≡ true
-      → refused s (Move node dir name clobber) ≡ Some KindClash
-  move-clashes x is below goes kinds =
-      by-later (Some x) (Some KindClash) is (rw (below, goes, kinds) refl)
-
-  -- onto a folder with an entry
-  pub move-filled : (x : ℕ) → Some x ≡ other_at s node dir name → reaches s dir node ≡ false
-      → clobber ≡ true → differ (is_folder_at s x) (is_folder_at s node) ≡ false
-      → (is_folder_at s x && has_entries s x) ≡ true
-      → refused s (Move node dir name clobber) ≡ Some NotEmpty
-  move-filled x is below goes kinds filled =
-      by-later (Some x) (Some NotEmpty) is (rw (below, goes, kinds, filled) refl)
-
-  -- onto a node that may go
-  pub move-over : (x : ℕ) → Some x ≡ other_at s node dir name → reaches s dir node ≡ false
-      → clobber ≡ true → differ (is_folder_at s x) (is_folder_at s node) ≡ false
-      → (is_folder_at s x && has_entries s x) ≡ false → (full : Bool) → is_full s ≡ full
-      → refused s (Move node dir name clobber) ≡ first_refusal ((full, Exhausted) ∷ [])
-  move-over x is below goes kinds empty full last =
-      by-later (Some x) (first_refusal ((full, Exhausted) ∷ [])) is
-      (rw (below, goes, kinds, empty, last) refl)
-
-  -- to a free place
-  pub move-free : None ≡ other_at s node dir name → reaches s dir node ≡ false
-      → (full : Bool) → is_full s ≡ full
-      → refused s (Move node dir name clobber) ≡ first_refusal ((full, Exhausted) ∷ [])
-  move-free is below full last =
-      by-later None (first_refusal ((full, Exhausted) ∷ [])) is (rw (below, last) refl)

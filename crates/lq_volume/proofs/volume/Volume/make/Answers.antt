@@ -1,14 +1,14 @@
-use Rattle.std.proofs.Common.{◌≡◌, [], refl, rules, sym, subst, None}
+use Rattle.std.proofs.Common.{◌≡◌, ◌+◌, [], arith, refl, rules, sym, subst, None}
 use Rattle.std.proofs.Math.Facts.{to_z-of_z}
 use mir.Syntax.{w64}
 use mir.Val.{SFits}
-use Rattle.lq_volume.specs.State.{State, Record}
+use Rattle.lq_volume.specs.State.{State, Record, IsVolume}
 use Rattle.lq_volume.specs.Change.{after, refused}
 use Rattle.lq_volume.specs.declared.change.Change.TheVariants.{Create, Remove, Move, Write, SetAttr, RemoveAttr}
 use Rattle.lq_volume.proofs.Fits.{number-fits, next-fits}
 use Rattle.lq_volume.proofs.Keeps.{can-move, free-create}
 use Rattle.lq_volume.proofs.volume.Volume.make.Goals as goal
-use Rattle.lq_volume.proofs.volume.Volume.make.Goals.{in-Create+in_ok-copy-in-Create+in_ok-add-in-Create, in-Remove, in-Move+in_ok-move_entry-in-Move, in-Write, in-SetAttr+in_ok-set_attr-in-SetAttr, in-RemoveAttr}
+use Rattle.lq_volume.proofs.volume.Volume.make.Goals.{Joined-change, in-Create+in_ok-copy-in-Create+in_ok-add-in-Create, in-Remove, in-Move+in_ok-move_entry-in-Move, in-Write, in-SetAttr+in_ok-set_attr-in-SetAttr, in-RemoveAttr}
 
 pub add-requires-clause-free : goal.add-requires-clause-free
 add-requires-clause-free c =
@@ -39,67 +39,13 @@ move_entry-requires c =
     (can-move c.records_are_kept.ensures _ _ _ _ _ c.self.invariant (rw c.in-Move.is at may))
 
 -- each change leaves the state that its definition says
-pub invariant_of-self-2 : goal.invariant_of-self-2
-invariant_of-self-2 c =
-    let may = subst (λ (s : State). refused s c.args.change.now ≡ None)
-    (sym c.self.view_is) c.requires in
-    let keeps = c.accepted_changes_keep_trees.ensures in
-    elim c.match-change.branch [
-      | in-Create+in_ok-copy-in-Create+in_ok-add-in-Create w ↦ rw (
-        w.self-inside-is,
-        w.in_ok-add-in-Create.ensures.ok,
-        w.new-record.ensures,
-        w.in_ok-copy-in-Create.ensures.value,
-      )
-          (keeps _ (Create _ _ _ _ _) c.self.invariant (rw w.in-Create.is at may))
-      | in-Remove w ↦ rw (w.self-inside-is, w.remove.ensures)
-          (keeps _ (Remove _) c.self.invariant (rw w.in-Remove.is at may))
-      | in-Move+in_ok-move_entry-in-Move w ↦ rw (
-        w.self-inside-is,
-        w.in_ok-move_entry-in-Move.ensures.ok,
-        w.other_at-other.ensures,
-        ← c.self.view_is,
-      )
-          (keeps _ (Move _ _ _ _) c.self.invariant (rw w.in-Move.is at may))
-      | in-Write w ↦ rw (w.self-inside-is, w.write.ensures)
-          (keeps _ (Write _ _ _) c.self.invariant (rw w.in-Write.is at may))
-      | in-SetAttr+in_ok-set_attr-in-SetAttr w ↦ rw (
-        w.self-inside-is,
-        w.in_ok-set_attr-in-SetAttr.ensures.ok,
-      )
-          (keeps _ (SetAttr _ _ _) c.self.invariant (rw w.in-SetAttr.is at may))
-      | in-RemoveAttr w ↦ rw (w.self-inside-is, w.remove_attr.ensures)
-          (keeps _ (RemoveAttr _ _) c.self.invariant (rw w.in-RemoveAttr.is at may))
-    ]
-
-pub invariant_of-self : goal.invariant_of-self
-invariant_of-self c = rw c.in_err-add-in-Create.ensures.err c.self.invariant
-
-pub invariant_of-self-in_err-move_entry-in-Move : goal.invariant_of-self-in_err-move_entry-in-Move
-invariant_of-self-in_err-move_entry-in-Move c =
-    rw c.in_err-move_entry-in-Move.ensures.err c.self.invariant
-
-pub overflow_add-self : goal.overflow_add-self
-overflow_add-self c = next-fits _ c.self.invariant.numbered
-
--- no change before the last step counts
-pub overflow_add-self-2 : goal.overflow_add-self-2
-overflow_add-self-2 c =
-    let fits = number-fits _ c.self.invariant.numbered in
-    elim c.match-change.branch [
-      | in-Create+in_ok-copy-in-Create+in_ok-add-in-Create w ↦ rw w.self-inside-is fits
-      | in-Remove w ↦ rw w.self-inside-is fits
-      | in-Move+in_ok-move_entry-in-Move w ↦ rw w.self-inside-is fits
-      | in-Write w ↦ rw w.self-inside-is fits
-      | in-SetAttr+in_ok-set_attr-in-SetAttr w ↦ rw w.self-inside-is fits
-      | in-RemoveAttr w ↦ rw w.self-inside-is fits
-    ]
-
-pub returns-clause-value : goal.returns-clause-value
-returns-clause-value c = rw (c.applied_by-applied.ensures, ← c.self.view_is) refl
-
-pub returns-clause-ok : goal.returns-clause-ok
-returns-clause-ok c =
+stepped : (c : Joined-change) → ◌≡◌ {A = State} (record {
+  limit = c.match-change.self-inside.limit;
+  number = c.match-change.self-inside.changes + 1;
+  next = c.match-change.self-inside.next;
+  records = c.match-change.self-inside.entries;
+}) (after c.args.self.now c.args.change.now)
+stepped c =
     let s : State = record {
       limit = c.self.inside.limit;
       number = c.self.inside.changes;
@@ -151,3 +97,31 @@ returns-clause-ok c =
           rw (w.self-inside-is, w.remove_attr.ensures, w.in-RemoveAttr.is, ← c.self.view_is)
           (refl {a = after s (RemoveAttr w.in-RemoveAttr.node w.in-RemoveAttr.attr)})
     ]
+
+pub returns-clause-ok : goal.returns-clause-ok
+returns-clause-ok c = stepped (goal.at.returns-clause-ok c).Joined-change
+
+-- and so a volume
+pub invariant_of-self-2 : goal.invariant_of-self-2
+invariant_of-self-2 c =
+    subst IsVolume (sym (stepped (goal.at.invariant_of-self-2 c).Joined-change))
+    (c.accepted_changes_keep_trees.ensures _ _ (rw c.self.view_is at c.self.invariant) c.requires)
+
+pub invariant_of-self : goal.invariant_of-self
+invariant_of-self c = rw c.in_err-add-in-Create.ensures.err c.self.invariant
+
+pub invariant_of-self-in_err-move_entry-in-Move : goal.invariant_of-self-in_err-move_entry-in-Move
+invariant_of-self-in_err-move_entry-in-Move c =
+    rw c.in_err-move_entry-in-Move.ensures.err c.self.invariant
+
+pub overflow_add-self : goal.overflow_add-self
+overflow_add-self c = next-fits _ c.self.invariant.numbered
+
+-- no change before the last step counts
+pub overflow_add-self-2 : goal.overflow_add-self-2
+overflow_add-self-2 c =
+    let fits = number-fits _ c.self.invariant.numbered in
+    grind (arith, fits)
+
+pub returns-clause-value : goal.returns-clause-value
+returns-clause-value c = rw (c.applied_by-applied.ensures, ← c.self.view_is) refl
