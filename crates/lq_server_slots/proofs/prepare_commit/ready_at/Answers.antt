@@ -1,6 +1,4 @@
-use Rattle.std.proofs.Common.{sym, subst, ◌∙◌}
-use Rattle.std.specs.Prelude.{IsSome}
-use Rattle.lq_desk_sub.specs.Held.{Held}
+use Rattle.std.proofs.Common.{◌∙◌}
 use Rattle.lq_server_slots.proofs.SlotLemmas.{taken_alike}
 use Rattle.lq_server_slots.proofs.CommitLemmas.{noticed_then, counted_more}
 use Rattle.lq_server_slots.proofs.prepare_commit.ready_at.Goals as goal
@@ -18,7 +16,7 @@ returns-clause-noticed c =
     noticed_then c.in-Some.taken c.ready.new.slot c.args.keeper.now.slots
     c.notice_slot.new.keeper.slots c.args.place c.notice_slot.result c.requires.place.2
     c.requires.place.1 n.slots (r.others.asks ∙ n.others.0.asks)
-    (λ lt. subst (λ (h : Held). IsSome h.mark) (sym r.held) (n.ended lt))
+    (λ lt. rw r.held (n.ended lt))
 
 pub returns-clause-rises : goal.returns-clause-rises
 returns-clause-rises c =

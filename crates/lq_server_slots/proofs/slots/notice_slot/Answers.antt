@@ -1,9 +1,8 @@
-use Rattle.std.proofs.Common.{◌<◌, ◌∙◌, ℕ, sym, ap, subst}
+use Rattle.std.proofs.Common.{◌<◌, ◌∙◌, length, ap}
 use Rattle.std.proofs.lemmas.Bool.{lt-ltb, ltb-true}
 use Rattle.lq_board.specs.Slot.{slot_at}
 use Rattle.lq_board.specs.Token.{KeeperToken}
 use Rattle.lq_server_slots.specs.declared.identity.Identity.{Identity}
-use Rattle.lq_server_slots.specs.Slots.{IsTakenSlot}
 use Rattle.lq_server_slots.proofs.SlotLemmas.{taken_noticed, counted_here}
 use Rattle.lq_server_slots.proofs.CommitLemmas.{noticed_then}
 use Rattle.lq_server_slots.proofs.slots.notice_slot.Goals as goal
@@ -15,9 +14,8 @@ returns-clause-taken c =
     let a = c.asks-asks.ensures in
     let n = c.notice.ensures in
     let t = c.requires.taken in
-    let within = subst (λ (n : ℕ). place < n) (sym c.requires.place.2) c.requires.place.1 in
-    subst (IsTakenSlot c.notice.new.slot (slot_at c.asks-asks.new.keeper.slots place))
-    (sym (ap (λ (k : KeeperToken Identity). k.book) a.keeper))
+    let within : place < length was.slots = rw c.requires.place.2 c.requires.place.1 in
+    rw (ap (λ (k : KeeperToken Identity). k.book) a.keeper)
     (taken_noticed c.args.slot.now c.notice.new.slot (slot_at was.slots place)
     (slot_at c.asks-asks.new.keeper.slots place) c.asks-asks.result _ was.book t
     (n.stands was.book t.stands c.requires.number) n.others n.first_close n.messages n.hung

@@ -1,7 +1,5 @@
-use Rattle.std.proofs.Common.{◌≡◌, ◌<◌, rules, length, Some, subst}
-use Rattle.lq_server_slots.specs.declared.identity.Identity.{Identity}
+use Rattle.std.proofs.Common.{◌≡◌, ◌<◌, rules, length, Some}
 use Rattle.lq_server_slots.specs.Identity.{identity_of}
-use Rattle.lq_server_slots.specs.Slots.{IsSlotMet}
 use Rattle.lq_server_slots.proofs.SyncLemmas.{slot_met}
 use Rattle.lq_server_slots.proofs.sync.meet_under.Goals as goal
 
@@ -15,6 +13,6 @@ returns g c =
     let low : 0 < seat.slot = search rules in
     let high : seat.slot < 65 = search rules in
     let wide : length keeper.slots ≡ 65 = search rules in
-    subst (λ (t : Identity). IsSlotMet keeper m.new.keeper seat m.new.seat (Some t) m.result) named
+    rw named at
     (slot_met keeper m.new.keeper seat m.new.seat (Some g.name) m.result m.ensures.met
     m.ensures.number board (low, high, wide))
