@@ -70,16 +70,7 @@ pub partly_committed-first : (keeper : KeeperToken Identity) (slots : List (Opti
     → AllReady slots (state_of (before_of keeper.book)) c
     → PartlyCommitted keeper slots taken openings c 0
 partly_committed-first keeper slots taken openings c h l ready =
-    record {
-      known = h.known;
-      wide = h.wide;
-      listed = l;
-      below = λ j lt. absurd (omega arith);
-      from = λ j le lt. let k = taken_slot taken j in
-          (h.each k (l.low j lt) (l.high j lt), ready k (l.low j lt) (l.high j lt));
-      free = λ k pos within none. rw none at (h.each k pos within);
-      asks = h.asks;
-    }
+    grind arith
 
 -- it is committed in one slot more
 pub partly_committed-step : (keeper : KeeperToken Identity) (slots : List (Option Subscription))

@@ -77,16 +77,12 @@ module _ (h : Held) (e : End Delivery Opening) (places : ℕ) (told : Told)
     opened_is : h.opened ≤ length book.changes
     opened_is = rw live at s.opened
 
-    -- it ends at this book, or one that goes on from it
-    ends : (book' : Book) (cause : Cause) (first_close' : FirstClose) → Extends book' book
-        → IsFullBook book'
-        → FirstCloseFits first_close'
-        (Some (record { seq = h.sent + 1; change = length book.changes; cause = cause }))
-        → (cause ≡ Overrun
+    -- it ends by an overrun, in a book that goes on from this one
+    overran : (book' : Book) → Extends book' book → IsFullBook book'
         → IsOverrun h.query h.moved h.opened places h.backlog (seen_of told) book'
-        (length book.changes))
-        → Stands (ended_by h cause (length book.changes)) e places told first_close' book'
-    ends book' cause first_close' p full fits over =
+        (length book.changes)
+        → Stands (ended_by h Overrun (length book.changes)) e places told first_close book'
+    overran book' p full over =
         let long = extends_length book book' p in
         let later = extends_trans (known_by e.floor (all_put e)) book book' s.later p in
         let same =
@@ -95,18 +91,6 @@ module _ (h : Held) (e : End Delivery Opening) (places : ℕ) (told : Told)
         let old = old_is in
         let opened = opened_is in
         grind arith
-
-    -- a live subscription that ends by a hang-up stands
-    pub ends_hung : Stands (ended_by h HungUp (length book.changes)) e places told first_close
-        book
-    ends_hung = ends book HungUp first_close (extends_self book) s.full (grind arith) (grind arith)
-
-    -- a live subscription that is closed stands, closed at this change
-    pub ends_closed : Stands (ended_by h Closed (length book.changes)) e places told
-        (At (length book.changes)) book
-    ends_closed =
-        ends book Closed (At (length book.changes)) (extends_self book) s.full (refl, refl)
-        (grind arith)
 
     module _ (c : Change) (full' : IsFullBook (grown book (c ∷ [])))
         (three : length (step_of h.query h.moved (state_of book) c (h.sent + 1)) ≤ 3) where
@@ -160,19 +144,13 @@ module _ (h : Held) (e : End Delivery Opening) (places : ℕ) (told : Told)
             grind arith
 
         -- the subscription stands after the change, by whether it overruns
-        by_test : (b : Bool) → overruns h more ≡ b
+        pub by_test : (b : Bool) → overruns h more ≡ b
             → Stands (after_messages_by h more (length book.changes) b) e places told first_close
             book'
         by_test true test =
             let t = overrun_test h more test in
-            ends book' Overrun first_close (c ∷ [], refl) full' (grind arith)
-            (λ _. over_is t.0 t.1)
+            overran book' (c ∷ [], refl) full' (over_is t.0 t.1)
         by_test false test = goes_on (room_left h more test s.bounded)
-
-        -- after each change, the subscription stands over the longer book
-        pub told_stands : Stands (after_messages h more (length book.changes)) e places
-            told first_close book'
-        told_stands = by_test (overruns h more) refl
 
 -- a new one
 pub stands_new : (q : Query) (mv : Bool) (backlog : ℕ) (e : End Delivery Opening) (places : ℕ)
@@ -212,8 +190,9 @@ committed_stands p q e places told first_close book c live is few filled s ready
     subst (λ (h : Held). Stands h e places told first_close (grown book (c ∷ [])))
     (sym (ap (λ (z : Prepared). z.held) is
     ∙ (λ i. after_messages p.held (r.0 i) ((r.1 ∙ s.full.number) i))))
-    (told_stands p.held e places told first_close book s live c full
-    (few p.held.query p.held.moved (state_of book) c (p.held.sent + 1) s.full.state lawful) filled)
+    (by_test p.held e places told first_close book s live c full
+    (few p.held.query p.held.moved (state_of book) c (p.held.sent + 1) s.full.state lawful) filled
+    (overruns p.held (step_of p.held.query p.held.moved (state_of book) c (p.held.sent + 1))) refl)
 
 -- a subscription stands on once its reader is told
 pub told_now : (h : Held) (e : End Delivery Opening) (places : ℕ) (told : Told)

@@ -95,12 +95,8 @@ module _ (h : Held) (d : End Delivery Opening) (places : ℕ) (told : Told)
   -- the next parcel may be put
   pub may_put : (p : Parcel) (x : Delivery) → next_parcel h ≡ Some p → x.what ≡ p → book_of x ≡ book
       → MayFollow (all_put d) d.floor x
-  may_put p x next is at = record {
-    later = rw at s.later;
-    full = rw at s.full;
-    open_yet = unput p next;
-    tells = rw (at, is) (tells p next);
-  }
+  may_put p x next is at =
+      let open_yet = unput p next in let told = tells p next in grind arith
 
   module _ (e : End Delivery Opening) (p : Parcel) (x : Delivery) (next : next_parcel h ≡ Some p)
       (is : x.what ≡ p) (at : book_of x ≡ book) (port : IsSamePort d e) (gains : Gains d x e) where

@@ -154,31 +154,16 @@ module _ (old : ReadingHold) (e : End Delivery Opening) (m : Message) (next : Is
       λ none. received_is (hold e hand result) _ (rw (none, append-nil) next.all) in
       let stays : hand ≡ Some m → received (hold e hand result) ≡ received old =
       λ some. received_is (hold e hand result) _ (rw some next.all) in
-      record {
-        refused = refused;
-        same = next.port;
-        received = received_front (hold e hand result) (told_now e hand result _ reads);
-        known = next.known;
-        gives = grind arith;
-        fails = grind arith;
-        hand = grind arith;
-        over = grind arith;
-        waits = grind arith;
-      }
+      let received = received_front (hold e hand result) (told_now e hand result _ reads) in
+      grind arith
 
 -- a message in hand comes next
 pub hand_next : (old : ReadingHold) (m : Message) → IsTold old → old.hand ≡ Some m
     → IsNext old old.port m
-hand_next old m told there = record {
-  legal_list = told.legal_list;
-  all = told.all ∙ rw there;
-  folds = told.folds;
-  front = rw there (refl, refl);
-  port = (refl, refl, refl);
-  known = extends_self (known old);
-  was_live = grind arith;
-  live = grind arith;
-}
+hand_next old m told there =
+    let all : messages_in old.port.taken ≡ received old ++ m ∷ [] = told.all ∙ rw there in
+    let known = extends_self (known old) in
+    grind arith
 
 -- ---- a parcel that is taken
 
@@ -218,16 +203,13 @@ module _ (old : ReadingHold) (told : IsTold old) (none : old.hand ≡ None)
 
   -- a message that is taken comes next
   pub took_next : (m : Message) → x.what ≡ told_update m → IsNext old e m
-  took_next m is = record {
-    legal_list = legal_list_then;
-    all = rw is at messages_then;
-    folds = rw same.2 told.folds;
-    front = rw is at front_then;
-    port = same;
-    known = later;
-    was_live = comes.open_yet;
-    live = rw is at mark_then;
-  }
+  took_next m is =
+      let list = legal_list_then in
+      let messages = messages_then in
+      let front = front_then in
+      let known = later in
+      let mark = mark_then in
+      grind arith
 
   -- when the mark is taken, the reader has ended
   pub took_mark : (k : Mark) → x.what ≡ told_fin k → ReadsPort e old.result old.hand true
@@ -252,55 +234,30 @@ module _ (old : ReadingHold) (told : IsTold old) (none : old.hand ≡ None)
       let marked : mark_in e.taken ≡ Some k = rw is at mark_then in
       let mark : IsMark e.floor (messages_in e.taken) (known_by e.floor e.taken) k =
       rw marked at legal_list_then.mark in
-      record {
-        refused = (refl, tt);
-        same = same;
-        received = received_front now reads;
-        known = later;
-        gives = (
-          got,
-          rw none (rw (none, is) at front_then),
-          comes.open_yet,
-          marked,
-          rw (← all) mark,
-        );
-        fails = tt;
-        hand = tt;
-        over = grind arith;
-        waits = grind arith;
-      }
+      let prefix = received_front now reads in
+      let known = later in
+      let front = front_then in
+      let told_mark : IsMark e.floor (received now) (known_by e.floor e.taken) k =
+      rw (← all) mark in
+      grind arith
 
 -- ---- a read that changes nothing
 
 module _ (w : Bool) (old : ReadingHold) (told : IsTold old) where
   -- the mark was read before
   pub ended_step : is_some (mark_read old) ≡ true → IsReadStep w old old (Ok Ended)
-  ended_step over = record {
-    refused = (refl, tt);
-    same = (refl, refl, refl);
-    received = received_front old told;
-    known = extends_self (known old);
-    gives = (refl, rw (told.no_hand over), over);
-    fails = tt;
-    hand = tt;
-    over = λ _. refl;
-    waits = grind arith;
-  }
+  ended_step over =
+      let received = received_front old told in
+      let known = extends_self (known old) in
+      grind arith
 
   -- nothing is there, and the read doesn't wait
   pub empty_step : old.hand ≡ None → is_some (mark_read old) ≡ false → old.port.ahead ≡ []
       → (w ≡ true → ⊥) → IsReadStep w old old (Ok Empty)
-  empty_step none live ahead stays = record {
-    refused = (refl, tt);
-    same = (refl, refl, refl);
-    received = received_front old told;
-    known = extends_self (known old);
-    gives = (refl, rw (none, ahead), grind arith);
-    fails = tt;
-    hand = tt;
-    over = grind arith;
-    waits = grind arith;
-  }
+  empty_step none live ahead stays =
+      let received = received_front old told in
+      let known = extends_self (known old) in
+      grind arith
 
 -- a new reading received nothing
 pub reads_new : (e : End Delivery Opening) (result : Folding) → e.taken ≡ []

@@ -40,8 +40,7 @@ opened_list s book n = refl
 -- the mark and the end cover the same changes
 covers : (o : Option Mark) (book : Book) → book.start.number ≡ 0
     → upto o (length book.changes) ≡ covered_by book (mark_ending o)
-covers None book zero = omega (arith, zero)
-covers (Some k) book zero = refl
+covers o book zero = grind arith
 
 -- the updates due to the subscription of the world
 dues : (asked : Bool) (taken : ℕ) (s : Subscription) (book : Book) → IsFullBook book

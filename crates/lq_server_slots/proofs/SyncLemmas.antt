@@ -83,17 +83,6 @@ pub only_then : (ps qs rs : List (KnownSlot Identity)) (k j : ℕ) → OnlyAt ps
     → j ≡ k → OnlyAt ps rs k
 only_then ps qs rs k j a b e = only_trans ps qs rs k a (rw e at b)
 
--- a taken slot stands on once its seat has met the keeper
-pub taken_met : (s : Subscription) (p q : KnownSlot Identity) (book : Book) (n : ℕ)
-    (name : Option Identity) → IsTakenSlot s p book
-    → q ≡ record { out = true; asks = n; name = name } → p.name ≡ name → p.asks ≤ n
-    → IsTakenSlot s q book
-taken_met s p q book n name taken is same le = grind arith
-
--- no more had been taken than what is told
-seen_now : (n seen : ℕ) (o : Option Mark) → seen_of (told_by n seen o) ≤ seen
-seen_now n seen o = grind arith
-
 -- a taken slot stands on once its port is filled and its reader told, and its seat has its new name
 pub taken_shown : (s t : Subscription) (p q : KnownSlot Identity) (n : ℕ) (book : Book)
     (d e : ReadingHold) (x : Progress) → IsTakenSlot s p book → IsShown s t d e book x → p.asks ≤ n
@@ -107,8 +96,7 @@ taken_shown s t p q n book d e x taken shown le is =
     let stands : IsConsistentAt u book =
     rw told (told_now m.sub.held m.input m.places m.told.value m.first_close book seen
     shown.between.stands) in
-    let few : IsSeen u =
-    rw (told, shown.between.met) (seen_now (length book.changes) seen m.sub.held.mark) in
+    let few : IsSeen u = grind arith in
     let stuck : CannotPut u = rw shown.between.ahead shown.drained in
     let filled = stuck_filled u book stands few stuck in
     grind arith
@@ -132,11 +120,7 @@ same_port s name e is fits =
 pub fits_met : (o : Option Subscription) (old new : KeeperToken Identity)
     (s t : SeatToken Identity) (n : ℕ) → SlotStands o (slot_at old.slots s.slot) old.book
     → IsSlotMet old new s t s.name n → SlotStands o (slot_at new.slots s.slot) new.book
-fits_met None old new s t n free met = absurd (true≢false (sym met.out ∙ free))
-fits_met (Some x) old new s t n taken met =
-    rw met.book
-    (taken_met x (slot_at old.slots s.slot) (slot_at new.slots s.slot) old.book s.asks s.name taken
-    met.place met.name met.asks)
+fits_met o old new s t n stands met = grind arith
 
 -- and counts as many asks
 pub asks_met : (o : Option Subscription) (p q : KnownSlot Identity) (book : Book)

@@ -24,8 +24,7 @@ free_or_taken o = grind arith
 -- what was read of a slot that is free
 pub free_read : (slots : List (Option Subscription)) (k : ℕ) (o : Option Subscription)
     → o ≡ slice_index_or slots k o → is_some o ≡ false → slot_in slots k ≡ None
-free_read slots k None e none = sym e
-free_read slots k (Some s) e none = absurd (true≢false none)
+free_read slots k o e none = grind arith
 
 -- a slot whose seat is out is taken
 pub taken_out : (o : Option Subscription) (p : KnownSlot Identity) (book : Book)

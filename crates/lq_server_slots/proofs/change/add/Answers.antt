@@ -27,11 +27,4 @@ returns-clause-holding c =
     )
 
 pub returns-clause-noticed : goal.returns-clause-noticed
-returns-clause-noticed c =
-    let r = c.prepare.ensures in
-    let within = c.slot.ensures.within in
-    let value = c.slot.ensures.value in
-    let wide = r.holding.0.known in
-    let same = slots_added _ _ _ _ _ _ c.add_by.ensures.added (omega (arith, within, value, wide))
-    (λ pos. omega (arith, c.requires.known pos, r.rises c.args.seat.now.slot)) in
-    rw same c.in_ok-prepare.ensures.noticed
+returns-clause-noticed c = search (rules, arith, slots_added)

@@ -1,6 +1,5 @@
-use Rattle.std.proofs.Common.{◌≡◌, ◌≢◌, ℕ, ◌∙◌, None, sym, subst, slice_set, arith}
+use Rattle.std.proofs.Common.{None, sym, arith, rules}
 use Rattle.std.proofs.lemmas.List.{get_or_read}
-use Rattle.lq_server_slots.specs.Slots.{slot_in}
 use Rattle.lq_server_slots.proofs.SlotLemmas.{all_stand-step, in_here, in_else}
 use Rattle.lq_server_slots.proofs.TakenLemmas.{listed-drop}
 use Rattle.lq_server_slots.proofs.close.free_in.Goals as goal
@@ -27,24 +26,10 @@ returns-clause-holding c =
     )
 
 pub returns-clause-freed : goal.returns-clause-freed
-returns-clause-freed c =
-    let wide = c.requires.holding.0.wide in
-    let within = c.slot-place.ensures.within in
-    let items = c.args.slots.now.subscriptions.items in
-    subst (λ (p : ℕ). slot_in (slice_set items c.slot-place.result c.free_at.new.slot) p ≡ None)
-    c.slot-place.ensures.value
-    (in_here items c.slot-place.result c.free_at.new.slot (omega arith) ∙ c.free_at.ensures.free)
+returns-clause-freed c = search (rules, arith, in_here)
 
 pub returns-clause-taken : goal.returns-clause-taken
-returns-clause-taken c =
-    let items = c.args.slots.now.subscriptions.items in
-    let wide = c.requires.holding.0.wide in
-    let within = c.slot-place.ensures.within in
-    let read =
-    get_or_read items c.slot-place.result _ (omega arith) c.index_mut.ensures.value None in
-    rw (read, c.slot-place.ensures.value) at c.free_at.ensures.taken
+returns-clause-taken c = search (rules, arith, get_or_read)
 
 pub returns-clause-others : goal.returns-clause-others
-returns-clause-others c = λ k ne.
-    let apart : k ≢ c.slot-place.result = λ e. ne (e ∙ c.slot-place.ensures.value) in
-    in_else c.args.slots.now.subscriptions.items c.slot-place.result k c.free_at.new.slot apart
+returns-clause-others c = search (rules, arith, in_else)

@@ -1,24 +1,14 @@
 use borrow.Author.Rules.{rules}
-use Rattle.std.proofs.Common.{◌<◌, length, None, refl, arith}
+use Rattle.std.proofs.Common.{◌<◌, length, None, arith}
 use Rattle.std.proofs.lemmas.List.{get_or_read}
-use Rattle.lq_server_slots.specs.Slots.{taken_slot, SlotIs, IsNoticed, IsServed}
+use Rattle.lq_server_slots.specs.Slots.{SlotIs, IsNoticed, IsServed}
 use Rattle.lq_server_slots.proofs.SlotLemmas.{only_self}
 use Rattle.lq_server_slots.proofs.TakenLemmas.{listed_place}
 use Rattle.lq_server_slots.proofs.CommitLemmas.{partly_committed-first, partly_committed-step, slots_are-more, slots_are-left, slots_are-all}
 use Rattle.lq_server_slots.proofs.prepare_commit.commit_all.Goals as goal
 
 pub loop-index-init : goal.loop-index-init
-loop-index-init g c =
-    let was = c.args.slots.now in (
-      refl,
-      refl,
-      search rules,
-      partly_committed-first was.keeper was.subscriptions.items was.taken.items was.openings
-          c.args.change.now c.requires.holding.0 c.requires.holding.1 c.requires.ready,
-      λ j lt. absurd (omega arith),
-      λ j le lt. let l = c.requires.holding.1 in
-          c.requires.noticed (taken_slot was.taken.items j) (l.low j lt) (l.high j lt),
-    )
+loop-index-init g c = search (rules, arith, partly_committed-first)
 
 pub loop-index-preserved : goal.loop-index-preserved
 loop-index-preserved g c =
@@ -48,22 +38,7 @@ loop-index-preserved g c =
     )
 
 pub commit_at-requires-clause-noticed : goal.commit_at-requires-clause-noticed
-commit_at-requires-clause-noticed g c =
-    let i = c.loop-index.invariant in
-    let slots = c.loop-index.slots in
-    let items = slots.subscriptions.items in
-    let place = c.index-place.result.now in
-    let wide = i.3.wide in
-    let lt : c.loop-index.index < length slots.taken.items =
-    omega (arith, i.2, c.loop-index-test.true) in
-    let p = listed_place slots.taken.items items c.loop-index.index place i.3.listed lt
-    c.index-place.ensures in
-    let high = p.1 in
-    let read = get_or_read items place _ (omega arith) c.index_mut.ensures.value None in
-    rw (read, p.2) (i.5 c.loop-index.index (omega arith) lt)
+commit_at-requires-clause-noticed g c = search (rules, arith, get_or_read, listed_place)
 
 pub returns-clause-served : goal.returns-clause-served
-returns-clause-served g c =
-    let i = c.loop-index.invariant in
-    slots_are-all IsServed _ _ _ c.loop-index.index i.3.listed
-    (omega (arith, i.2, c.loop-index-test.false)) i.4
+returns-clause-served g c = search (rules, arith, slots_are-all)

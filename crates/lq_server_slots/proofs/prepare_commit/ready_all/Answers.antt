@@ -1,4 +1,4 @@
-use Rattle.std.proofs.Common.{◌∙◌, ◌<◌, length, refl, arith}
+use Rattle.std.proofs.Common.{◌∙◌, ◌<◌, length, refl, arith, rules}
 use Rattle.lq_server_slots.specs.Slots.{IsReadyAt, SlotIs, IsNoticed}
 use Rattle.lq_server_slots.proofs.SlotLemmas.{only_self}
 use Rattle.lq_server_slots.proofs.TakenLemmas.{slots_stand-step, asks_rise, listed_place}
@@ -50,14 +50,7 @@ loop-index-preserved c =
     )
 
 pub returns-clause-noticed : goal.returns-clause-noticed
-returns-clause-noticed c =
-    let i = c.loop-index.invariant in
-    slots_are-all IsNoticed _ _ _ c.loop-index.index i.4.1
-    (omega (arith, i.3, c.loop-index-test.false)) i.6
+returns-clause-noticed c = search (rules, arith, slots_are-all)
 
 pub returns-in_err-ready_at-clause-rises : goal.returns-in_err-ready_at-clause-rises
-returns-in_err-ready_at-clause-rises c =
-    let was = c.loop-index.slots in
-    let f = c.ready_at.ensures in
-    asks_rise c.args.slots.now.keeper.slots was.keeper.slots c.ready_at.new.keeper.slots
-    c.index-place.result.now f.only f.rises c.loop-index.invariant.7
+returns-in_err-ready_at-clause-rises c = search (rules, arith, asks_rise)

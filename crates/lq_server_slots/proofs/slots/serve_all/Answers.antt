@@ -1,4 +1,4 @@
-use Rattle.std.proofs.Common.{◌∙◌, ◌<◌, length, refl, arith}
+use Rattle.std.proofs.Common.{◌∙◌, ◌<◌, length, refl, arith, rules}
 use Rattle.lq_server_slots.specs.Slots.{SlotIs, IsServed}
 use Rattle.lq_server_slots.proofs.TakenLemmas.{slots_stand-step, listed_place}
 use Rattle.lq_server_slots.proofs.CommitLemmas.{slots_are-more, slots_are-all}
@@ -29,7 +29,4 @@ loop-index-preserved g c =
     )
 
 pub returns-clause-served : goal.returns-clause-served
-returns-clause-served g c =
-    let i = c.loop-index.invariant in
-    slots_are-all IsServed _ _ _ c.loop-index.index i.4.1
-    (omega (arith, i.3, c.loop-index-test.false)) i.5
+returns-clause-served g c = search (rules, arith, slots_are-all)

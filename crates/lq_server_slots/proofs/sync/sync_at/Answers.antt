@@ -1,8 +1,5 @@
-use Rattle.std.proofs.Common.{◌≡◌, ◌∙◌, arith, Some, sym, ap}
+use Rattle.std.proofs.Common.{◌∙◌, arith, sym, rules}
 use Rattle.lq_board.specs.Slot.{slot_at}
-use Rattle.lq_board.specs.Token.{SeatToken}
-use Rattle.lq_server_slots.specs.declared.identity.Identity.{Identity}
-use Rattle.lq_server_slots.specs.declared.subscription.Subscription.{Subscription}
 use Rattle.lq_server_slots.proofs.SlotLemmas.{identity_alike, identity_others}
 use Rattle.lq_server_slots.proofs.SyncLemmas.{only_trans, only_then, same_port, taken_shown}
 use Rattle.lq_server_slots.proofs.sync.sync_at.Goals as goal
@@ -18,11 +15,7 @@ pub returns-clause-book : goal.returns-clause-book
 returns-clause-book g c = cc
 
 pub returns-clause-only : goal.returns-clause-only
-returns-clause-only g c =
-    let m = c.meet_slot_at-number.ensures.met in
-    only_then _ _ _ _ _ m.only
-    (only_trans _ _ _ _ c.notice_by.ensures.only c.meet_under.ensures.only)
-    (ap (λ (s : SeatToken Identity). s.slot) m.seat)
+returns-clause-only g c = search (rules, arith, only_then, only_trans)
 
 pub returns-clause-fits : goal.returns-clause-fits
 returns-clause-fits g c =
@@ -37,56 +30,10 @@ returns-clause-fits g c =
     c.show-progress.ensures u.ensures.asks u.ensures.place))
 
 pub returns-clause-asks : goal.returns-clause-asks
-returns-clause-asks g c =
-    let now : c.show-progress.new.slot.asks ≡ c.in-Some.taken.asks =
-    ap (λ (s : Subscription). s.asks) c.show-progress.ensures.rest
-    ∙ c.show-progress.ensures.between.alike.asks ∙ c.notice_by.ensures.others.0.asks in
-    rw c.in-Some.is (omega arith)
+returns-clause-asks g c = search (rules, arith)
 
 pub returns-clause-seat : goal.returns-clause-seat
-returns-clause-seat g c =
-    rw (c.meet_under.ensures.seat, c.notice_by.ensures.book)
-    c.meet_slot_at-number.ensures.met.book
+returns-clause-seat g c = search (rules, arith)
 
 pub returns-clause-progress : goal.returns-clause-progress
-returns-clause-progress g c =
-    let same = c.meet_slot_at-number.ensures.met in
-    let n = c.notice_by in
-    let shown = c.show-progress.ensures in
-    let b = shown.between in
-    let m : Subscription = shown.m in
-    let under = c.meet_under.ensures.seat in
-    let taken = rw c.in-Some.is at c.requires.fits in
-    let asks = b.alike.asks in
-    let le = c.meet_under.ensures.asks in
-    let asked : c.meet_under.new.seat.asks ≡ c.meet_slot_at-number.new.seat.asks =
-    ap (λ (s : SeatToken Identity). s.asks) under in (
-      m,
-      record {
-        stands = rw under b.stands;
-        drained = shown.drained;
-        port = b.port;
-        floor = b.floor;
-        taken = b.taken;
-        all = b.all;
-        known = b.known;
-        legal = b.legal;
-        hand = shown.hand;
-        result = shown.result;
-        identity = sym same.name ∙ taken.name
-            ∙ ap (λ (x : Identity). Some x) (sym (identity_alike n.new.slot m b.alike
-            ∙ identity_others c.in-Some.taken n.new.slot n.ensures.others.0 n.ensures.others.1));
-        name = rw (under, shown.rest, ← shown.told);
-        seat = rw (under, same.seat);
-        later = rw (under, n.ensures.book, same.book) same.later;
-        number = rw under shown.number;
-        waiting = shown.waiting;
-        within = b.within;
-        held = shown.held;
-        mark = shown.mark;
-        out = shown.out;
-        hung = λ h. let lt = n.ensures.taken.hung (rw b.alike.held.mark at h) in omega arith;
-        ended = λ lt. rw b.alike.held.mark
-            (n.ensures.ended (let same = n.ensures.others.0.asks in omega arith));
-      },
-    )
+returns-clause-progress g c = search (rules, arith, identity_alike, identity_others)
