@@ -1,6 +1,6 @@
 -- A subscription as the book grows, and as it ends.
-use Rattle.std.proofs.Common.{◌≡◌, ℕ, ◌+◌, ◌<◌, ◌≤◌, Bool, true, false, List, [], ◌∷◌, ◌++◌, length, Option, Some, None, refl, sym, ap, ◌∙◌, subst, arith, append_assoc, append-nil, length-append}
-use Rattle.std.specs.Prelude.{IfSome, is_none}
+use Rattle.std.proofs.Common.{◌≡◌, ℕ, ◌+◌, ◌<◌, ◌≤◌, Bool, true, false, List, [], ◌∷◌, ◌++◌, length, Option, Some, None, refl, sym, ap, ◌∙◌, subst, arith, append_assoc, length-append}
+use Rattle.std.specs.Prelude.{is_none}
 use Rattle.std.proofs.lemmas.Bool.Decides.{nat_tests}
 use Rattle.lq_predicate.specs.Query.{Query}
 use Rattle.lq_volume.specs.declared.change.Change.{Change}
@@ -9,8 +9,7 @@ use Rattle.lq_volume.specs.Book.{Book, Extends, grown, state_of}
 use Rattle.lq_board.specs.Book.{IsFullBook}
 use Rattle.lq_update.specs.declared.message.Message.{Message}
 use Rattle.lq_update.specs.declared.mark.Mark.{Mark}
-use Rattle.lq_update.specs.declared.mark.Cause.{Cause}
-use Rattle.lq_update.specs.declared.mark.Cause.TheVariants.{Closed, HungUp, Overrun}
+use Rattle.lq_update.specs.declared.mark.Cause.TheVariants.{Overrun}
 use Rattle.lq_update.specs.Updates.{step_of}
 use Rattle.lq_volume.specs.Change.{IsLawful}
 use Rattle.lq_update.specs.Laws.{StepsAreFew}
@@ -19,13 +18,13 @@ use Rattle.lq_port.specs.End.{End, all_put}
 use Rattle.lq_server_slots.specs.declared.delivery.Delivery.{Delivery}
 use Rattle.lq_server_slots.specs.declared.delivery.Opening.{Opening}
 use Rattle.lq_server_slots.specs.declared.identity.FirstClose.{FirstClose}
-use Rattle.lq_server_slots.specs.declared.identity.FirstClose.TheVariants.{Never, At, Late}
+use Rattle.lq_server_slots.specs.declared.identity.FirstClose.TheVariants.{Never}
 use Rattle.lq_server_slots.specs.declared.identity.Told.{Told}
-use Rattle.lq_server_slots.specs.declared.identity.Told.TheVariants.{Live, Ended}
+use Rattle.lq_server_slots.specs.declared.identity.Told.TheVariants.{Live}
 use Rattle.lq_server_slots.specs.Updates.{updates}
 use Rattle.lq_server_slots.specs.Rule.{floor_of, query_of, messages_in}
 use Rattle.lq_server_slots.specs.LegalList.{known_by}
-use Rattle.lq_server_slots.specs.Standing.{messages_given, Stands, FirstCloseFits, IsOverrun, IsReady, seen_of, told_by}
+use Rattle.lq_server_slots.specs.Standing.{messages_given, Stands, IsOverrun, IsReady, seen_of, told_by}
 use Rattle.lq_server_slots.proofs.Books.{extends_self, extends_trans, extends_length}
 use Rattle.lq_server_slots.proofs.UpdateLemmas.{updates-add, updates-same, updates-none}
 

@@ -1,6 +1,6 @@
 -- A subscription as its parcels move into its port.
-use Rattle.std.proofs.Common.{◌≡◌, ℕ, ◌+◌, ◌*◌, ◌<◌, ◌≤◌, ◌⊎◌, inl, inr, Bool, true, false, List, [], ◌∷◌, ◌++◌, ⊎_elim, length, drop, Option, Some, None, refl, sym, arith, append_assoc, append-nil}
-use Rattle.std.specs.Prelude.{IfSome, IsSome}
+use Rattle.std.proofs.Common.{◌≡◌, ℕ, ◌<◌, ◌≤◌, ◌⊎◌, false, [], ◌∷◌, ◌++◌, ⊎_elim, length, drop, Option, Some, None, arith, append_assoc, append-nil}
+use Rattle.std.specs.Prelude.{IfSome}
 use mathlib.Core.List.{IsPrefix}
 use Rattle.lq_volume.specs.Book.{Book, Extends}
 use Rattle.lq_update.specs.declared.message.Message.{Message}
@@ -16,10 +16,9 @@ use Rattle.lq_server_slots.specs.declared.delivery.Opening.{Opening}
 use Rattle.lq_server_slots.specs.declared.identity.FirstClose.{FirstClose}
 use Rattle.lq_server_slots.specs.declared.identity.Told.{Told}
 use Rattle.lq_server_slots.specs.declared.subscription.Subscription.{Subscription}
-use Rattle.lq_server_slots.specs.Updates.{updates}
-use Rattle.lq_server_slots.specs.Rule.{book_of, floor_of, message_of, mark_or, messages_in, mark_in, IsMark, Tells, MayFollow}
+use Rattle.lq_server_slots.specs.Rule.{book_of, message_of, mark_or, messages_in, mark_in, IsMark, Tells, MayFollow}
 use Rattle.lq_server_slots.specs.LegalList.{known_by}
-use Rattle.lq_server_slots.specs.Standing.{messages_given, upto, moved_mark, Stands, IsConsistentAt, SameHeld, SameButPuts, left_of, left_to_put, IsOut, CannotPut, IsDrained, SideBySide}
+use Rattle.lq_server_slots.specs.Standing.{messages_given, upto, Stands, IsConsistentAt, SameHeld, SameButPuts, left_of, left_to_put, IsOut, CannotPut, IsDrained, SideBySide}
 use Rattle.lq_server_slots.proofs.Books.{extends_self}
 use Rattle.lq_server_slots.proofs.UpdateLemmas.{updates-front}
 use Rattle.lq_server_slots.proofs.PortLemmas.{prefix_self, prefix_trans, messages_in-snoc, mark_in-append, last_book-snoc}

@@ -1,6 +1,6 @@
 -- The steps of a read.
-use Rattle.std.proofs.Common.{◌≡◌, ◌≢◌, ◌↔◌, ℕ, ◌-◌, ◌≤◌, Bool, true, false, List, [], ◌∷◌, ◌++◌, length, map, Option, Some, None, refl, sym, ap, ◌∙◌, arith, append_assoc, append-nil, length-append}
-use Rattle.std.specs.Prelude.{IfSome, IsSome, is_some, option_to_list, Result, Ok, Err, OnErr, OnOk, IfOk}
+use Rattle.std.proofs.Common.{◌≡◌, ◌↔◌, ◌-◌, ◌≤◌, Bool, true, false, List, [], ◌∷◌, ◌++◌, length, map, Option, Some, None, refl, sym, ap, ◌∙◌, arith, append_assoc, append-nil, length-append}
+use Rattle.std.specs.Prelude.{IfSome, is_some, option_to_list, Result, Ok, Err, OnErr, OnOk, IfOk}
 use Rattle.std.proofs.lemmas.List.{take_at}
 use mathlib.Core.List.{IsPrefix}
 use Rattle.lq_value.specs.declared.refusal.Refusal.{Refusal}
@@ -11,9 +11,8 @@ use Rattle.lq_volume.specs.Result.{result_of}
 use Rattle.lq_board.specs.Book.{IsFullBook}
 use Rattle.lq_update.specs.declared.message.Message.{Message}
 use Rattle.lq_update.specs.declared.mark.Mark.{Mark}
-use Rattle.lq_update.specs.declared.parcel.Parcel.{Parcel}
 use Rattle.lq_update.specs.declared.parcel.Parcel.TheVariants.{Update as told_update, Fin as told_fin}
-use Rattle.lq_update.specs.Fold.{Folding, folded, last_change, settled_after, fold_refusals, folding_after, folding_after_all}
+use Rattle.lq_update.specs.Fold.{Folding, folded, last_change, fold_refusals, folding_after, folding_after_all}
 use Rattle.lq_update.specs.Laws.{RebuildsTakeAll, FoldsGiveResults, FoldingsFollow, SettledIsTested, WholeFoldsGiveResults}
 use Rattle.lq_update.specs.Updates.{IsSettled}
 use Rattle.lq_desk_sub.specs.declared.read.Read.{Read}
@@ -24,8 +23,8 @@ use Rattle.lq_server_slots.specs.declared.delivery.Opening.{Opening}
 use Rattle.lq_server_slots.specs.Updates.{updates}
 use Rattle.lq_server_slots.specs.Rule.{floor_of, query_of, message_of, mark_or, messages_in, mark_in, all_updates, IsMark, MayFollow}
 use Rattle.lq_server_slots.specs.LegalList.{known_by, LegalList}
-use Rattle.lq_server_slots.specs.Reading.{ReadingHold, ReadsPort, opening_of, known, received, ready, mark_read, what_of, Gives, IsTold}
-use Rattle.lq_server_slots.specs.ReadStep.{NeverEmpty, IsReadStep}
+use Rattle.lq_server_slots.specs.Reading.{ReadingHold, ReadsPort, opening_of, known, received, ready, mark_read, what_of, IsTold}
+use Rattle.lq_server_slots.specs.ReadStep.{IsReadStep}
 use Rattle.lq_server_slots.proofs.Books.{extends_length, extends_self}
 use Rattle.lq_server_slots.proofs.PortLemmas.{prefix_trans, messages_in-snoc, mark_in-append, last_book-snoc, legal_list-none, legal_list-step}
 

@@ -1,30 +1,25 @@
 -- The slots under the lock show a world of the core.
-use Rattle.std.proofs.Common.{◌≡◌, ℕ, suc, ◌+◌, ◌-◌, ◌≤◌, Bool, true, false, true≢false, List, [], ◌∷◌, ◌++◌, length, map, drop, Option, Some, None, refl, sym, ap, ◌∙◌, subst, arith, length-append, append-nil}
-use Rattle.std.specs.Prelude.{IsSome, IfSome, is_none, nat_lt, ◌&&◌, if◌then◌else◌}
+use Rattle.std.proofs.Common.{◌≡◌, ℕ, ◌+◌, ◌-◌, ◌≤◌, Bool, true, false, List, [], ◌∷◌, ◌++◌, length, drop, Option, Some, None, refl, sym, ap, ◌∙◌, arith, length-append, append-nil}
+use Rattle.std.specs.Prelude.{IsSome, IfSome, nat_lt}
 use Rattle.std.proofs.Math.Seq.{drop-append_seam}
 use Rattle.std.proofs.Math.ListN.{drop_of_length-le}
 use Rattle.std.proofs.lemmas.List.FromFn.{get_or-map-range_with_len}
 use Rattle.lq_volume.specs.declared.change.Change.{Change}
-use Rattle.lq_volume.specs.Book.{Book, number_of, state_of}
+use Rattle.lq_volume.specs.Book.{Book, state_of}
 use Rattle.lq_board.specs.declared.token_views.KnownSlot.{KnownSlot}
 use Rattle.lq_board.specs.Book.{IsFullBook}
 use Rattle.lq_board.specs.Slot.{slot_at}
 use Rattle.lq_update.specs.declared.message.Message.{Message}
 use Rattle.lq_update.specs.declared.mark.Mark.{Mark}
-use Rattle.lq_update.specs.declared.parcel.Parcel.{Parcel}
-use Rattle.lq_update.specs.declared.parcel.Parcel.TheVariants.{Update, Fin}
-use Rattle.lq_update.specs.declared.mark.Cause.TheVariants.{Closed, HungUp, Overrun}
-use Rattle.lq_update.specs.Updates.{updates_of, step_of}
-use Rattle.lq_desk_sub.specs.Held.{Held, after_messages, after_messages_by, ended_by, overruns as held_overruns}
+use Rattle.lq_update.specs.Updates.{updates_of}
 use Rattle.lq_port.specs.End.{all_put}
-use Rattle.lq_desk_world.specs.World.{Subscribed, Ending, covered_by, mark_behind, updates_due, waiting, change_overruns, overrun_if, after_change}
-use Rattle.lq_desk_world.specs.Events.{noticing_if, closing_if}
+use Rattle.lq_desk_world.specs.World.{Subscribed, Ending, covered_by, mark_behind, updates_due, waiting, after_change}
 use Rattle.lq_server_slots.specs.declared.delivery.Delivery.{Delivery}
 use Rattle.lq_server_slots.specs.declared.identity.Identity.{Identity}
 use Rattle.lq_server_slots.specs.declared.subscription.Subscription.{Subscription}
 use Rattle.lq_server_slots.specs.Updates.{updates}
-use Rattle.lq_server_slots.specs.Rule.{message_of, mark_or, messages_in, mark_in}
-use Rattle.lq_server_slots.specs.Standing.{IsConsistentAt, IsReady, moved_mark, upto}
+use Rattle.lq_server_slots.specs.Rule.{messages_in, mark_in}
+use Rattle.lq_server_slots.specs.Standing.{IsConsistentAt, IsReady, upto}
 use Rattle.lq_server_slots.specs.Marking.{held_committed}
 use Rattle.lq_server_slots.specs.Slots.{SlotStands, slot_in}
 use Rattle.lq_server_slots.specs.Shown.{mark_ending, subscribed, slot_shown, mark_to_put, with_mark, PassesOnAs, SlotPassesOn, SlotsShowWorlds, ActsShowWorlds}

@@ -1,5 +1,5 @@
 -- What a reader does under the lock.
-use Rattle.std.proofs.Common.{◌≡◌, ℕ, zero, suc, ◌+◌, ◌<◌, ◌≤◌, Bool, true, false, true≢false, List, [], ◌∷◌, length, Option, Some, None, refl, sym, ap, ◌∙◌, arith, get_or-set_same, slice_set, set-set}
+use Rattle.std.proofs.Common.{◌≡◌, ℕ, zero, suc, ◌<◌, ◌≤◌, true, false, List, [], ◌∷◌, length, Option, Some, refl, sym, ap, ◌∙◌, arith, get_or-set_same, slice_set, set-set}
 use Rattle.std.specs.Prelude.{IsSome, IsSomeAnd}
 use Rattle.std.proofs.lemmas.List.{set-get_or}
 use Rattle.lq_volume.specs.declared.change.Change.{Change}
@@ -8,16 +8,15 @@ use Rattle.lq_board.specs.declared.token_views.KnownSlot.{KnownSlot}
 use Rattle.lq_board.specs.Slot.{slot_at, unused, gone_out, go_out, come_back}
 use Rattle.lq_board.specs.Token.{KeeperToken, SeatToken}
 use Rattle.lq_board.specs.Meeting.{HasAdded, HasMet}
-use Rattle.lq_update.specs.declared.mark.Mark.{Mark}
 use Rattle.lq_port.specs.End.{End}
 use Rattle.lq_server_slots.specs.declared.delivery.Delivery.{Delivery}
 use Rattle.lq_server_slots.specs.declared.delivery.Opening.{Opening}
 use Rattle.lq_server_slots.specs.declared.identity.Identity.{Identity}
 use Rattle.lq_server_slots.specs.declared.subscription.Subscription.{Subscription}
-use Rattle.lq_server_slots.specs.Marking.{hung_mark, after_close}
+use Rattle.lq_server_slots.specs.Marking.{hung_mark}
 use Rattle.lq_server_slots.specs.Identity.{identity_of, port_id_inj}
 use Rattle.lq_server_slots.specs.Reading.{ReadingHold}
-use Rattle.lq_server_slots.specs.Standing.{Stands, IsConsistentAt, IsSeen, CannotPut, SameButHeld, seen_of, told_by}
+use Rattle.lq_server_slots.specs.Standing.{IsConsistentAt, IsSeen, CannotPut, SameButHeld, told_by}
 use Rattle.lq_server_slots.specs.Slots.{IsTakenSlot, SlotStands, IsSlotMet, asks_of, OnlyAt}
 use Rattle.lq_server_slots.specs.Opening.{IdentityFits, name_or}
 use Rattle.lq_server_slots.specs.Progress.{IsShown}
