@@ -1,6 +1,5 @@
 -- A subscription as its parcels move into its port.
-use Rattle.std.proofs.Common.{◌≡◌, ℕ, ◌<◌, ◌≤◌, ◌⊎◌, false, [], ◌∷◌, ◌++◌, ⊎_elim, length, drop, Option, Some, None, arith, append_assoc, append-nil}
-use Rattle.std.specs.Prelude.{IfSome}
+use Rattle.std.proofs.Common.{◌≡◌, ℕ, ◌<◌, ◌≤◌, ◌⊎◌, false, [], ◌∷◌, ◌++◌, ⊎_elim, length, drop, Some, None, arith, append_assoc, append-nil}
 use mathlib.Core.List.{IsPrefix}
 use Rattle.lq_volume.specs.Book.{Book, Extends}
 use Rattle.lq_update.specs.declared.message.Message.{Message}
@@ -24,10 +23,6 @@ use Rattle.lq_server_slots.proofs.UpdateLemmas.{updates-front}
 use Rattle.lq_server_slots.proofs.PortLemmas.{prefix_self, prefix_trans, messages_in-snoc, mark_in-append, last_book-snoc}
 
 -- ---- one parcel
-
--- a fact of the mark, where it is known
-pub some_mark : (o : Option Mark) (k : Mark) (P : Mark → Type 0) → o ≡ Some k → IfSome o P → P k
-some_mark o k P e h = rw e at h
 
 -- with nothing to put, nothing is left
 pub none_next : (h : Held) → next_parcel h ≡ None → IsOut h
@@ -156,10 +151,6 @@ pub same_put : (h : Held) (d e : End Delivery Opening) (places : ℕ) (told : To
 same_put h d e places told first_close book port put s =
     let later : Extends book (known_by e.floor (all_put e)) = rw (port.2, put) s.later in
     grind arith
-
--- a subscription is as itself
-pub held_self : (h : Held) → SameHeld h h
-held_self h = grind arith
 
 -- two puts one after the other
 pub alike_trans : (s t u : Subscription) → SameButPuts s t → SameButPuts t u → SameButPuts s u

@@ -1,10 +1,10 @@
 use Rattle.std.proofs.Common.{◌∙◌, arith, rules}
 use Rattle.lq_server_slots.proofs.PortLemmas.{none-of}
-use Rattle.lq_server_slots.proofs.PutLemmas.{alike_held, alike_trans, none_next}
+use Rattle.lq_server_slots.proofs.PutLemmas.{alike_trans, none_next}
 use Rattle.lq_server_slots.proofs.fill_port.fill.Goals as goal
 
 pub loop-slot-init : goal.loop-slot-init
-loop-slot-init g c = search (rules, arith, alike_held)
+loop-slot-init g c = search (rules, arith)
 
 pub loop-slot-smaller : goal.loop-slot-smaller
 loop-slot-smaller g c = c.if-put_one.ensures.moved
