@@ -1,11 +1,10 @@
 -- Parcels under their rule.
-use Rattle.std.proofs.Common.{◌≡◌, false, true≢false, List, [], ◌∷◌, ◌++◌, length, Option, Some, None, is_some, refl, sym, ap, ◌∙◌, subst, append_assoc, append-nil}
+use Rattle.std.proofs.Common.{◌≡◌, false, List, [], ◌∷◌, ◌++◌, length, Option, None, is_some, refl, arith, append_assoc, append-nil}
 use Rattle.std.specs.Prelude.{IfSome}
 use mathlib.Core.List.{IsPrefix}
-use Rattle.lq_volume.specs.Book.{Book, Extends}
+use Rattle.lq_volume.specs.Book.{Book}
 use Rattle.lq_board.specs.Book.{IsFullBook}
 use Rattle.lq_update.specs.declared.message.Message.{Message}
-use Rattle.lq_update.specs.declared.mark.Mark.{Mark}
 use Rattle.lq_update.specs.declared.parcel.Parcel.{Parcel}
 use Rattle.lq_update.specs.declared.parcel.Parcel.TheVariants.{Update, Fin}
 use Rattle.lq_server_slots.specs.declared.delivery.Delivery.{Delivery}
@@ -17,8 +16,7 @@ use Rattle.lq_server_slots.proofs.UpdateLemmas.{updates-front}
 
 -- an option that has no value
 pub none-of : {A : Type 0} (o : Option A) → is_some o ≡ false → o ≡ None
-none-of None absent = refl
-none-of (Some x) absent = absurd (true≢false absent)
+none-of o absent = grind arith
 
 -- a list is a prefix of itself
 pub prefix_self : {A : Type 0} (xs : List A) → IsPrefix xs xs
@@ -27,39 +25,23 @@ prefix_self xs = ([], append-nil xs)
 -- and a prefix of a prefix is one
 pub prefix_trans : {A : Type 0} (xs ys zs : List A) → IsPrefix xs ys → IsPrefix ys zs
     → IsPrefix xs zs
-prefix_trans xs ys zs p q =
-    (p.0 ++ q.0, sym (append_assoc xs p.0 q.0) ∙ (ap (λ w. w ++ q.0) p.1 ∙ q.1))
+prefix_trans xs ys zs p q = (p.0 ++ q.0, rw (← append_assoc xs p.0 q.0, p.1) q.1)
 
 -- the messages of two lists of parcels
 pub messages_in-append : (ps qs : List Delivery)
     → messages_in (ps ++ qs) ≡ messages_in ps ++ messages_in qs
 messages_in-append [] qs = refl
-messages_in-append (p ∷ ps) qs =
-    ap (λ l. message_of p.what ++ l) (messages_in-append ps qs)
-    ∙ sym (append_assoc (message_of p.what) (messages_in ps) (messages_in qs))
+messages_in-append (p ∷ ps) qs = rw (messages_in-append ps qs, append_assoc)
 
 -- and of one parcel more
 pub messages_in-snoc : (ps : List Delivery) (x : Delivery)
     → messages_in (ps ++ x ∷ []) ≡ messages_in ps ++ message_of x.what
-messages_in-snoc ps x =
-    messages_in-append ps (x ∷ []) ∙ ap (λ l. messages_in ps ++ l) (append-nil (message_of x.what))
-
--- where a parcel and the rest have no mark, neither has
-or_none : (w : Parcel) (o : Option Mark) → mark_or w o ≡ None → (mark_or w None ≡ None) × (o ≡ None)
-or_none (Update m) o e = (refl, e)
-or_none (Fin k) o e = absurd (cc)
-
--- a parcel without a mark leaves the mark of the rest
-or_same : (w : Parcel) (o o' : Option Mark) → mark_or w o ≡ None → mark_or w o' ≡ o'
-or_same (Update m) o o' e = refl
-or_same (Fin k) o o' e = absurd (cc)
+messages_in-snoc ps x = rw (messages_in-append ps (x ∷ []), append-nil)
 
 -- after parcels without a mark, the mark is that of the others
 pub mark_in-append : (ps qs : List Delivery) → mark_in ps ≡ None → mark_in (ps ++ qs) ≡ mark_in qs
 mark_in-append [] qs e = refl
-mark_in-append (p ∷ ps) qs e =
-    ap (mark_or p.what) (mark_in-append ps qs (or_none p.what (mark_in ps) e).1)
-    ∙ or_same p.what (mark_in ps) (mark_in qs) e
+mark_in-append (p ∷ ps) qs e = grind (arith, mark_in-append ps qs)
 
 -- the book known is that of the last parcel
 pub last_book-snoc : (b : Book) (ps : List Delivery) (x : Delivery)
@@ -86,31 +68,25 @@ legal_list-what : (f : Opening) (messages : List Message) (book : Book) (w : Par
     → IsPrefix (messages ++ message_of w) (all_updates f book)
     × IfSome (mark_or w None) (IsMark f (messages ++ message_of w) book)
 legal_list-what f messages book (Update m) t = (t, tt)
-legal_list-what f messages book (Fin k) t =
-    let same : messages ++ [] ≡ messages = append-nil messages in (
-      subst (λ l. IsPrefix l (all_updates f book)) (sym (same ∙ t.all))
-          (updates-front (query_of f) f.moved book f.opened k.change (length book.changes)
-          t.within),
-      subst (λ l. IsMark f l book k) (sym same) t,
-    )
+legal_list-what f messages book (Fin k) t = (
+  rw (append-nil, t.all)
+      (updates-front (query_of f) f.moved book f.opened k.change (length book.changes) t.within),
+  rw append-nil t,
+)
 
 -- and so is a legal list with one that may follow
 pub legal_list-step : (f : Opening) (ps : List Delivery) (x : Delivery) → LegalList f ps
     → MayFollow ps f x → LegalList f (ps ++ x ∷ [])
 legal_list-step f ps x legal_list comes =
     let book : known_by f (ps ++ x ∷ []) ≡ book_of x = last_book-snoc (floor_of f) ps x in
-    let messages : messages_in (ps ++ x ∷ []) ≡ messages_in ps ++ message_of x.what =
-    messages_in-snoc ps x in
     let mark : mark_in (ps ++ x ∷ []) ≡ mark_or x.what None =
     mark_in-append ps (x ∷ []) comes.open_yet in
     let w = legal_list-what f (messages_in ps) (book_of x) x.what comes.tells in
     record {
       opening = legal_list.opening;
-      later = subst (λ (b : Book). Extends b (floor_of f)) (sym book)
+      later = rw book
           (extends_trans (floor_of f) (known_by f ps) (book_of x) legal_list.later comes.later);
-      full = subst IsFullBook (sym book) comes.full;
-      front = subst (λ (t : List Message × Book). IsPrefix t.0 (all_updates f t.1))
-          (λ i. (sym messages i, sym book i)) w.0;
-      mark = subst (λ (t : Option Mark × List Message × Book). IfSome t.0 (IsMark f t.1 t.2))
-          (λ i. (sym mark i, sym messages i, sym book i)) w.1;
+      full = rw book comes.full;
+      front = rw (messages_in-snoc ps x, book) w.0;
+      mark = rw (mark, messages_in-snoc ps x, book) w.1;
     }

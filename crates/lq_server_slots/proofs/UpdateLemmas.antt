@@ -17,16 +17,13 @@ append : (q : Query) (mv : Bool) (s : State) (cs ds : List Change) (seq : ℕ)
     → updates_from q mv s (cs ++ ds) seq
     ≡ updates_from q mv s cs seq ++ updates_from q mv (after_all s cs) ds
     (seq + length (updates_from q mv s cs seq))
-append q mv s [] ds seq = ap (updates_from q mv s ds) (sym (add-zero seq))
+append q mv s [] ds seq = rw add-zero
 append q mv s (c ∷ cs) ds seq =
     let here : List Message = step_of q mv s c seq in
     let rest : List Message = updates_from q mv (after s c) cs (seq + length here) in
-    let count : seq + length here + length rest ≡ seq + length (here ++ rest) =
+    let count : seq + length (here ++ rest) ≡ seq + length here + length rest =
     omega (arith, length-append here rest) in
-    ap (λ l. here ++ l) (append q mv (after s c) cs ds (seq + length here))
-    ∙ sym (append_assoc here rest
-    (updates_from q mv (after_all (after s c) cs) ds (seq + length here + length rest)))
-    ∙ ap (λ n. (here ++ rest) ++ updates_from q mv (after_all (after s c) cs) ds n) count
+    rw (count, append q mv (after s c) cs ds (seq + length here), append_assoc)
 
 -- both names of an update list say the same
 pub updates_are : (q : Query) (mv : Bool) (b : Book) (m n : ℕ)
@@ -45,27 +42,22 @@ updates-add q mv b c m first within =
     let k : ℕ = m - b.start.number in
     let cs : List Change = b.changes in
     let d : List Change = drop k cs in
-    let at : k ≡ m = omega arith in
     let s : State = after_all b.start (take k cs) in
-    let state : after_all b.start (take k (cs ++ c ∷ [])) ≡ s =
-    ap (after_all b.start) (take-append-le k cs (c ∷ []) (omega arith)) in
-    let front : drop k (cs ++ c ∷ []) ≡ d ++ c ∷ [] = drop-append-le k cs (c ∷ []) (omega arith) in
     let long : length d ≡ length cs - k = length-drop k cs in
-    let all : take (length cs + 1 - m) (drop k (cs ++ c ∷ [])) ≡ d ++ c ∷ [] =
-    ap (take (length cs + 1 - m)) front
-    ∙ take_all (length cs + 1 - m) (d ++ c ∷ []) (omega (arith, length-append d (c ∷ []))) in
-    let now : take (length cs - m) d ≡ d = take_all (length cs - m) d (omega arith) in
-    let old : List Message = updates_from q mv s d 1 in
-    let whole : after_all s d ≡ after_all b.start cs =
-    sym (after_all-append b.start (take k cs) d)
-    ∙ ap (after_all b.start) (take-append-drop k cs) in
-    let seq : 1 + length old ≡ length old + 1 = omega arith in
-    (λ i. updates_from q mv (state i) (all i) 1)
-    ∙ append q mv s d (c ∷ []) 1
-    ∙ ap (λ l. old ++ l) (append-nil (step_of q mv (after_all s d) c (1 + length old)))
-    ∙ (λ i. old ++ step_of q mv (whole i) c (seq i))
-    ∙ ap (λ (l : List Change). updates_from q mv s l 1 ++ step_of q mv (after_all b.start cs) c
-    (length (updates_from q mv s l 1) + 1)) (sym now)
+    let whole : after_all b.start cs ≡ after_all s d =
+    rw (← after_all-append b.start (take k cs) d, take-append-drop) in
+    let seq : length (updates_from q mv s d 1) + 1 ≡ 1 + length (updates_from q mv s d 1) =
+    omega arith in
+    rw (
+      take-append-le k cs (c ∷ []) (omega arith),
+      drop-append-le k cs (c ∷ []) (omega arith),
+      take_all (length cs + 1 - m) (d ++ c ∷ []) (omega (arith, length-append d (c ∷ []))),
+      take_all (length cs - m) d (omega arith),
+      append q mv s d (c ∷ []) 1,
+      append-nil,
+      whole,
+      seq,
+    )
 
 -- the updates up to a change of the book, in it and with more changes
 same_in : (q : Query) (mv : Bool) (b : Book) (more : List Change) (m e : ℕ) → b.start.number ≡ 0
@@ -75,19 +67,16 @@ unfolding updates
 same_in q mv b more m e first le within =
     let k : ℕ = m - b.start.number in
     let cs : List Change = b.changes in
-    let at : k ≡ m = omega arith in
-    let state : after_all b.start (take k (cs ++ more)) ≡ after_all b.start (take k cs) =
-    ap (after_all b.start) (take-append-le k cs more (omega arith)) in
-    let list : take (e - m) (drop k (cs ++ more)) ≡ take (e - m) (drop k cs) =
-    ap (take (e - m)) (drop-append-le k cs more (omega arith))
-    ∙ take-append-le (e - m) (drop k cs) more (omega (arith, length-drop k cs)) in
-    λ i. updates_from q mv (state i) (list i) 1
+    rw (
+      take-append-le k cs more (omega arith),
+      drop-append-le k cs more (omega arith),
+      take-append-le (e - m) (drop k cs) more (omega (arith, length-drop k cs)),
+    )
 
 -- a longer book has the same updates up to the same change
 pub updates-same : (q : Query) (mv : Bool) (b c : Book) (m e : ℕ) → b.start.number ≡ 0 → Extends c b
     → m ≤ e → e ≤ length b.changes → updates q mv c m e ≡ updates q mv b m e
-updates-same q mv b c m e first p le within =
-    ap (λ (x : Book). updates q mv x m e) p.1 ∙ same_in q mv b p.0 m e first le within
+updates-same q mv b c m e first p le within = rw p.1 (same_in q mv b p.0 m e first le within)
 
 -- the updates up to a change are a front of those up to a later one
 pub updates-front : (q : Query) (mv : Bool) (b : Book) (m e n : ℕ) → e ≤ n
@@ -99,8 +88,8 @@ updates-front q mv b m e n le =
     let front : List Change = take (e - m) all in
     let rest : List Change = drop (e - m) (take (n - m) all) in
     let split : front ++ rest ≡ take (n - m) all =
-    ap (λ l. l ++ rest) (sym (take-take (e - m) (n - m) all (omega arith)))
-    ∙ take-append-drop (e - m) (take (n - m) all) in
+    rw (← take-take (e - m) (n - m) all (omega arith))
+    (take-append-drop (e - m) (take (n - m) all)) in
     let s : State = state_at b m in (
       updates_from q mv (after_all s front) rest (1 + length (updates_from q mv s front 1)),
       sym (append q mv s front rest 1) ∙ ap (λ l. updates_from q mv s l 1) split,
@@ -110,6 +99,4 @@ updates-front q mv b m e n le =
 pub updates-none : (q : Query) (mv : Bool) (b : Book) (m : ℕ) → updates q mv b m m ≡ []
 unfolding updates
 updates-none q mv b m =
-    let none : m - m ≡ 0 = omega arith in
-    ap (λ (n : ℕ). updates_from q mv (state_at b m) (take n (drop (m - b.start.number) b.changes))
-    1) none
+    let none : m - m ≡ 0 = omega arith in rw none

@@ -1,12 +1,4 @@
-use Rattle.std.proofs.Common.{Ok, Err, sym, ap, subst, ◌∙◌}
-use Rattle.lq_volume.specs.State.{State}
-use Rattle.lq_volume.specs.Change.{IsLawful}
-use Rattle.lq_volume.specs.Book.{Book, state_of}
-use Rattle.lq_board.specs.Book.{IsFullBook}
-use Rattle.lq_board.specs.Token.{KeeperToken}
-use Rattle.lq_server_slots.specs.declared.identity.Identity.{Identity}
-use Rattle.lq_server_slots.specs.Changing.{IsChangeMade}
-use Rattle.lq_server_slots.specs.Slots.{AreConsistent, AllReady}
+use Rattle.std.proofs.Common.{arith, rules}
 use Rattle.lq_server_slots.proofs.SlotLemmas.{before_is, grown_is}
 use Rattle.lq_server_slots.proofs.change.change_in.Goals as goal
 
@@ -14,58 +6,28 @@ pub commit_all-requires-clause-grown : goal.commit_all-requires-clause-grown
 commit_all-requires-clause-grown g c =
     let a = c.in-Ok.ensures in
     grown_is c.args.slots.now.keeper.book c.add.new.slots.keeper.book c.args.change.now a.made.ok
-    (subst (λ (s : State). IsLawful s c.args.change.now) c.requires.stands.state a.lawful) a.full
+    (rw c.requires.stands.state at a.lawful) a.full
 
 pub commit_all-requires-clause-ready : goal.commit_all-requires-clause-ready
-commit_all-requires-clause-ready g c =
-    let a = c.in-Ok.ensures in
-    subst (λ (b : Book). AllReady c.add.new.slots.subscriptions.items (state_of b)
-    c.args.change.now) (sym (before_is c.args.slots.now.keeper.book c.add.new.slots.keeper.book
-    c.args.change.now a.made.ok)) a.ready
+commit_all-requires-clause-ready g c = search (rules, arith, before_is)
 
 pub commit_all-requires-clause-holding : goal.commit_all-requires-clause-holding
-commit_all-requires-clause-holding g c =
-    let a = c.in-Ok.ensures in
-    subst (λ (b : Book). AreConsistent c.add.new.slots b) (sym (before_is
-    c.args.slots.now.keeper.book c.add.new.slots.keeper.book c.args.change.now a.made.ok)) a.holding
+commit_all-requires-clause-holding g c = search (rules, arith, before_is)
 
 pub serve_all-requires-clause-number : goal.serve_all-requires-clause-number
-serve_all-requires-clause-number g c =
-    let a = c.in-Err.ensures in
-    c.changes.ensures.number ∙ ap (λ (s : State). s.number) a.volume ∙ a.full.number
+serve_all-requires-clause-number g c = search (rules, arith)
 
 pub serve_all-requires-clause-holding : goal.serve_all-requires-clause-holding
-serve_all-requires-clause-holding g c =
-    let a = c.in-Err.ensures in
-    subst (λ (b : Book). AreConsistent c.add.new.slots b) (sym a.made.err) a.holding
+serve_all-requires-clause-holding g c = search (rules, arith)
 
 pub returns-in-Ok-clause-made : goal.returns-in-Ok-clause-made
-returns-in-Ok-clause-made g c =
-    subst (λ (k : KeeperToken Identity). IsChangeMade c.args.change.now (Ok c.in-Ok.applied)
-    c.args.volume.now c.add.new.volume c.args.slots.now.keeper.book k.book c.args.seat.now
-    c.add.new.seat) (sym c.commit_all.ensures.keeper) c.in-Ok.ensures.made
+returns-in-Ok-clause-made g c = search (rules, arith)
 
 pub returns-in-Ok-clause-stands : goal.returns-in-Ok-clause-stands
-returns-in-Ok-clause-stands g c =
-    let a = c.in-Ok.ensures in
-    let same = ap (λ (k : KeeperToken Identity). k.book) (sym c.commit_all.ensures.keeper) in
-    record {
-      state = a.volume ∙ ap state_of same;
-      full = subst IsFullBook same a.full;
-      holding = c.commit_all.ensures.holding;
-    }
+returns-in-Ok-clause-stands g c = search (rules, arith)
 
 pub returns-in-Err-clause-made : goal.returns-in-Err-clause-made
-returns-in-Err-clause-made g c =
-    subst (λ (b : Book). IsChangeMade c.args.change.now (Err c.in-Err.refusal)
-    c.args.volume.now c.add.new.volume c.args.slots.now.keeper.book b c.args.seat.now
-    c.add.new.seat) (sym c.serve_all.ensures.book) c.in-Err.ensures.made
+returns-in-Err-clause-made g c = search (rules, arith)
 
 pub returns-in-Err-clause-stands : goal.returns-in-Err-clause-stands
-returns-in-Err-clause-stands g c =
-    let a = c.in-Err.ensures in
-    let same = sym c.serve_all.ensures.book in record {
-      state = a.volume ∙ ap state_of same;
-      full = subst IsFullBook same a.full;
-      holding = c.serve_all.ensures.holding;
-    }
+returns-in-Err-clause-stands g c = search (rules, arith)

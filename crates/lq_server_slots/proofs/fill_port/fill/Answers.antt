@@ -1,28 +1,19 @@
-use Rattle.std.proofs.Common.{inl, refl, sym, ◌∙◌}
-use Rattle.lq_desk_sub.specs.Held.{next_parcel}
+use Rattle.std.proofs.Common.{◌∙◌, arith, rules}
 use Rattle.lq_server_slots.proofs.PortLemmas.{none-of}
-use Rattle.lq_server_slots.proofs.PutLemmas.{alike_held, alike_trans, none_next}
+use Rattle.lq_server_slots.proofs.PutLemmas.{alike_trans, none_next}
 use Rattle.lq_server_slots.proofs.fill_port.fill.Goals as goal
 
 pub loop-slot-init : goal.loop-slot-init
-loop-slot-init g c =
-    let s = c.args.slot.now in (c.requires, alike_held s s.sub s.input refl refl, refl)
+loop-slot-init g c = search (rules, arith)
 
 pub loop-slot-smaller : goal.loop-slot-smaller
 loop-slot-smaller g c = c.if-put_one.ensures.moved
 
 pub loop-slot-preserved : goal.loop-slot-preserved
-loop-slot-preserved g c = (
-  c.put_one.ensures.stands,
-  alike_trans c.args.slot.now c.loop-slot.slot c.put_one.new.slot c.loop-slot.invariant.1
-      c.put_one.ensures.alike,
-  c.put_one.ensures.taken ∙ c.loop-slot.invariant.2,
-)
+loop-slot-preserved g c = search (rules, arith, alike_trans)
 
 pub returns-else-put_one-clause-alike : goal.returns-else-put_one-clause-alike
-returns-else-put_one-clause-alike g c =
-    alike_trans c.args.slot.now c.loop-slot.slot c.put_one.new.slot c.loop-slot.invariant.1
-    c.put_one.ensures.alike
+returns-else-put_one-clause-alike g c = search (rules, arith, alike_trans)
 
 pub returns-else-put_one-clause-taken : goal.returns-else-put_one-clause-taken
 returns-else-put_one-clause-taken g c = c.put_one.ensures.taken ∙ c.loop-slot.invariant.2
@@ -37,7 +28,4 @@ pub returns-after-loop-slot-clause-taken : goal.returns-after-loop-slot-clause-t
 returns-after-loop-slot-clause-taken g c = c.loop-slot.invariant.2
 
 pub returns-after-loop-slot-clause-stuck : goal.returns-after-loop-slot-clause-stuck
-returns-after-loop-slot-clause-stuck g c =
-    let held = c.loop-slot.slot.sub.held in
-    inl (none_next held
-    (none-of (next_parcel held) (sym c.has_next.ensures ∙ c.loop-slot-test.false)))
+returns-after-loop-slot-clause-stuck g c = search (rules, arith, none-of, none_next)

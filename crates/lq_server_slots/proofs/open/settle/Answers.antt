@@ -1,9 +1,8 @@
-use Rattle.std.proofs.Common.{◌≡◌, ◌+◌, ◌++◌, List, [], ◌∷◌, ℕ, refl, sym, ap, ◌∙◌, subst, slice_set, Some}
-use Rattle.lq_volume.specs.Book.{Book}
+use Rattle.std.proofs.Common.{◌+◌, refl, sym, ap, ◌∙◌, subst, slice_set, Some}
 use Rattle.lq_board.specs.Token.{KeeperToken}
 use Rattle.lq_server_slots.specs.declared.identity.Identity.{Identity}
 use Rattle.lq_server_slots.specs.declared.subscription.Subscription.{Subscription}
-use Rattle.lq_server_slots.specs.Slots.{AllStand, IsListed}
+use Rattle.lq_server_slots.specs.Slots.{AllStand}
 use Rattle.lq_server_slots.proofs.TakenLemmas.{listed-add}
 use Rattle.lq_server_slots.proofs.OpenLemmas.{settled, begun_seen}
 use Rattle.lq_server_slots.proofs.open.settle.Goals as goal
@@ -17,25 +16,22 @@ returns-clause-holding c =
     let s : Subscription = record {
       sub = c.args.slot.sub;
       input = c.args.slot.input;
-      places =
-          c.args.slot.places;
+      places = c.args.slot.places;
       asks = c.asks-asks.result;
       told = c.args.slot.told;
       first_close = c.args.slot.first_close;
     } in
-    let book : c.sit-seat.new.keeper.book ≡ was.keeper.book = c.sit-seat.ensures.book
-    ∙ ap (λ (k : KeeperToken Identity). k.book) c.asks-asks.ensures.keeper in (
-      subst (λ (x : Book). AllStand c.sit-seat.new.keeper (slice_set was.subscriptions.items place
-          (Some s)) (was.openings + 1) x) (sym book)
+    let keeper = c.asks-asks.ensures.keeper in
+    let book = sym (c.sit-seat.ensures.book ∙ ap (λ (k : KeeperToken Identity). k.book) keeper) in (
+      subst (AllStand c.sit-seat.new.keeper (slice_set was.subscriptions.items place (Some s))
+          (was.openings + 1)) book
           (settled was.keeper c.asks-asks.new.keeper c.sit-seat.new.keeper was.subscriptions.items
           place was.openings c.asks-asks.result s was.keeper.book h c.requires.place.0
           c.requires.place.1 c.requires.free
-          (ap (λ (k : KeeperToken Identity). k.slots) c.asks-asks.ensures.keeper)
-          c.asks-asks.ensures.idle c.sit-seat.ensures.slots refl b.stands
+          (ap (λ (k : KeeperToken Identity). k.slots) keeper) c.asks-asks.ensures.idle
+          c.sit-seat.ensures.slots refl b.stands
           (begun_seen c.args.slot c.args.reading was.keeper.book _ _ _ _ b) b.messages b.live),
-      subst (λ (t : List ℕ). IsListed t (slice_set was.subscriptions.items place (Some s)))
-          (sym (c.push_reserved.ensures.items
-          ∙ ap (λ (t : List ℕ). t ++ place ∷ []) c.in_ok-reserve.ensures.items))
+      rw (c.push_reserved.ensures.items, c.in_ok-reserve.ensures.items)
           (listed-add was.taken.items was.subscriptions.items place s c.requires.holding.1 h.wide
           c.requires.place.0 c.requires.place.1 c.requires.free),
     )

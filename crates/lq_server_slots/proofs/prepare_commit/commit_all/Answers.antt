@@ -1,27 +1,14 @@
 use borrow.Author.Rules.{rules}
-use Rattle.std.proofs.Common.{◌≡◌, ◌≤◌, ℕ, Option, None, refl, sym, subst, arith}
-use Rattle.std.specs.Prelude.{is_some}
+use Rattle.std.proofs.Common.{◌<◌, length, None, arith}
 use Rattle.std.proofs.lemmas.List.{get_or_read}
-use Rattle.lq_board.specs.Slot.{slot_at}
-use Rattle.lq_server_slots.specs.declared.subscription.Subscription.{Subscription}
-use Rattle.lq_server_slots.specs.Slots.{asks_of, slot_in, taken_slot, SlotIs, IsNoticed, IsServed}
+use Rattle.lq_server_slots.specs.Slots.{SlotIs, IsNoticed, IsServed}
 use Rattle.lq_server_slots.proofs.SlotLemmas.{only_self}
 use Rattle.lq_server_slots.proofs.TakenLemmas.{listed_place}
 use Rattle.lq_server_slots.proofs.CommitLemmas.{partly_committed-first, partly_committed-step, slots_are-more, slots_are-left, slots_are-all}
 use Rattle.lq_server_slots.proofs.prepare_commit.commit_all.Goals as goal
 
 pub loop-index-init : goal.loop-index-init
-loop-index-init g c =
-    let was = c.args.slots.now in (
-      refl,
-      refl,
-      search rules,
-      partly_committed-first was.keeper was.subscriptions.items was.taken.items was.openings
-          c.args.change.now c.requires.holding.0 c.requires.holding.1 c.requires.ready,
-      λ j lt. absurd (omega arith),
-      λ j le lt. let l = c.requires.holding.1 in
-          c.requires.noticed (taken_slot was.taken.items j) (l.low j lt) (l.high j lt),
-    )
+loop-index-init g c = search (rules, arith, partly_committed-first)
 
 pub loop-index-preserved : goal.loop-index-preserved
 loop-index-preserved g c =
@@ -30,51 +17,28 @@ loop-index-preserved g c =
     let slots = c.loop-index.slots in
     let items = slots.subscriptions.items in
     let place = c.index-place.result.now in
-    let at = slot_at slots.keeper.slots place in
     let wide = i.3.wide in
-    let p = listed_place slots.taken.items items c.loop-index.index place i.3.listed
-    (omega (arith, i.2, c.loop-index-test.true)) c.index-place.ensures in
+    let lt : c.loop-index.index < length slots.taken.items =
+    omega (arith, i.2, c.loop-index-test.true) in
+    let p = listed_place slots.taken.items items c.loop-index.index place i.3.listed lt
+    c.index-place.ensures in
     let high = p.1 in
     let read = get_or_read items place _ (omega arith) c.index_mut.ensures.value None in (
       i.0,
       i.1,
       i.2,
       partly_committed-step slots.keeper items slots.taken.items slots.openings c.args.change.now
-          c.loop-index.index place c.commit_at.new.slot i.3
-          (omega (arith, i.2, c.loop-index-test.true)) p.2 t.fits
-          (subst (λ (z : Option Subscription). asks_of c.commit_at.new.slot at ≤ asks_of z at) read
-          t.asks)
-          (subst (λ (z : Option Subscription). is_some c.commit_at.new.slot ≡ is_some z) read
-          t.kept),
-      slots_are-more IsServed slots.taken.items items slots.keeper.slots slots.keeper.slots
-          c.loop-index.index place c.commit_at.new.slot i.3.listed wide
-          (omega (arith, i.2, c.loop-index-test.true)) p.2
+          c.loop-index.index place c.commit_at.new.slot i.3 lt p.2 t.fits (rw read at t.asks)
+          (rw read at t.kept),
+      slots_are-more (SlotIs IsServed) slots.taken.items items i.3.listed c.loop-index.index place
+          c.commit_at.new.slot lt p.2 slots.keeper.slots slots.keeper.slots wide
           (only_self slots.keeper.slots place) t.served i.4,
-      slots_are-left IsNoticed slots.taken.items items slots.keeper.slots c.loop-index.index place
-          c.commit_at.new.slot i.3.listed (omega (arith, i.2, c.loop-index-test.true))
-          p.2 i.5,
+      slots_are-left (SlotIs IsNoticed) slots.taken.items items i.3.listed c.loop-index.index place
+          c.commit_at.new.slot lt p.2 slots.keeper.slots i.5,
     )
 
 pub commit_at-requires-clause-noticed : goal.commit_at-requires-clause-noticed
-commit_at-requires-clause-noticed g c =
-    let i = c.loop-index.invariant in
-    let slots = c.loop-index.slots in
-    let items = slots.subscriptions.items in
-    let place = c.index-place.result.now in
-    let wide = i.3.wide in
-    let p = listed_place slots.taken.items items c.loop-index.index place i.3.listed
-    (omega (arith, i.2, c.loop-index-test.true)) c.index-place.ensures in
-    let high = p.1 in
-    let read = get_or_read items place _ (omega arith) c.index_mut.ensures.value None in
-    subst (λ (z : Option Subscription). SlotIs IsNoticed z (slot_at slots.keeper.slots place))
-    (sym read)
-    (subst (λ (p : ℕ). SlotIs IsNoticed (slot_in items p) (slot_at slots.keeper.slots p))
-    (sym p.2)
-    (i.5 c.loop-index.index (omega arith) (omega (arith, i.2, c.loop-index-test.true))))
+commit_at-requires-clause-noticed g c = search (rules, arith, get_or_read, listed_place)
 
 pub returns-clause-served : goal.returns-clause-served
-returns-clause-served g c =
-    let i = c.loop-index.invariant in
-    let slots = c.loop-index.slots in
-    slots_are-all IsServed slots.taken.items slots.subscriptions.items slots.keeper.slots
-    c.loop-index.index i.3.listed (omega (arith, i.2, c.loop-index-test.false)) i.4
+returns-clause-served g c = search (rules, arith, slots_are-all)

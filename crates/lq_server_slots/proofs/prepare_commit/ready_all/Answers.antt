@@ -1,6 +1,7 @@
-use Rattle.std.proofs.Common.{◌∙◌, refl, arith}
-use Rattle.lq_server_slots.specs.Slots.{IsNoticed}
-use Rattle.lq_server_slots.proofs.TakenLemmas.{slots_stand-step, ready_more, asks_rise, listed_place}
+use Rattle.std.proofs.Common.{◌∙◌, ◌<◌, length, refl, arith, rules}
+use Rattle.lq_server_slots.specs.Slots.{IsReadyAt, SlotIs, IsNoticed}
+use Rattle.lq_server_slots.proofs.SlotLemmas.{only_self}
+use Rattle.lq_server_slots.proofs.TakenLemmas.{slots_stand-step, asks_rise, listed_place}
 use Rattle.lq_server_slots.proofs.CommitLemmas.{slots_are-more, slots_are-all}
 use Rattle.lq_server_slots.proofs.prepare_commit.ready_all.Goals as goal
 
@@ -23,8 +24,10 @@ loop-index-preserved c =
     let was = c.loop-index.slots in
     let items = was.subscriptions.items in
     let place = c.index-place.result.now in
-    let p = listed_place was.taken.items items c.loop-index.index place i.4.1
-    (omega (arith, i.3, c.loop-index-test.true)) c.index-place.ensures in
+    let lt : c.loop-index.index < length was.taken.items =
+    omega (arith, i.3, c.loop-index-test.true) in
+    let p = listed_place was.taken.items items c.loop-index.index place i.4.1 lt
+    c.index-place.ensures in
     let f = c.ready_at.ensures in (
       f.board ∙ i.0,
       f.book ∙ i.1,
@@ -34,27 +37,20 @@ loop-index-preserved c =
           was.openings c.index_mut.result.now c.ready_at.new.slot was.keeper.book
           c.ready_at.new.keeper.book i.4 p.0 p.1 refl f.book c.index_mut.ensures.value f.only
           f.fits f.asks f.kept,
-      ready_more was.taken.items items c.loop-index.index place c.ready_at.new.slot
-          c.args.planned.now.before c.args.planned.now.change i.4.1 i.4.0.wide
-          (omega (arith, i.3, c.loop-index-test.true)) p.2 c.in_ok-ready_at.ensures.ready i.5,
-      slots_are-more IsNoticed was.taken.items items was.keeper.slots c.ready_at.new.keeper.slots
-          c.loop-index.index place c.ready_at.new.slot i.4.1 i.4.0.wide
-          (omega (arith, i.3, c.loop-index-test.true)) p.2 f.only f.noticed i.6,
+      slots_are-more (λ z _. IsReadyAt z c.args.planned.now.before c.args.planned.now.change)
+          was.taken.items items i.4.1 c.loop-index.index place c.ready_at.new.slot lt p.2
+          was.keeper.slots was.keeper.slots i.4.0.wide (only_self was.keeper.slots place)
+          c.in_ok-ready_at.ensures.ready i.5,
+      slots_are-more (SlotIs IsNoticed) was.taken.items items i.4.1 c.loop-index.index place
+          c.ready_at.new.slot lt p.2 was.keeper.slots c.ready_at.new.keeper.slots i.4.0.wide f.only
+          f.noticed i.6,
       asks_rise c.args.slots.now.keeper.slots was.keeper.slots c.ready_at.new.keeper.slots
           place f.only f.rises i.7,
       f.counted ∙ i.8,
     )
 
 pub returns-clause-noticed : goal.returns-clause-noticed
-returns-clause-noticed c =
-    let i = c.loop-index.invariant in
-    let was = c.loop-index.slots in
-    slots_are-all IsNoticed was.taken.items was.subscriptions.items was.keeper.slots
-    c.loop-index.index i.4.1 (omega (arith, i.3, c.loop-index-test.false)) i.6
+returns-clause-noticed c = search (rules, arith, slots_are-all)
 
 pub returns-in_err-ready_at-clause-rises : goal.returns-in_err-ready_at-clause-rises
-returns-in_err-ready_at-clause-rises c =
-    let was = c.loop-index.slots in
-    let f = c.ready_at.ensures in
-    asks_rise c.args.slots.now.keeper.slots was.keeper.slots c.ready_at.new.keeper.slots
-    c.index-place.result.now f.only f.rises c.loop-index.invariant.7
+returns-in_err-ready_at-clause-rises c = search (rules, arith, asks_rise)

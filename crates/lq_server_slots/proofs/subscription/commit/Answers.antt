@@ -1,6 +1,4 @@
-use Rattle.std.proofs.Common.{refl, sym, ap, ◌∙◌, Bool, ◌∷◌, []}
-use Rattle.std.specs.Prelude.{if◌then◌else◌}
-use Rattle.lq_desk_sub.specs.Held.{Prepared, after_messages}
+use Rattle.std.proofs.Common.{refl, sym, ◌∷◌, []}
 use Rattle.lq_volume.specs.Book.{grown}
 use Rattle.lq_server_slots.proofs.EndLemmas.{some_there, none_there, longer_marked, committed_stands}
 use Rattle.lq_server_slots.proofs.subscription.commit.Goals as goal
@@ -21,14 +19,7 @@ returns-clause-stands c = λ book stands ready lawful full.
     c.steps_are_few.ensures c.requires.filled stands ready lawful full
 
 pub returns-then-not-is_live-clause-held : goal.returns-then-not-is_live-clause-held
-returns-then-not-is_live-clause-held c =
-    let p = c.args.slot.now.sub in
-    ap (λ (b : Bool). if b then after_messages p.held p.ready p.before else p.held)
-    c.if-not-is_live.ensures
+returns-then-not-is_live-clause-held c = rw (← c.if-not-is_live.ensures)
 
 pub returns-clause-held : goal.returns-clause-held
-returns-clause-held c =
-    let p = c.args.slot.now.sub in
-    ap (λ (q : Prepared). q.held) c.commit.ensures
-    ∙ ap (λ (b : Bool). if b then after_messages p.held p.ready p.before else p.held)
-    c.if-not-is_live.ensures
+returns-clause-held c = rw (c.commit.ensures, ← c.if-not-is_live.ensures)
