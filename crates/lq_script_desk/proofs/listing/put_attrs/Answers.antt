@@ -3,7 +3,7 @@ use Rattle.std.proofs.lemmas.Grind.{common_steps}
 use Rattle.serde_json.specs.View.{items_of}
 use Rattle.serde_json.specs.Written.{items_text}
 use Rattle.lq_script_desk.specs.Reply.{attr_data}
-use Rattle.lq_script_desk.proofs.FrontLemmas.{extends_on}
+use Rattle.lq_script_desk.proofs.FrontLemmas.{◌after◌}
 use Rattle.lq_script_desk.proofs.listing.put_attrs.Goals as goal
 
 pub loop-attr-init : goal.loop-attr-init
@@ -18,13 +18,11 @@ loop-attr-init c =
 pub loop-attr-preserved : goal.loop-attr-preserved
 loop-attr-preserved c = record {
   whole = grind (arith, common_steps);
-  front = extends_on _ _ _ c.put_attr.ensures.front c.loop-attr.invariant.front;
+  front = c.put_attr.ensures.front after c.loop-attr.invariant.front;
 }
 
 pub returns-clause-front : goal.returns-clause-front
-returns-clause-front c =
-    extends_on _ _ _ c.put_bytes-2.ensures.front c.loop-attr.invariant.front
+returns-clause-front c = c.put_bytes-2.ensures.front after c.loop-attr.invariant.front
 
 pub returns-in_err-put_attr-clause-front : goal.returns-in_err-put_attr-clause-front
-returns-in_err-put_attr-clause-front c =
-    extends_on _ _ _ c.put_attr.ensures.front c.loop-attr.invariant.front
+returns-in_err-put_attr-clause-front c = c.put_attr.ensures.front after c.loop-attr.invariant.front

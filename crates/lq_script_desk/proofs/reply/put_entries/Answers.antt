@@ -3,7 +3,7 @@ use Rattle.std.proofs.lemmas.Grind.{common_steps}
 use Rattle.serde_json.specs.View.{items_of}
 use Rattle.serde_json.specs.Written.{items_text}
 use Rattle.lq_script_desk.specs.Reply.{entry_data}
-use Rattle.lq_script_desk.proofs.FrontLemmas.{extends_on}
+use Rattle.lq_script_desk.proofs.FrontLemmas.{◌after◌}
 use Rattle.lq_script_desk.proofs.reply.put_entries.Goals as goal
 
 pub loop-entry-init : goal.loop-entry-init
@@ -18,13 +18,12 @@ loop-entry-init c =
 pub loop-entry-preserved : goal.loop-entry-preserved
 loop-entry-preserved c = record {
   whole = grind (arith, common_steps);
-  front = extends_on _ _ _ c.put_entry.ensures.front c.loop-entry.invariant.front;
+  front = c.put_entry.ensures.front after c.loop-entry.invariant.front;
 }
 
 pub returns-clause-front : goal.returns-clause-front
-returns-clause-front c =
-    extends_on _ _ _ c.put_bytes-2.ensures.front c.loop-entry.invariant.front
+returns-clause-front c = c.put_bytes-2.ensures.front after c.loop-entry.invariant.front
 
 pub returns-in_err-put_entry-clause-front : goal.returns-in_err-put_entry-clause-front
 returns-in_err-put_entry-clause-front c =
-    extends_on _ _ _ c.put_entry.ensures.front c.loop-entry.invariant.front
+    c.put_entry.ensures.front after c.loop-entry.invariant.front
