@@ -10,7 +10,7 @@ use Rattle.lq_update.specs.declared.parcel.Parcel.TheVariants.{Update}
 use Rattle.lq_update.specs.Fold.{Folding, opened_at}
 use Rattle.lq_desk_world.specs.World.{World, Subscribed, subscribed_at, taken_before_free}
 use Rattle.lq_desk_world.specs.declared.event.Event.{Event}
-use Rattle.lq_desk_world.specs.Events.{Answer, Took, answer, next}
+use Rattle.lq_desk_world.specs.Events.{Answer, Took}
 use Rattle.lq_desk_world.specs.Turns.{after_events}
 use Rattle.lq_script_desk.specs.Answered.{slot_named}
 use Rattle.lq_script_desk.specs.Folds.{Folds, fold_at, folds_after, with_fold}

@@ -1,13 +1,7 @@
 use Rattle.std.proofs.Common.{append_assoc, arith}
 use Rattle.std.proofs.lemmas.Result.{on_ok_weaker}
 use Rattle.json.specs.Print.{escape_byte}
-use Rattle.std.specs.Prelude.{map, false}
-use Rattle.serde_json.specs.Data.{boolean}
-use Rattle.serde_json.specs.View.{items_of}
-use Rattle.serde_json.specs.Written.{items_text, compact_text}
-use Rattle.lq_script_desk.specs.Reply.{entry_data}
 use Rattle.lq_script_desk.proofs.FrontLemmas.{◌after◌}
-use Rattle.lq_script_desk.proofs.PieceLemmas.{and_then}
 use Rattle.lq_script_desk.proofs.reply.put_rebuilt.Goals as goal
 
 pub returns-clause-ok : goal.returns-clause-ok
