@@ -62,13 +62,7 @@ filled-map f (Some x ∷ xs) = ap (λ bs. true ∷ bs) (filled-map f xs)
 -- a slot that is taken isn't slot 0, and has its index
 slot-taken : (w : World) (k : ℕ) (s : Subscribed) → subscribed_at w k ≡ Some s
     → ((k == 0) ≡ false) × (option_flatten (slice_get w.slots (k - 1)) ≡ Some s)
-slot-taken w k s is = by (k == 0) is
-  where
-    by : (x : Bool)
-        → (if x then None else option_flatten (slice_get w.slots (k - 1))) ≡ Some s
-        → (x ≡ false) × (option_flatten (slice_get w.slots (k - 1)) ≡ Some s)
-    by true is = absurd (let no : ⊥ = cc in no)
-    by false is = (refl, is)
+slot-taken w k s is = grind arith
 
 -- ---- each event
 
@@ -114,11 +108,7 @@ module _ (w : World) (k : ℕ) where
       (slice_set w.slots (k - 1) (reading_if w.book s p).1)
   read-does s is (Some (Update m)) = reads (still s _ is refl)
   read-does s is (Some (Fin mark)) = leaves tt (still s _ is refl)
-  read-does s is None = leaves (by (is_over w.book s)) (still s _ is refl)
-    where
-      by : (x : Bool) → IsQuiet (if x then Ended else Empty)
-      by true = tt
-      by false = tt
+  read-does s is None = leaves (grind arith) (still s _ is refl)
 
   -- a finish
   finish-does : (s : Subscribed) → subscribed_at w k ≡ Some s → (x : Bool)

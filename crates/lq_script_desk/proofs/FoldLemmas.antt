@@ -253,39 +253,16 @@ none-refused rebuilds s volume slot events answers told before after befores aft
 
 -- the volume of a script's first world
 first-volume : IsVolume (empty_state 1000000000000)
-first-volume = record {
-  numbered = record {
-    limit = omega arith;
-    number = omega arith;
-    next = omega arith;
-    few = omega arith;
-    rise = tt;
-    above = tt;
-    below = tt;
-  };
-  tree = record {
-    folders = λ n r is. absurd (let no : ⊥ = cc in no);
-    climb = λ n r is. absurd (let no : ⊥ = cc in no);
-    apart = λ m n q r is. absurd (let no : ⊥ = cc in no);
-    sizes = λ n r is. absurd (let no : ⊥ = cc in no);
-    no_root = refl;
-  };
-  named = tt;
-}
+first-volume = grind arith
 
 -- no slot has a fold before the first event
 none-first : (slot : ℕ) (f : Folding) → fold_at no_folds slot ≡ Some f → ⊥
-none-first slot f had = by (slot == 0) had
+none-first slot f had = let free = none 64 (slot - 1) in grind arith
   where
     none : (n i : ℕ) → option_flatten {T = Folding} (slice_get (replicate n None) i) ≡ None
     none zero i = refl
     none (suc n) zero = refl
     none (suc n) (suc i) = none n i
-
-    by : (x : Bool) → (if x then None else option_flatten (slice_get no_folds (slot - 1))) ≡ Some f
-        → ⊥
-    by true had = cc
-    by false had = cc (none 64 (slot - 1))
 
 -- a slot's fold after a script is Fold over its opening's result and what was read
 pub script-folds : RunsTellReaders → RebuildsTakeAll → FoldingsFollow → (lines : List (List ℕ))

@@ -28,19 +28,7 @@ ReadsKeepFolds = (slot : ℕ) (m : Message) (folds : Folds)
 -- a fold that goes on is there before and after
 pub fold-goes : (slot : ℕ) (g : Folding → Folding) (folds : Folds)
     → map is_some (with_fold folds slot (option_map g (fold_at folds slot))) ≡ map is_some folds
-fold-goes slot g folds = by (slot == 0)
-  where
-    here : Option Folding
-    here = option_flatten (slice_get folds (slot - 1))
-
-    there : (o : Option Folding) → is_some (option_map g o) ≡ is_some o
-    there None = refl
-    there (Some f) = refl
-
-    by : (x : Bool) → map is_some (if x then folds else slice_set folds (slot - 1)
-        (option_map g (if x then None else here))) ≡ map is_some folds
-    by true = refl
-    by false = filled-same folds (slot - 1) (option_map g here) (there here)
+fold-goes slot g folds = grind (arith, filled-same)
 
 -- a slot's fold is set
 filled-fold : (folds : Folds) (slot : ℕ) (o : Option Folding) → (slot == 0) ≡ false

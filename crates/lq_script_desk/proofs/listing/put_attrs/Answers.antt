@@ -8,12 +8,7 @@ use Rattle.lq_script_desk.proofs.listing.put_attrs.Goals as goal
 
 pub loop-attr-init : goal.loop-attr-init
 loop-attr-init c =
-    let attrs = items_text false (items_of (map attr_data c.args.attrs.now)) in
-    record {
-      whole = ap (λ front. front ++ attrs) c.in_ok-put_bytes.ensures.ok
-          ∙ append_assoc c.args.out.now.items c.args.before.now attrs;
-      front = c.put_bytes.ensures.front;
-    }
+    record { whole = grind (arith, common_steps); front = c.put_bytes.ensures.front }
 
 pub loop-attr-preserved : goal.loop-attr-preserved
 loop-attr-preserved c = record {

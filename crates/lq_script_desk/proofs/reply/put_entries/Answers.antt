@@ -8,12 +8,7 @@ use Rattle.lq_script_desk.proofs.reply.put_entries.Goals as goal
 
 pub loop-entry-init : goal.loop-entry-init
 loop-entry-init c =
-    let entries = items_text false (items_of (map entry_data c.args.entries.now)) in
-    record {
-      whole = ap (λ front. front ++ entries) c.in_ok-put_bytes.ensures.ok
-          ∙ append_assoc c.args.out.now.items c.args.before.now entries;
-      front = c.put_bytes.ensures.front;
-    }
+    record { whole = grind (arith, common_steps); front = c.put_bytes.ensures.front }
 
 pub loop-entry-preserved : goal.loop-entry-preserved
 loop-entry-preserved c = record {
