@@ -15,10 +15,7 @@ run_by : (x : ℕ) (xs : List ℕ) (b : Bool) → is_plain x ≡ b
     → escape xs ≡ take (prefix_len is_plain xs) xs ++ escape (drop (prefix_len is_plain xs) xs)
     → escape (x ∷ xs) ≡ take (cond b (1 + prefix_len is_plain xs) 0) (x ∷ xs)
     ++ escape (drop (cond b (1 + prefix_len is_plain xs) 0) (x ∷ xs))
-run_by x xs true e rest =
-    let n : 1 + prefix_len is_plain xs ≡ suc (prefix_len is_plain xs) = omega arith in
-    rw n (ap₂ (λ one more. one ++ more) (escape_plain x e) rest)
-run_by x xs false e rest = refl
+run_by x xs b e rest = grind (arith, escape_plain)
 
 -- the run before the first byte that has an escape stands for itself
 pub escape_run : (xs : List ℕ)
@@ -30,10 +27,7 @@ escape_run (x ∷ xs) = run_by x xs (is_plain x) refl (escape_run xs)
 stops_by : (x : ℕ) (xs : List ℕ) (byte : ℕ) (behind : List ℕ) (b : Bool) → is_plain x ≡ b
     → (drop (prefix_len is_plain xs) xs ≡ byte ∷ behind → is_plain byte ≡ false)
     → drop (cond b (1 + prefix_len is_plain xs) 0) (x ∷ xs) ≡ byte ∷ behind → is_plain byte ≡ false
-stops_by x xs byte behind true e rest h =
-    let n : 1 + prefix_len is_plain xs ≡ suc (prefix_len is_plain xs) = omega arith in
-    rest (rw n at h)
-stops_by x xs byte behind false e rest h = let same : x ≡ byte = cc in rw same at e
+stops_by x xs byte behind b e rest h = grind arith
 
 -- the byte behind the run has an escape
 pub run_stops : (xs : List ℕ) (byte : ℕ) (behind : List ℕ)

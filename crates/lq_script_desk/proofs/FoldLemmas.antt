@@ -38,10 +38,7 @@ set-read [] i j o f is = absurd (let no : ⊥ = cc in no)
 set-read (x ∷ xs) zero zero o f is = inl (refl, is)
 set-read (x ∷ xs) zero (suc j) o f is = inr (omega arith, is)
 set-read (x ∷ xs) (suc i) zero o f is = inr (omega arith, is)
-set-read (x ∷ xs) (suc i) (suc j) o f is = elim (set-read xs i j o f is) [
-  | inl own ↦ inl (ap suc own.0, own.1)
-  | inr other ↦ inr (omega (arith, other.0), other.1)
-]
+set-read (x ∷ xs) (suc i) (suc j) o f is = grind (arith, set-read xs i j o f is)
 
 -- a slot's fold after one was set
 fold-set : (folds : Folds) (k slot : ℕ) (o : Option Folding) (f : Folding)
@@ -87,12 +84,9 @@ one-more : {w : World} {e : Event} {a : Answer} {slots : List (Option Subscribed
     (f : Folding) → GoesOn slot (folds_after (slot_named e) a folds) events answers f
     → GoesOn slot folds (e ∷ events) (a ∷ answers) f ⊎ Begins slot e a events answers f
 one-more (leaves {e} {a} quiet same) slot folds events answers f g =
-    let no = quiet-reads slot e a events answers quiet in inl (
-      g.0,
-      sym (ap (λ fs. fold_at fs slot) (quiet-folds (slot_named e) a folds quiet)) ∙ g.1,
-      (no.0, g.2),
-      g.3 ∙ sym (ap (kept_after g.0) no.1),
-    )
+    let no = quiet-reads slot e a events answers quiet in
+    let stays = quiet-folds (slot_named e) a folds quiet in
+    inl (g.0, rw stays at g.1, (no.0, g.2), rw no.1 g.3)
 one-more (opens {q} {port} {backlog} {moved} {at} {first} s) slot folds events answers f g =
     elim (fold-set folds _ slot _ g.0 g.1) [
       | inl own ↦ let same : opened_at at first ≡ g.0 = cc in inr (record {
@@ -215,12 +209,9 @@ accepted-front : (before events : List Event) (befores answers : List Answer)
 accepted-front [] events [] answers same = omega arith
 accepted-front [] events (a ∷ befores) answers same = absurd (omega (arith, same))
 accepted-front (e ∷ before) events [] answers same = absurd (omega (arith, same))
-accepted-front (e ∷ before) events (a ∷ befores) answers same = omega (
-  arith,
-  accepted-front before events befores answers (omega (arith, same)),
-  length-append (accepted_by e a) (accepted before befores),
-  length-append (accepted_by e a) (accepted (before ++ events) (befores ++ answers)),
-)
+accepted-front (e ∷ before) events (a ∷ befores) answers same =
+    simp length-append
+    (omega (arith, accepted-front before events befores answers (omega (arith, same))))
 
 -- what the readers are told over a whole run
 told-all : (s : State) (events : List Event) (answers : List Answer)

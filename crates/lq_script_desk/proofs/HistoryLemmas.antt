@@ -71,10 +71,7 @@ turns_of-append w (x ∷ xs) ys =
     ≡ after_events outcome v (turns_of v xs) =
     after_events-append outcome w (events_in t) (turns_of v xs)
     ∙ ap (λ u. after_events outcome u (turns_of v xs)) (turn-end w t) in
-    ap (λ rest. events_in t ++ rest) (turns_of-append v xs ys)
-    ∙ (sym (append_assoc (events_in t) (turns_of v xs)
-    (turns_of (after_events outcome v (turns_of v xs)) ys))
-    ∙ ap (λ u. (events_in t ++ turns_of v xs) ++ turns_of u ys) (sym here))
+    rw (turns_of-append v xs ys, here) (sym (append_assoc (events_in t) (turns_of v xs) _))
 
 -- ---- sessions
 
@@ -202,10 +199,7 @@ session-world lines =
 events_asked-append : (xs ys : List (List ℕ))
     → events_asked (xs ++ ys) ≡ events_asked xs ++ events_asked ys
 events_asked-append [] ys = refl
-events_asked-append (x ∷ xs) ys =
-    let es = event_of (question_of (line_of x)) in
-    ap (λ rest. es ++ rest) (events_asked-append xs ys)
-    ∙ sym (append_assoc es (events_asked xs) (events_asked ys))
+events_asked-append (x ∷ xs) ys = rw (events_asked-append xs ys, append_assoc)
 
 -- the replies to lines, and then to others
 replies_to-append : {State : Type 0} (rules : Rules State) (s : State) (xs ys : List (List ℕ)) →
@@ -213,11 +207,7 @@ replies_to-append : {State : Type 0} (rules : Rules State) (s : State) (xs ys : 
     ≡ replies_to rules s xs ++ replies_to rules (state_after_all rules s xs) ys
 replies_to-append rules s [] ys = refl
 replies_to-append rules s (x ∷ xs) ys =
-    let here = reply_to rules s (line_of x) in
-    let t = state_after rules s (line_of x) in
-    ap (λ rest. here ++ rest) (replies_to-append rules t xs ys)
-    ∙ sym (append_assoc here (replies_to rules t xs)
-    (replies_to rules (state_after_all rules t xs) ys))
+    rw (replies_to-append rules (state_after rules s (line_of x)) xs ys, append_assoc)
 
 -- the reply to a line begins with the replies before it and goes on with its own
 pub reply-place : (lines before after : List (List ℕ)) (bytes : List ℕ)
@@ -235,8 +225,7 @@ reply-place lines before after bytes is =
 -- the response to a question that was read
 read-response : (s : Session) (r : Result Question Refusal) (q : Question)
     → question_read r ≡ Some q → (answered s r).0 ≡ (responds s q).0
-read-response s (Err x) q is = absurd (let no : ⊥ = cc in no)
-read-response s (Ok p) q is = let same : p ≡ q = cc in ap (λ p. (responds s p).0) same
+read-response s r q is = grind arith
 
 -- the reply to a line that asks a question
 pub line-reply : (s : Session) (l : Line) (q : Question) → question_of l ≡ Some q
@@ -250,10 +239,11 @@ answer-turn : (before : List (List ℕ)) (e : Event)
 answer-turn before e =
     let w = world_after before in
     let t = turn_of (ports_of w) e in
-    ap (λ u. (turn_outcome u e).0) (session-world before)
-    ∙ (ap (λ x. (outcome (after_events outcome w t.before) x).0) (turn-event (ports_of w) e)
-    ∙ ap (λ u. answer u e) (sym (after_events-append outcome script_world
-    (events_of before) t.before)))
+    rw (
+      session-world before,
+      turn-event (ports_of w) e,
+      after_events-append outcome script_world (events_of before) t.before,
+    )
 
 -- the events of a script with a line that asks for an event
 pub events-place : (lines before after : List (List ℕ)) (bytes : List ℕ) (e : Event)
@@ -268,11 +258,8 @@ events-place lines before after bytes e is asks =
     ∙ ap (λ q. events_asked before ++ (event_of q ++ events_asked after)) asks) in (
       t.after ++ rest,
       ap (turns_of script_world) asked
-          ∙ (turns_of-append script_world (events_asked before) (e ∷ events_asked after)
-          ∙ (ap (λ es. events_of before ++ es) (append_assoc t.before (t.event ∷ t.after) rest)
-          ∙ (sym (append_assoc (events_of before) t.before (t.event ∷ (t.after ++ rest)))
-          ∙ ap (λ x. events_before before e ++ x ∷ (t.after ++ rest))
-          (turn-event (ports_of w) e)))),
+          ∙ turns_of-append script_world (events_asked before) (e ∷ events_asked after)
+          ∙ simp (append_assoc, turn-event),
     )
 
 -- the reply to a line that asks for an event is the text of the event's answer

@@ -6,10 +6,6 @@ use Rattle.lq_script_desk.specs.Reply.{attr_data}
 use Rattle.lq_script_desk.proofs.FrontLemmas.{◌after◌}
 use Rattle.lq_script_desk.proofs.listing.put_attrs.Goals as goal
 
-pub loop-attr-init : goal.loop-attr-init
-loop-attr-init c =
-    record { whole = grind (arith, common_steps); front = c.put_bytes.ensures.front }
-
 pub loop-attr-preserved : goal.loop-attr-preserved
 loop-attr-preserved c = record {
   whole = grind (arith, common_steps);

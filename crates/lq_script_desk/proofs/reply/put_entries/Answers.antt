@@ -6,10 +6,6 @@ use Rattle.lq_script_desk.specs.Reply.{entry_data}
 use Rattle.lq_script_desk.proofs.FrontLemmas.{◌after◌}
 use Rattle.lq_script_desk.proofs.reply.put_entries.Goals as goal
 
-pub loop-entry-init : goal.loop-entry-init
-loop-entry-init c =
-    record { whole = grind (arith, common_steps); front = c.put_bytes.ensures.front }
-
 pub loop-entry-preserved : goal.loop-entry-preserved
 loop-entry-preserved c = record {
   whole = grind (arith, common_steps);
