@@ -75,7 +75,8 @@ record Begins (slot : ℕ) (e : Event) (a : Answer) (events : List Event) (answe
 -- an answer that leaves the folds frees no slot and gives no update
 quiet-reads : (slot : ℕ) (e : Event) (a : Answer) (events : List Event) (answers : List Answer)
     → IsQuiet a → (frees slot e a ≡ false)
-    × (updates_in (reads_of slot (e ∷ events) (a ∷ answers)) ≡ updates_in (reads_of slot events answers))
+    × (updates_in (reads_of slot (e ∷ events) (a ∷ answers))
+    ≡ updates_in (reads_of slot events answers))
 quiet-reads slot e a events answers quiet = grind arith
 
 -- a fold after an event was there before it, or the event opened the slot
@@ -262,7 +263,8 @@ pub script-folds : RunsTellReaders → RebuildsTakeAll → FoldingsFollow → (l
 script-folds law rebuilds follow lines slot f had =
     let events = events_of lines in
     let answers = answers_of lines in
-    let told = law script_world (world_after lines) events answers (run-answers script_world events) in
+    let told = law script_world (world_after lines) events answers
+    (run-answers script_world events) in
     let none = none-refused rebuilds (empty_state 1000000000000) first-volume slot events answers
     told in
     elim (since follow slot events answers none script_session [] events [] f refl refl refl
