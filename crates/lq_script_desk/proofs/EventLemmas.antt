@@ -1,5 +1,5 @@
 -- What an event does to folds, and to which slots are taken.
-use Rattle.std.proofs.Common.{◌≡◌, ◌==◌, ℕ, zero, suc, ◌+◌, ◌-◌, List, [], ◌∷◌, map, refl, ap, ◌∙◌, sym, arith, Bool, true, false, if◌then◌else◌, Option, Some, None, option_map}
+use Rattle.std.proofs.Common.{◌≡◌, ◌==◌, ℕ, zero, suc, ◌+◌, ◌-◌, List, [], ◌∷◌, map, refl, ap, ◌∙◌, sym, arith, Bool, true, false, Option, Some, None, option_map}
 use Rattle.std.specs.Prelude.{is_some, slice_get, slice_set}
 use Rattle.std.specs.Option.{option_flatten}
 use Rattle.lq_value.specs.declared.entry.Entry.{Entry}
@@ -13,7 +13,7 @@ use Rattle.lq_update.specs.declared.parcel.Parcel.TheVariants.{Update, Fin}
 use Rattle.lq_desk_world.specs.World.{World, Subscribed, after_change, first_in_port, is_over, subscribed_at, taken_before_free}
 use Rattle.lq_desk_world.specs.declared.event.Event.{Event}
 use Rattle.lq_desk_world.specs.declared.event.Event.TheVariants.{Change, Open, Put, Take, HangUp, Notice, Close, Finish}
-use Rattle.lq_desk_world.specs.Events.{Answer, Opened, Took, Empty, Ended, Finished, answer, at_slot, changing, closing, finishing, finishing_if, hanging_up, next, noticing, open_refusal, opened_now, opening, putting, reading, reading_if}
+use Rattle.lq_desk_world.specs.Events.{Answer, Opened, Took, Finished, answer, at_slot, changing, closing, finishing, finishing_if, hanging_up, next, noticing, open_refusal, opened_now, opening, putting, reading, reading_if}
 use Rattle.lq_script_desk.specs.Folds.{Folds, folds_after}
 
 -- an answer that leaves the folds

@@ -1,5 +1,5 @@
 -- A slot's fold after a script's events: Fold over its opening's result and what was read since.
-use Rattle.std.proofs.Common.{◌≡◌, ◌≢◌, ◌⊎◌, ◌==◌, ℕ, zero, suc, ◌-◌, ◌≤◌, List, [], ◌∷◌, ◌++◌, length, replicate, refl, ap, ◌∙◌, sym, subst, arith, append_assoc, length-append, inl, inr, Bool, true, false, if◌then◌else◌, Option, Some, None}
+use Rattle.std.proofs.Common.{◌≡◌, ◌≢◌, ◌⊎◌, ◌==◌, ℕ, zero, suc, ◌-◌, ◌≤◌, List, [], ◌∷◌, ◌++◌, length, replicate, refl, ap, ◌∙◌, sym, subst, arith, append_assoc, length-append, inl, inr, Bool, true, false, Option, Some, None}
 use Rattle.std.specs.Prelude.{slice_get, slice_set}
 use Rattle.std.specs.Option.{option_flatten}
 use Rattle.std.proofs.lemmas.Bool.Decides.{nat_tests}
@@ -18,7 +18,7 @@ use Rattle.lq_desk_world.specs.declared.event.Event.{Event}
 use Rattle.lq_desk_world.specs.declared.event.Event.TheVariants.{Open}
 use Rattle.lq_desk_world.specs.Events.{Answer, Opened, answer, next}
 use Rattle.lq_desk_world.specs.Turns.{after_events}
-use Rattle.lq_desk_world.specs.Headline.{ReadersAreTold, OpeningsAreTold, accepted, accepted_by, run_book, frees, reads_of, updates_in}
+use Rattle.lq_desk_world.specs.Headline.{ReadersAreTold, OpeningsAreTold, accepted, run_book, frees, reads_of, updates_in}
 use Rattle.lq_desk_world.specs.Laws.{RunsTellReaders}
 use Rattle.lq_script_desk.specs.Answered.{slot_named}
 use Rattle.lq_script_desk.specs.Folds.{Folds, after_message, after_message_if, fold_at, folds_after, no_folds, with_fold}

@@ -1,8 +1,5 @@
-use Rattle.std.proofs.Common.{◌++◌, map, false, append_assoc, ap, ◌∙◌, arith}
+use Rattle.std.proofs.Common.{arith}
 use Rattle.std.proofs.lemmas.Grind.{common_steps}
-use Rattle.serde_json.specs.View.{items_of}
-use Rattle.serde_json.specs.Written.{items_text}
-use Rattle.lq_script_desk.specs.Reply.{attr_data}
 use Rattle.lq_script_desk.proofs.FrontLemmas.{◌after◌}
 use Rattle.lq_script_desk.proofs.listing.put_attrs.Goals as goal
 

@@ -6,7 +6,7 @@ use Rattle.lq_script_lines.specs.Lines.{Rules}
 use Rattle.lq_script_lines.specs.Output.{output_of}
 use Rattle.lq_script_lines.specs.Outcome.{IsRunOutcome, reader_log, writer_log}
 use Rattle.lq_script_lines.specs.declared.run_fault.RunFault.{RunFault}
-use Rattle.lq_script_lines.specs.declared.run_fault.RunFault.TheVariants.{Limit, Memory, Read, Thread, Write}
+use Rattle.lq_script_lines.specs.declared.run_fault.RunFault.TheVariants.{Memory}
 use Rattle.lq_script_desk.specs.Script.{script_session, world_rules}
 use Rattle.lq_script_desk.proofs.TellLemmas.{run-tells}
 use Rattle.lq_script_desk.proofs.script.run.Goals as goal
