@@ -1,6 +1,6 @@
 -- A text's escapes, run by run.
-use Rattle.std.proofs.Common.{◌≡◌, ℕ, suc, ◌+◌, ◌-◌, ◌<◌, ◌≤◌, Bool, true, false, cond, List, [], ◌∷◌, ◌++◌, length, get_or, take, drop, refl, ap, ap₂, sym, ◌∙◌, rules, arith, append_assoc, append-nil}
-use Rattle.std.proofs.Math.Seq.{take-length}
+use Rattle.std.proofs.Common.{◌≡◌, ℕ, ◌+◌, ◌-◌, ◌<◌, ◌≤◌, Bool, true, false, cond, List, [], ◌∷◌, ◌++◌, length, get_or, take, drop, refl, ap, sym, ◌∙◌, rules, arith, append_assoc, append-nil}
+use Rattle.std.proofs.lemmas.Grind.{common_steps}
 use Rattle.std.specs.List.{prefix_len}
 use Rattle.json.specs.Print.{escape_byte, escape}
 use Rattle.lq_script_desk.specs.Plain.{is_plain}
@@ -15,10 +15,7 @@ run_by : (x : ℕ) (xs : List ℕ) (b : Bool) → is_plain x ≡ b
     → escape xs ≡ take (prefix_len is_plain xs) xs ++ escape (drop (prefix_len is_plain xs) xs)
     → escape (x ∷ xs) ≡ take (cond b (1 + prefix_len is_plain xs) 0) (x ∷ xs)
     ++ escape (drop (cond b (1 + prefix_len is_plain xs) 0) (x ∷ xs))
-run_by x xs true e rest =
-    let n : 1 + prefix_len is_plain xs ≡ suc (prefix_len is_plain xs) = omega arith in
-    rw n (ap₂ (λ one more. one ++ more) (escape_plain x e) rest)
-run_by x xs false e rest = refl
+run_by x xs b e rest = grind (arith, escape_plain)
 
 -- the run before the first byte that has an escape stands for itself
 pub escape_run : (xs : List ℕ)
@@ -30,24 +27,19 @@ escape_run (x ∷ xs) = run_by x xs (is_plain x) refl (escape_run xs)
 stops_by : (x : ℕ) (xs : List ℕ) (byte : ℕ) (behind : List ℕ) (b : Bool) → is_plain x ≡ b
     → (drop (prefix_len is_plain xs) xs ≡ byte ∷ behind → is_plain byte ≡ false)
     → drop (cond b (1 + prefix_len is_plain xs) 0) (x ∷ xs) ≡ byte ∷ behind → is_plain byte ≡ false
-stops_by x xs byte behind true e rest h =
-    let n : 1 + prefix_len is_plain xs ≡ suc (prefix_len is_plain xs) = omega arith in
-    rest (rw n at h)
-stops_by x xs byte behind false e rest h = let same : x ≡ byte = cc in rw same at e
+stops_by x xs byte behind b e rest h = grind arith
 
 -- the byte behind the run has an escape
 pub run_stops : (xs : List ℕ) (byte : ℕ) (behind : List ℕ)
     → drop (prefix_len is_plain xs) xs ≡ byte ∷ behind → is_plain byte ≡ false
-run_stops [] byte behind h = absurd (let bad : ⊥ = cc in bad)
+run_stops [] byte behind h = absurd (cc)
 run_stops (x ∷ xs) byte behind h =
     stops_by x xs byte behind (is_plain x) refl (run_stops xs byte behind) h
 
 -- a list is its first element and those behind it
 first_and_behind : (s : List ℕ) → 1 ≤ length s → s ≡ get_or s 0 0 ∷ take (length s - 1) (drop 1 s)
-first_and_behind [] h = absurd (let bad : ⊥ = omega arith in bad)
-first_and_behind (x ∷ xs) h =
-    let n : suc (length xs) - 1 ≡ length xs = omega arith in
-    rw n (ap (λ l. x ∷ l) (sym (take-length xs)))
+first_and_behind [] h = absurd (omega arith)
+first_and_behind (x ∷ xs) h = grind (arith, common_steps)
 
 -- the byte behind a run has an escape
 pub first_escaped : (xs stop : List ℕ) (n : ℕ) → n ≡ prefix_len is_plain xs → stop ≡ drop n xs
@@ -62,35 +54,25 @@ pub escape_parts : (xs run stop : List ℕ) (n : ℕ) → n ≡ prefix_len is_pl
     → escape xs ≡ run
     ++ (escape_byte (get_or stop 0 0) ++ escape (take (length stop - 1) (drop 1 stop)))
 escape_parts xs run stop n e r s h =
-    escape_run xs ∙ (ap (λ k. take k xs ++ escape (drop k xs)) (sym e)
-    ∙ (ap₂ (λ a b. a ++ escape b) (sym r) (sym s)
-    ∙ ap (λ l. run ++ escape l) (first_and_behind stop h)))
+    let whole = escape_run xs in
+    let parts = first_and_behind stop h in
+    cc
 
 -- a text that ends with its run
 pub escape_whole : (xs run stop : List ℕ) (n : ℕ) → n ≡ prefix_len is_plain xs → run ≡ take n xs
     → stop ≡ drop n xs → length stop < 1 → escape xs ≡ run
-escape_whole xs run [] n e r s h = escape_run xs
-    ∙ (ap (λ k. take k xs ++ escape (drop k xs)) (sym e)
-    ∙ (ap₂ (λ a b. a ++ escape b) (sym r) (sym s) ∙ append-nil run))
-escape_whole xs run (x ∷ stop) n e r s h = absurd (let bad : ⊥ = omega arith in bad)
-
--- five texts in a row, grouped otherwise
-regroup : (front run byte more close : List ℕ)
-    → ((front ++ run) ++ byte) ++ (more ++ close) ≡ front ++ ((run ++ (byte ++ more)) ++ close)
-regroup front run byte more close = simp append_assoc
+escape_whole xs run [] n e r s h = let whole = escape_run xs in cc (append-nil run)
+escape_whole xs run (x ∷ stop) n e r s h = absurd (omega arith)
 
 -- what was put and what is left stay the whole
 pub put_on : (out later last text run byte more close whole : List ℕ) → later ≡ out ++ run
     → last ≡ later ++ byte → text ≡ run ++ (byte ++ more)
     → out ++ (text ++ close) ≡ whole → last ++ (more ++ close) ≡ whole
 put_on out later last text run byte more close whole first second parts all =
-    ap (λ l. l ++ (more ++ close)) (second ∙ ap (λ l. l ++ byte) first)
-    ∙ (regroup out run byte more close ∙ (ap (λ l. out ++ (l ++ close)) (sym parts) ∙ all))
+    grind (arith, append_assoc)
 
 -- what was put and the end are the whole
 pub put_last : (out later last text run close whole : List ℕ) → later ≡ out ++ run
     → last ≡ later ++ close → text ≡ run
     → out ++ (text ++ close) ≡ whole → last ≡ whole
-put_last out later last text run close whole first second same all =
-    second ∙ (ap (λ l. l ++ close) first
-    ∙ (append_assoc out run close ∙ (ap (λ l. out ++ (l ++ close)) (sym same) ∙ all)))
+put_last out later last text run close whole first second same all = grind (arith, append_assoc)

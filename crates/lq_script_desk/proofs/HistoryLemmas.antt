@@ -1,23 +1,23 @@
 -- The events of a script, the answers to them, and its replies.
-use Rattle.std.proofs.Common.{◌≡◌, ℕ, List, [], ◌∷◌, ◌++◌, length, refl, ap, ◌∙◌, sym, arith, append_assoc, inl, Option, Some, Result, Ok, Err}
+use Rattle.std.proofs.Common.{◌≡◌, ℕ, zero, suc, ◌+◌, List, [], ◌∷◌, ◌++◌, length, refl, ap, ap₂, ◌∙◌, sym, arith, append_assoc, inl, Option, Some, None, Result, Ok, Err}
 use Rattle.lq_value.specs.declared.refusal.Refusal.{Refusal}
 use Rattle.lq_desk_world.specs.World.{World}
 use Rattle.lq_desk_world.specs.declared.event.Event.{Event}
-use Rattle.lq_desk_world.specs.declared.event.Event.TheVariants.{Change, Open, Put, Take, HangUp, Notice, Close, Finish}
+use Rattle.lq_desk_world.specs.declared.event.Event.TheVariants.{Change, Put, Take, Notice, Close}
 use Rattle.lq_desk_world.specs.Events.{Answer, answer, next, outcome}
 use Rattle.lq_desk_world.specs.Runs.{Run}
-use Rattle.lq_desk_world.specs.Turns.{Turn, after_events, carried_out, events_in, ports_of, turn_of, turn_outcome}
-use Rattle.lq_script_lines.specs.Lines.{Line, Rules, long, empty, whole, line_of, reply_to, replies_to, state_after}
+use Rattle.lq_desk_world.specs.Turns.{Turn, after_events, all_puts, at_each, carried_out, events_in, notices, one_notice, places_at, ports_of, puts, turn_of, turn_outcome}
+use Rattle.lq_script_lines.specs.Lines.{Line, Rules, whole, line_of, reply_to, replies_to, state_after}
 use Rattle.lq_script_lines.specs.Progress.{state_after_all}
 use Rattle.lq_script_request.specs.declared.question.Question.{Question}
 use Rattle.lq_script_request.specs.declared.question.Question.TheVariants as question
 use Rattle.lq_script_request.specs.Request.{question_in}
-use Rattle.lq_script_desk.specs.Answered.{answered, answered_event, rebuilt, responds, slot_named}
-use Rattle.lq_script_desk.specs.Folds.{fold_at}
+use Rattle.lq_script_desk.specs.Answered.{answered, responds, slot_named}
+use Rattle.lq_script_desk.specs.Folds.{folds_after}
 use Rattle.lq_script_desk.specs.Reply.{reply_text}
 use Rattle.lq_script_desk.specs.Response.{Answers}
 use Rattle.lq_script_desk.specs.Script.{script_session, script_world, world_rules}
-use Rattle.lq_script_desk.specs.Session.{Session}
+use Rattle.lq_script_desk.specs.Session.{Session, session_with}
 use Rattle.lq_script_desk.specs.History.{IsReplied, answer_after, answers_to, event_of, events_asked, events_before, events_of, question_of, question_read, replies_of, session_after, turns_of, world_after}
 
 -- ---- events one after another
@@ -58,13 +58,7 @@ turn-end w t = after_events-append outcome w t.before (t.event ∷ t.after)
 -- the event of a turn is the one that it was made for
 pub turn-event : (ports : List (Option ℕ)) (e : Event) → (turn_of ports e).event ≡ e
 turn-event ports (Change c) = refl
-turn-event ports (Open q port backlog moved) = refl
-turn-event ports (Put slot) = refl
-turn-event ports (Take slot) = refl
-turn-event ports (HangUp slot) = refl
-turn-event ports (Notice slot) = refl
-turn-event ports (Close slot) = refl
-turn-event ports (Finish slot) = refl
+turn-event ports e = refl
 
 -- the turns of events and then of others
 pub turns_of-append : (w : World) (xs ys : List Event)
@@ -77,70 +71,127 @@ turns_of-append w (x ∷ xs) ys =
     ≡ after_events outcome v (turns_of v xs) =
     after_events-append outcome w (events_in t) (turns_of v xs)
     ∙ ap (λ u. after_events outcome u (turns_of v xs)) (turn-end w t) in
-    ap (λ rest. events_in t ++ rest) (turns_of-append v xs ys)
-    ∙ (sym (append_assoc (events_in t) (turns_of v xs)
-    (turns_of (after_events outcome v (turns_of v xs)) ys))
-    ∙ ap (λ u. (events_in t ++ turns_of v xs) ++ turns_of u ys) (sym here))
+    rw (turns_of-append v xs ys, here) (sym (append_assoc (events_in t) (turns_of v xs) _))
 
 -- ---- sessions
 
--- the session after the turn of an event that a line asked for
-abbrev pub session_turn : Session → Event → Session
-session_turn s e = (answered_event (slot_named e) s.folds (turn_outcome s.core e)).1
+-- a session's answer to an event, and the session then
+abbrev pub session_step : Session → Event → Answer × Session
+session_step s e = (
+  answer s.core e,
+  session_with (next s.core e) (folds_after (slot_named e) (answer s.core e) s.folds),
+)
 
-abbrev pub session_turns : Session → List Event → Session
-session_turns s [] = s
-session_turns s (e ∷ asked) = session_turns (session_turn s e) asked
+-- the world of a session after events
+pub core-after : (s : Session) (events : List Event)
+    → (after_events session_step s events).core ≡ after_events outcome s.core events
+core-after s [] = refl
+core-after s (e ∷ events) = core-after (session_step s e).1 events
 
--- turns and then others lead where both in a row lead
-session_turns-append : (s : Session) (xs ys : List Event)
-    → session_turns s (xs ++ ys) ≡ session_turns (session_turns s xs) ys
-session_turns-append s [] ys = refl
-session_turns-append s (x ∷ xs) ys = session_turns-append (session_turn s x) xs ys
+-- events that leave the folds
+abbrev AreQuiet : List Event → Type 0
+AreQuiet events = (s : Session) → (after_events session_step s events).folds ≡ s.folds
 
--- a question that was read, or not, leads where the turn of its event leads
-read-turns : (s : Session) (r : Result Question Refusal)
-    → (answered s r).1 ≡ session_turns s (event_of (question_read r))
-read-turns s (Err e) = refl
-read-turns s (Ok (question.Event e)) = refl
-read-turns s (Ok (question.Find dir name)) = refl
-read-turns s (Ok (question.Entry node)) = refl
-read-turns s (Ok (question.Fetch q)) = refl
-read-turns s (Ok (question.Rebuilt slot)) = refl
+-- a notice does
+notice-quiet : (k : ℕ) → AreQuiet (Notice k ∷ [])
+notice-quiet k s = grind arith
 
--- so does a line
-line-turns : (s : Session) (l : Line)
-    → state_after world_rules s l ≡ session_turns s (event_of (question_of l))
-line-turns s long = refl
-line-turns s empty = refl
-line-turns s (whole bytes) = read-turns s (question_in bytes)
+-- so does a put
+put-quiet : (k : ℕ) → AreQuiet (Put k ∷ [])
+put-quiet k s = grind arith
 
--- and several lines
-pub lines-turns : (s : Session) (lines : List (List ℕ))
-    → state_after_all world_rules s lines ≡ session_turns s (events_asked lines)
-lines-turns s [] = refl
-lines-turns s (bytes ∷ lines) =
-    let es = event_of (question_of (line_of bytes)) in
-    ap (λ t. state_after_all world_rules t lines) (line-turns s (line_of bytes))
-    ∙ (lines-turns (session_turns s es) lines
-    ∙ sym (session_turns-append s es (events_asked lines)))
+-- and so do events that do and others that do
+quiet-append : (xs ys : List Event) → AreQuiet xs → AreQuiet ys → AreQuiet (xs ++ ys)
+quiet-append xs ys h g s =
+    ap (λ (t : Session). t.folds) (after_events-append session_step s xs ys)
+    ∙ (g (after_events session_step s xs) ∙ h s)
 
--- the core of a session is where the events of the turns lead
-pub turns-core : (s : Session) (asked : List Event)
-    → (session_turns s asked).core ≡ after_events outcome s.core (turns_of s.core asked)
-turns-core s [] = refl
-turns-core s (e ∷ asked) =
-    let t = turn_of (ports_of s.core) e in
-    let v = (turn_outcome s.core e).1 in
-    turns-core (session_turn s e) asked
-    ∙ (ap (λ u. after_events outcome u (turns_of v asked)) (sym (turn-end s.core t))
-    ∙ sym (after_events-append outcome s.core (events_in t) (turns_of v asked)))
+puts-quiet : (k n : ℕ) → AreQuiet (puts k n)
+puts-quiet k zero = λ s. refl
+puts-quiet k (suc n) = quiet-append (Put k ∷ []) (puts k n) (put-quiet k) (puts-quiet k n)
+
+-- what is done at each taken slot leaves the folds if it does at one
+each-quiet : (events : ℕ → ℕ → List Event) → ((k port : ℕ) → AreQuiet (events k port)) → (n : ℕ)
+    (ports : List (Option ℕ)) → AreQuiet (at_each events n ports)
+each-quiet events quiet n [] = λ s. refl
+each-quiet events quiet n (None ∷ ports) = each-quiet events quiet (n + 1) ports
+each-quiet events quiet n (Some port ∷ ports) =
+    quiet-append (events n port) (at_each events (n + 1) ports) (quiet n port)
+    (each-quiet events quiet (n + 1) ports)
+
+-- among such events the folds are those by the answer to the one event
+among-quiet : (s : Session) (before after : List Event) (e : Event)
+    → AreQuiet before → AreQuiet after
+    → folds_after (slot_named e) (answer (after_events outcome s.core before) e) s.folds
+    ≡ (after_events session_step s (before ++ e ∷ after)).folds
+among-quiet s before after e first last =
+    let t = after_events session_step s before in
+    sym (ap (λ (u : Session). u.folds) (after_events-append session_step s before (e ∷ after))
+    ∙ (last (session_step t e).1
+    ∙ ap₂ (λ w folds. folds_after (slot_named e) (answer w e) folds) (core-after s before)
+    (first s)))
+
+-- what a turn adds to its event leaves the folds
+turn-folds : (s : Session) (e : Event)
+    → folds_after (slot_named e) (turn_outcome s.core e).0 s.folds
+    ≡ (after_events session_step s (events_in (turn_of (ports_of s.core) e))).folds
+turn-folds s (Change c) =
+    let ports = ports_of s.core in
+    among-quiet s (notices ports) (all_puts ports) (Change c)
+    (each-quiet one_notice (λ k port. notice-quiet k) 1 ports) (each-quiet puts puts-quiet 1 ports)
+turn-folds s (Take k) =
+    let n = places_at (ports_of s.core) k in
+    among-quiet s (Notice k ∷ puts k n) [] (Take k)
+    (quiet-append (Notice k ∷ []) (puts k n) (notice-quiet k) (puts-quiet k n)) (λ t. refl)
+turn-folds s (Close k) =
+    let n = places_at (ports_of s.core) k in
+    among-quiet s (Notice k ∷ []) (puts k n) (Close k) (notice-quiet k) (puts-quiet k n)
+turn-folds s e = refl
+
+-- the session after an event's turn is the one after the turn's events
+turn-session : (s : Session) (e : Event) → (responds s (question.Event e)).1
+    ≡ after_events session_step s (events_in (turn_of (ports_of s.core) e))
+turn-session s e =
+    let events = events_in (turn_of (ports_of s.core) e) in
+    ap₂ session_with
+    (sym (core-after s events ∙ turn-end s.core (turn_of (ports_of s.core) e))) (turn-folds s e)
+
+-- lines that lead where the events of their turns lead
+abbrev ArePlayed : List (List ℕ) → Type 0
+ArePlayed lines = (s : Session) → state_after_all world_rules s lines
+    ≡ after_events session_step s (turns_of s.core (events_asked lines))
+
+-- a question before such lines, read or not
+read-played : (lines : List (List ℕ)) → ArePlayed lines → (s : Session)
+    (r : Result Question Refusal) → state_after_all world_rules (answered s r).1 lines
+    ≡ after_events session_step s
+    (turns_of s.core (event_of (question_read r) ++ events_asked lines))
+read-played lines played s (Ok (question.Event e)) =
+    let rest = turns_of (turn_outcome s.core e).1 (events_asked lines) in
+    played (responds s (question.Event e)).1
+    ∙ (ap (λ (t : Session). after_events session_step t rest) (turn-session s e)
+    ∙ sym (after_events-append session_step s (events_in (turn_of (ports_of s.core) e)) rest))
+read-played lines played s (Ok q) = played s
+read-played lines played s (Err e) = played s
+
+-- a line before such lines
+line-played : (lines : List (List ℕ)) → ArePlayed lines → (s : Session) (l : Line)
+    → state_after_all world_rules (state_after world_rules s l) lines
+    ≡ after_events session_step s
+    (turns_of s.core (event_of (question_of l) ++ events_asked lines))
+line-played lines played s (whole bytes) = read-played lines played s (question_in bytes)
+line-played lines played s l = played s
+
+-- all lines are played
+pub lines-played : (lines : List (List ℕ)) → ArePlayed lines
+lines-played [] = λ s. refl
+lines-played (bytes ∷ lines) = λ s. line-played lines (lines-played lines) s (line_of bytes)
 
 -- the core after a script's lines is the world after their events
 pub session-world : (lines : List (List ℕ)) → (session_after lines).core ≡ world_after lines
 session-world lines =
-    ap (λ (s : Session). s.core) (lines-turns script_session lines)
-    ∙ turns-core script_session (events_asked lines)
+    ap (λ (s : Session). s.core) (lines-played lines script_session)
+    ∙ core-after script_session (events_of lines)
 
 -- ---- replies
 
@@ -148,10 +199,7 @@ session-world lines =
 events_asked-append : (xs ys : List (List ℕ))
     → events_asked (xs ++ ys) ≡ events_asked xs ++ events_asked ys
 events_asked-append [] ys = refl
-events_asked-append (x ∷ xs) ys =
-    let es = event_of (question_of (line_of x)) in
-    ap (λ rest. es ++ rest) (events_asked-append xs ys)
-    ∙ sym (append_assoc es (events_asked xs) (events_asked ys))
+events_asked-append (x ∷ xs) ys = rw (events_asked-append xs ys, append_assoc)
 
 -- the replies to lines, and then to others
 replies_to-append : {State : Type 0} (rules : Rules State) (s : State) (xs ys : List (List ℕ)) →
@@ -159,11 +207,7 @@ replies_to-append : {State : Type 0} (rules : Rules State) (s : State) (xs ys : 
     ≡ replies_to rules s xs ++ replies_to rules (state_after_all rules s xs) ys
 replies_to-append rules s [] ys = refl
 replies_to-append rules s (x ∷ xs) ys =
-    let here = reply_to rules s (line_of x) in
-    let t = state_after rules s (line_of x) in
-    ap (λ rest. here ++ rest) (replies_to-append rules t xs ys)
-    ∙ sym (append_assoc here (replies_to rules t xs)
-    (replies_to rules (state_after_all rules t xs) ys))
+    rw (replies_to-append rules (state_after rules s (line_of x)) xs ys, append_assoc)
 
 -- the reply to a line begins with the replies before it and goes on with its own
 pub reply-place : (lines before after : List (List ℕ)) (bytes : List ℕ)
@@ -178,39 +222,16 @@ reply-place lines before after bytes is =
           ∙ sym (append_assoc (replies_of before) (reply_to world_rules s (line_of bytes)) rest)),
     )
 
--- the response to an event that was read
-read-event : (s : Session) (r : Result Question Refusal) (e : Event)
-    → question_read r ≡ Some (question.Event e)
-    → (answered s r).0 ≡ Answers (slot_named e) (turn_outcome s.core e).0
-read-event s (Err x) e is = absurd (let no : ⊥ = cc in no)
-read-event s (Ok q) e is =
-    let same : q ≡ question.Event e = cc in
-    ap (λ p. (responds s p).0) same
+-- the response to a question that was read
+read-response : (s : Session) (r : Result Question Refusal) (q : Question)
+    → question_read r ≡ Some q → (answered s r).0 ≡ (responds s q).0
+read-response s r q is = grind arith
 
--- and to a slot's result
-read-rebuilt : (s : Session) (r : Result Question Refusal) (slot : ℕ)
-    → question_read r ≡ Some (question.Rebuilt slot)
-    → (answered s r).0 ≡ rebuilt (fold_at s.folds slot)
-read-rebuilt s (Err x) slot is = absurd (let no : ⊥ = cc in no)
-read-rebuilt s (Ok q) slot is =
-    let same : q ≡ question.Rebuilt slot = cc in
-    ap (λ p. (responds s p).0) same
-
--- the reply to a line that asks for an event
-line-event : (s : Session) (l : Line) (e : Event)
-    → question_of l ≡ Some (question.Event e)
-    → reply_to world_rules s l ≡ reply_text (Answers (slot_named e) (turn_outcome s.core e).0)
-line-event s long e is = absurd (let no : ⊥ = cc in no)
-line-event s empty e is = absurd (let no : ⊥ = cc in no)
-line-event s (whole bytes) e is = ap reply_text (read-event s (question_in bytes) e is)
-
--- and to one that asks for a slot's result
-pub line-rebuilt : (s : Session) (l : Line) (slot : ℕ)
-    → question_of l ≡ Some (question.Rebuilt slot)
-    → reply_to world_rules s l ≡ reply_text (rebuilt (fold_at s.folds slot))
-line-rebuilt s long slot is = absurd (let no : ⊥ = cc in no)
-line-rebuilt s empty slot is = absurd (let no : ⊥ = cc in no)
-line-rebuilt s (whole bytes) slot is = ap reply_text (read-rebuilt s (question_in bytes) slot is)
+-- the reply to a line that asks a question
+pub line-reply : (s : Session) (l : Line) (q : Question) → question_of l ≡ Some q
+    → reply_to world_rules s l ≡ reply_text (responds s q).0
+line-reply s (whole bytes) q is = ap reply_text (read-response s (question_in bytes) q is)
+line-reply s l q is = absurd (let no : ⊥ = cc in no)
 
 -- the answer to the event of the next line
 answer-turn : (before : List (List ℕ)) (e : Event)
@@ -218,10 +239,11 @@ answer-turn : (before : List (List ℕ)) (e : Event)
 answer-turn before e =
     let w = world_after before in
     let t = turn_of (ports_of w) e in
-    ap (λ u. (turn_outcome u e).0) (session-world before)
-    ∙ (ap (λ x. (outcome (after_events outcome w t.before) x).0) (turn-event (ports_of w) e)
-    ∙ ap (λ u. answer u e) (sym (after_events-append outcome script_world
-    (events_of before) t.before)))
+    rw (
+      session-world before,
+      turn-event (ports_of w) e,
+      after_events-append outcome script_world (events_of before) t.before,
+    )
 
 -- the events of a script with a line that asks for an event
 pub events-place : (lines before after : List (List ℕ)) (bytes : List ℕ) (e : Event)
@@ -236,11 +258,8 @@ events-place lines before after bytes e is asks =
     ∙ ap (λ q. events_asked before ++ (event_of q ++ events_asked after)) asks) in (
       t.after ++ rest,
       ap (turns_of script_world) asked
-          ∙ (turns_of-append script_world (events_asked before) (e ∷ events_asked after)
-          ∙ (ap (λ es. events_of before ++ es) (append_assoc t.before (t.event ∷ t.after) rest)
-          ∙ (sym (append_assoc (events_of before) t.before (t.event ∷ (t.after ++ rest)))
-          ∙ ap (λ x. events_before before e ++ x ∷ (t.after ++ rest))
-          (turn-event (ports_of w) e)))),
+          ∙ turns_of-append script_world (events_asked before) (e ∷ events_asked after)
+          ∙ simp (append_assoc, turn-event),
     )
 
 -- the reply to a line that asks for an event is the text of the event's answer
@@ -253,7 +272,7 @@ replied lines before after bytes e is asks =
     let text = reply-place lines before after bytes is in
     let own : reply_to world_rules (session_after before) (line_of bytes)
     ≡ reply_text (Answers (slot_named e) (answer_after before e)) =
-    line-event (session_after before) (line_of bytes) e asks
+    line-reply (session_after before) (line_of bytes) (question.Event e) asks
     ∙ ap (λ a. reply_text (Answers (slot_named e) a)) (answer-turn before e) in record {
       later = place.0;
       events = place.1;

@@ -1,6 +1,5 @@
 -- Piece behind piece.
 use Rattle.std.proofs.Common.{◌≡◌, ℕ, List, ◌++◌, append_assoc, ap, ◌∙◌}
-use Rattle.lq_script_desk.specs.Front.{AppendsTo}
 
 -- a text, and then the rest
 pub and_then : {middle new : List ℕ} (old text rest : List ℕ) → middle ≡ old ++ text
@@ -18,12 +17,3 @@ pub named_piece : {middle new front : List ℕ} (old first name second text rest
     → new ≡ old ++ (first ++ (name ++ (second ++ (text ++ rest))))
 named_piece old first name second text rest d e f = f
     ∙ (ap (λ front. front ++ rest) (e ∙ ap (λ front. old ++ (front ++ text)) d) ∙ simp append_assoc)
-
--- what stands at the front of a text stands at the front of what that is the front of
-pub extends_on : (new middle old : List ℕ) → AppendsTo new middle → AppendsTo middle old
-    → AppendsTo new old
-extends_on new middle old later earlier = record {
-  rest = earlier.rest ++ later.rest;
-  split = later.split ∙ (ap (λ front. front ++ later.rest) earlier.split
-      ∙ append_assoc old earlier.rest later.rest);
-}

@@ -1,17 +1,13 @@
 -- The history of a session.
-use Rattle.std.proofs.Common.{◌≡◌, ◌⊎◌, List, [], ◌∷◌, ◌++◌, refl, ap, subst, inl, inr, Option, Some, None, Result, Ok, Err, IsErr, OnOk}
-use Rattle.lq_value.specs.declared.refusal.Refusal.{Refusal}
+use Rattle.std.proofs.Common.{◌≡◌, ◌⊎◌, List, [], ◌∷◌, ◌++◌, ap, subst, inl, inr, Result, Ok, Err, OnOk}
 use Rattle.lq_desk_world.specs.World.{World}
 use Rattle.lq_desk_world.specs.declared.event.Event.{Event}
 use Rattle.lq_desk_world.specs.Events.{Answer}
 use Rattle.lq_desk_world.specs.Runs.{Run}
 use Rattle.lq_desk_world.specs.Turns.{events_in, ports_of, turn_of}
-use Rattle.lq_desk_world.specs.Laws.{RunsTellReaders}
 use Rattle.lq_desk.specs.Turn.{TurnRuns}
-use Rattle.lq_script_request.specs.declared.question.Question.{Question}
-use Rattle.lq_script_request.specs.declared.question.Question.TheVariants as question
 use Rattle.lq_script_desk.specs.Script.{script_world}
-use Rattle.lq_script_desk.specs.SessionHistory.{KeepsHistory, LineKeepsHistory, SessionsTell}
+use Rattle.lq_script_desk.specs.SessionHistory.{KeepsHistory}
 
 -- a run and then another are a run of both in a row
 run-append : (w mid end : World) (events more : List Event) (answers mores : List Answer)
@@ -33,23 +29,6 @@ turn-history old new e a turn events answers was = record {
   place = turn.place;
   history = run-append script_world old new events (events_in (turn_of (ports_of old) e)) answers
       (turn.before ++ a ∷ turn.after) was turn.run;
-}
-
--- a line that was refused for want of memory, and left the desk
-pub line-barred : (old new : World) (result : Result (Unit {0}) Refusal) (q : Option Question)
-    → IsErr result → new ≡ old → LineKeepsHistory old new result q
-line-barred old new result None bad same = same
-line-barred old new result (Some (question.Event e)) bad same = inl (bad, same)
-line-barred old new result (Some (question.Find dir name)) bad same = same
-line-barred old new result (Some (question.Entry node)) bad same = same
-line-barred old new result (Some (question.Fetch q)) bad same = same
-line-barred old new result (Some (question.Rebuilt slot)) bad same = same
-
--- the law of sessions
-pub sessions : RunsTellReaders → SessionsTell script_world
-sessions law = record {
-  begins = refl;
-  readers = λ w events answers h. law script_world w events answers h;
 }
 
 -- what is true is true where a call succeeded

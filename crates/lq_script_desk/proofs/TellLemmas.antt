@@ -8,11 +8,12 @@ use Rattle.lq_script_lines.specs.declared.run_fault.RunFault.{RunFault}
 use Rattle.lq_script_request.specs.declared.question.Question.TheVariants as question
 use Rattle.lq_script_desk.specs.Script.{out_of, script_session, script_world, world_rules}
 use Rattle.lq_script_desk.specs.History.{IsRebuilt, ScriptsTellReaders, TellsReaders, answers_of, events_of, question_of, replies_of, session_after, world_after}
-use Rattle.lq_script_desk.proofs.HistoryLemmas.{line-rebuilt, replied, reply-place, run-answers}
+use Rattle.lq_script_desk.proofs.HistoryLemmas.{line-reply, replied, reply-place, run-answers}
 use Rattle.lq_script_desk.proofs.FoldLemmas.{script-folds}
-use Rattle.lq_script_desk.proofs.TakenLemmas.{taken-kept}
+use Rattle.lq_script_desk.proofs.TakenLemmas.{ReadsKeepFolds, taken-kept}
 
-module _ (law : RunsTellReaders) (rebuilds : RebuildsTakeAll) (follow : FoldingsFollow) where
+module _ (law : RunsTellReaders) (rebuilds : RebuildsTakeAll) (follow : FoldingsFollow)
+    (keep : ReadsKeepFolds) where
   -- the reply to a line that asks for a slot's result
   rebuilt-reply : (lines before after : List (List ℕ)) (bytes : List ℕ) (slot : ℕ)
       → lines ≡ before ++ bytes ∷ after → question_of (line_of bytes) ≡ Some (question.Rebuilt slot)
@@ -22,9 +23,9 @@ module _ (law : RunsTellReaders) (rebuilds : RebuildsTakeAll) (follow : Foldings
         reply = (
           text.0,
           text.1 ∙ ap (λ own. (replies_of before ++ own) ++ text.0)
-              (line-rebuilt (session_after before) (line_of bytes) slot asks),
+              (line-reply (session_after before) (line_of bytes) (question.Rebuilt slot) asks),
         );
-        taken = taken-kept before slot;
+        taken = taken-kept keep before slot;
         fold = script-folds law rebuilds follow before slot;
       }
 
@@ -34,9 +35,9 @@ module _ (law : RunsTellReaders) (rebuilds : RebuildsTakeAll) (follow : Foldings
     run = run-answers script_world (events_of lines);
     readers = law script_world (world_after lines) (events_of lines) (answers_of lines)
         (run-answers script_world (events_of lines));
-    replies = λ before after bytes e. replied lines before after bytes e;
-    results = λ before after bytes slot. rebuilt-reply lines before after bytes slot;
-    kept = taken-kept lines;
+    replies = replied lines;
+    results = rebuilt-reply lines;
+    kept = taken-kept keep lines;
     folds = script-folds law rebuilds follow lines;
   }
 

@@ -5,7 +5,8 @@
 //! text piece by piece (`pieces`, `text`) to a buffer (`specs/Front`). They see a session as its
 //! desk's world and the result read from each slot (`specs/Folds`), and a script's output as the
 //! texts of that world's answers to its lines (`specs/Script`). `specs/History` ties the lines to
-//! the headline. Nothing here waits. Begin with `response` and `reply`, then `session` and `script`.
+//! the headline. Nothing here waits. Begin with `response` and `reply`, then `session` and
+//! `script`.
 #![tactic(auto)]
 
 mod laws;

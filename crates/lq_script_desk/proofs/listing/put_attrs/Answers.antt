@@ -1,30 +1,16 @@
-use Rattle.std.proofs.Common.{◌++◌, map, false, append_assoc, ap, ◌∙◌, arith}
+use Rattle.std.proofs.Common.{arith}
 use Rattle.std.proofs.lemmas.Grind.{common_steps}
-use Rattle.serde_json.specs.View.{items_of}
-use Rattle.serde_json.specs.Written.{items_text}
-use Rattle.lq_script_desk.specs.Reply.{attr_data}
-use Rattle.lq_script_desk.proofs.FrontLemmas.{extends_on}
+use Rattle.lq_script_desk.proofs.FrontLemmas.{◌after◌}
 use Rattle.lq_script_desk.proofs.listing.put_attrs.Goals as goal
-
-pub loop-attr-init : goal.loop-attr-init
-loop-attr-init c =
-    let attrs = items_text false (items_of (map attr_data c.args.attrs.now)) in
-    record {
-      whole = ap (λ front. front ++ attrs) c.in_ok-put_bytes.ensures.ok
-          ∙ append_assoc c.args.out.now.items c.args.before.now attrs;
-      front = c.put_bytes.ensures.front;
-    }
 
 pub loop-attr-preserved : goal.loop-attr-preserved
 loop-attr-preserved c = record {
   whole = grind (arith, common_steps);
-  front = extends_on _ _ _ c.put_attr.ensures.front c.loop-attr.invariant.front;
+  front = c.put_attr.ensures.front after c.loop-attr.invariant.front;
 }
 
 pub returns-clause-front : goal.returns-clause-front
-returns-clause-front c =
-    extends_on _ _ _ c.put_bytes-2.ensures.front c.loop-attr.invariant.front
+returns-clause-front c = c.put_bytes-2.ensures.front after c.loop-attr.invariant.front
 
 pub returns-in_err-put_attr-clause-front : goal.returns-in_err-put_attr-clause-front
-returns-in_err-put_attr-clause-front c =
-    extends_on _ _ _ c.put_attr.ensures.front c.loop-attr.invariant.front
+returns-in_err-put_attr-clause-front c = c.put_attr.ensures.front after c.loop-attr.invariant.front

@@ -1,11 +1,11 @@
-use Rattle.lq_script_desk.proofs.FrontLemmas.{extends_on}
+use Rattle.lq_script_desk.proofs.FrontLemmas.{◌after◌}
 use Rattle.lq_script_desk.proofs.reply.put_applied.Goals as goal
 
 pub returns-in_err-put_unsigned-2-clause-front : goal.returns-in_err-put_unsigned-2-clause-front
 returns-in_err-put_unsigned-2-clause-front c =
-    extends_on _ _ _ c.put_unsigned-2.ensures.front c.in_ok-put_unsigned.ensures.front
+    c.put_unsigned-2.ensures.front after c.in_ok-put_unsigned.ensures.front
 
 pub returns-clause-front : goal.returns-clause-front
 returns-clause-front c =
-    extends_on _ _ _ c.put_bytes.ensures.front
-    (extends_on _ _ _ c.in_ok-put_unsigned-2.ensures.front c.in_ok-put_unsigned.ensures.front)
+    c.put_bytes.ensures.front after c.in_ok-put_unsigned-2.ensures.front
+    after c.in_ok-put_unsigned.ensures.front

@@ -1,30 +1,17 @@
-use Rattle.std.proofs.Common.{◌++◌, map, false, append_assoc, ap, ◌∙◌, arith}
+use Rattle.std.proofs.Common.{arith}
 use Rattle.std.proofs.lemmas.Grind.{common_steps}
-use Rattle.serde_json.specs.View.{items_of}
-use Rattle.serde_json.specs.Written.{items_text}
-use Rattle.lq_script_desk.specs.Reply.{entry_data}
-use Rattle.lq_script_desk.proofs.FrontLemmas.{extends_on}
+use Rattle.lq_script_desk.proofs.FrontLemmas.{◌after◌}
 use Rattle.lq_script_desk.proofs.reply.put_entries.Goals as goal
-
-pub loop-entry-init : goal.loop-entry-init
-loop-entry-init c =
-    let entries = items_text false (items_of (map entry_data c.args.entries.now)) in
-    record {
-      whole = ap (λ front. front ++ entries) c.in_ok-put_bytes.ensures.ok
-          ∙ append_assoc c.args.out.now.items c.args.before.now entries;
-      front = c.put_bytes.ensures.front;
-    }
 
 pub loop-entry-preserved : goal.loop-entry-preserved
 loop-entry-preserved c = record {
   whole = grind (arith, common_steps);
-  front = extends_on _ _ _ c.put_entry.ensures.front c.loop-entry.invariant.front;
+  front = c.put_entry.ensures.front after c.loop-entry.invariant.front;
 }
 
 pub returns-clause-front : goal.returns-clause-front
-returns-clause-front c =
-    extends_on _ _ _ c.put_bytes-2.ensures.front c.loop-entry.invariant.front
+returns-clause-front c = c.put_bytes-2.ensures.front after c.loop-entry.invariant.front
 
 pub returns-in_err-put_entry-clause-front : goal.returns-in_err-put_entry-clause-front
 returns-in_err-put_entry-clause-front c =
-    extends_on _ _ _ c.put_entry.ensures.front c.loop-entry.invariant.front
+    c.put_entry.ensures.front after c.loop-entry.invariant.front

@@ -6,7 +6,7 @@ use Rattle.lq_script_lines.specs.Lines.{Rules}
 use Rattle.lq_script_lines.specs.Output.{output_of}
 use Rattle.lq_script_lines.specs.Outcome.{IsRunOutcome, reader_log, writer_log}
 use Rattle.lq_script_lines.specs.declared.run_fault.RunFault.{RunFault}
-use Rattle.lq_script_lines.specs.declared.run_fault.RunFault.TheVariants.{Limit, Memory, Read, Thread, Write}
+use Rattle.lq_script_lines.specs.declared.run_fault.RunFault.TheVariants.{Memory}
 use Rattle.lq_script_desk.specs.Script.{script_session, world_rules}
 use Rattle.lq_script_desk.proofs.TellLemmas.{run-tells}
 use Rattle.lq_script_desk.proofs.script.run.Goals as goal
@@ -38,13 +38,13 @@ no_memory rules state left written written' fails failed stalled flushed result 
         front = (output_of rules state [], refl);
       };
       flush = inr flush;
-      read = λ h. absurd (let no : Err Memory ≡ Err Read = h in cc);
-      limit = λ h. absurd (let no : Err Memory ≡ Err Limit = h in cc);
+      read = λ h. cc;
+      limit = λ h. cc;
       memory = λ h. inr (refl, same);
       memory_works = λ h. (reads, writes);
-      read_fails = λ h. absurd (let no : Err Memory ≡ Err Read = h in cc);
-      write_fails = λ h. absurd (let no : Err Memory ≡ Err Write = h in cc);
-      no_thread = λ h. let no : Err Memory ≡ Err Thread = h in cc;
+      read_fails = λ h. cc;
+      write_fails = λ h. cc;
+      no_thread = λ h. cc;
     }
 
 pub returns-in_default : goal.returns-in_default
