@@ -28,16 +28,13 @@ first-any es d h x s none = at (lookup (nat_eq x) es) refl s
 -- where something stands under a name, something is found
 found-other : (es : Entries) (n : List ℕ) (o : Option ℕ) (y : ℕ)
     → is_some (found es n o (Some y)) ≡ true
-found-other es n None y = refl
-found-other es n (Some x) y =
-    elim (is_named es n x) as (λ b. is_some (cond b (Some x) (Some y)) ≡ true)
-    [ true ↦ refl | false ↦ refl ]
+found-other es n o y = grind (arith, nat_tests)
 
 -- a folder has a name just where an entry is in it
 pub has_names-is : (p : Places) (es : Entries) (dir : ℕ) (has : Bool) → IsIndex p es
     → (has ≡ false) ↔ IsNameless p dir → has ≡ list_any (λ r. r.dir == dir) (values_of es)
 has_names-is p es dir has i nameless =
-    go has refl (list_any (λ r. r.dir == dir) (values_of es)) refl
+    go (list_any (λ r. r.dir == dir) (values_of es)) refl
   where
     -- nothing is under a hash where no entry is
     by-first : list_any (λ r. r.dir == dir) (values_of es) ≡ false → (h : ℕ) (o : Option ℕ)
@@ -57,24 +54,21 @@ has_names-is p es dir has i nameless =
         let any = named-any es dir n there in
         absurd cc
 
-    go : (a : Bool) → has ≡ a → (b : Bool)
-        → list_any (λ r. r.dir == dir) (values_of es) ≡ b → a ≡ b
-    go true h true k = refl
-    go false h false k = refl
-    go true h false k =
-        let empty = nameless.1 (
-          (λ hash. by-first k hash (first_in p dir hash) refl),
-          (λ name. by-other k name (other_in p dir name) refl),
-        ) in
-        absurd cc
-    go false h true k =
-        let w = any-named es dir k in
-        let both = nameless.0 h in
-        let f = both.0 (hash_of w.0) in
-        let g = both.1 w.0 in
-        let empty : found es w.0 (first_in p dir (hash_of w.0)) (other_in p dir w.0) ≡ None =
-        ap (λ (o : Option ℕ). found es w.0 o (other_in p dir w.0)) f ∙ g in
-        let never : is_some (node_in es dir w.0) ≡ false =
-        sym (ap is_some (i.finds dir w.0)) ∙ ap is_some empty in
-        let some = w.1 in
-        cc
+    go : (b : Bool) → list_any (λ r. r.dir == dir) (values_of es) ≡ b → has ≡ b
+    go false none = nameless.1 (
+      (λ hash. by-first none hash (first_in p dir hash) refl),
+      (λ name. by-other none name (other_in p dir name) refl),
+    )
+    go true any = named (any-named es dir any) has refl
+      where
+        named : (n : List ℕ) × (is_some (node_in es dir n) ≡ true) → (a : Bool) → has ≡ a
+            → has ≡ true
+        named w true h = h
+        named w false h =
+            let both = nameless.0 h in
+            let empty : found es w.0 (first_in p dir (hash_of w.0)) (other_in p dir w.0) ≡ None =
+            rw (both.0 (hash_of w.0), both.1 w.0) refl in
+            let never : is_some (node_in es dir w.0) ≡ false =
+            ap is_some (sym (i.finds dir w.0) ∙ empty) in
+            let some = w.1 in
+            absurd cc

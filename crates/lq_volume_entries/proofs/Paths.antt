@@ -1,5 +1,5 @@
 -- The path of a node: the names on the walk up to the root lead down again.
-use Rattle.std.proofs.Common.{◌≡◌, subst, ℕ, suc, List, [], ◌∷◌, ◌++◌, refl, sym, arith, ◌∙◌, true, inl, inr}
+use Rattle.std.proofs.Common.{◌≡◌, ℕ, suc, List, [], ◌∷◌, ◌++◌, refl, sym, arith, ◌∙◌, true, inl, inr}
 use Rattle.std.specs.Prelude.{nat_eq, reverse, Some, None}
 use Rattle.std.specs.Map.{lookup}
 use Rattle.std.proofs.lemmas.Bool.{cases_eq}
@@ -20,10 +20,6 @@ ends-at_root n es at within none = elim (cases_eq at root) [
       let never = climbs-top n (dir_of es) root at off (dir_of-none es at none) in
       absurd cc
 ]
-
--- a walk of no more steps that reaches the root is there
-pub ended-at_root : (es : Entries) (at : ℕ) → climbs 0 (dir_of es) root at ≡ true → at ≡ root
-ended-at_root es at within = grind (arith, nat_tests)
 
 -- a node with a record isn't the root
 pub isn't-root : (es : Entries) (at : ℕ) (r : Record) → lookup (nat_eq root) es ≡ None
@@ -47,8 +43,3 @@ pub Leads-up : (es : Entries) (at from : ℕ) (r : Record) (names : List (List �
 Leads-up es at from r names rise can is leads =
     rw (reverse-append names (r.name ∷ []))
     (at, uniq es at r (node_in es r.dir r.name) rise can.apart (sym is) refl, leads)
-
--- names lead from the root where the walk ended there
-pub Leads-root : (es : Entries) (at from : ℕ) (names : List (List ℕ)) → at ≡ root
-    → Leads es at names from → Leads es root names from
-Leads-root es at from names same leads = subst (λ (n : ℕ). Leads es n names from) same leads

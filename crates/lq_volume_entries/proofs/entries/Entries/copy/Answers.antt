@@ -1,9 +1,10 @@
 use Rattle.std.proofs.Common.{◌≡◌, ℕ, [], ◌∷◌, ◌++◌, ◌∙◌, ap, append_assoc, arith, length, map, sym}
 use Rattle.std.specs.Vec.Iter.{into_iter_items}
+use Rattle.std.proofs.lemmas.List.{length-map}
 use Rattle.lq_volume_entries.specs.Order.{shown_pair}
 use Rattle.lq_volume_entries.specs.Record.{Record}
-use Rattle.lq_volume_entries.proofs.RecordLemmas.{Entries, Rises-front, Rises-start}
-use Rattle.lq_volume_entries.proofs.Finds.{walk-ends}
+use Rattle.lq_volume_entries.proofs.RecordLemmas.{Entries, Rises-front}
+use Rattle.lq_volume_entries.proofs.AttributeLemmas.{list-ends}
 use Rattle.lq_volume_entries.proofs.PlaceLemmas.{node_in-next}
 use Rattle.lq_volume_entries.proofs.entries.Entries.copy.Goals as goal
 
@@ -17,8 +18,8 @@ add-requires c =
     let rise = rw (← all) at (rw c.self.view_is at c.in_ok-items.ensures.rise) in
     record {
       last = Rises-front c.loop-node.copy left e rise;
-      free = rw c.in_ok-copy.ensures.value (node_in-next c.loop-node.copy left e
-          (Rises-start c.loop-node.copy _ rise) rise (rw all c.requires));
+      free = rw c.in_ok-copy.ensures.value (node_in-next c.loop-node.copy left e rise
+          (rw all c.requires));
     }
 
 pub loop-node-preserved : goal.loop-node-preserved
@@ -36,4 +37,5 @@ returns-clause-value c =
     let it = c.loop-node.node-iterator in
     let none : length (into_iter_items it) ≡ 0 =
     omega (arith, it.rest.ok.0, c.in-None.ensures.steps.0) in
-    walk-ends c.loop-node.copy (into_iter_items it) c.args.self.now none c.loop-node.invariant
+    list-ends c.loop-node.copy (map shown_pair (into_iter_items it)) c.args.self.now
+    (rw (length-map (into_iter_items it) shown_pair) none) c.loop-node.invariant
