@@ -2,7 +2,7 @@
 -- makes of one.
 use Rattle.std.proofs.Common.{◌≡◌, ◌<◌, ◌+◌, ℕ, zero, suc, add-one, List, [], ◌∷◌, ◌++◌, append_assoc, refl, sym, arith, ap, ◌∙◌, Bool, true, false, drop-cons}
 use Rattle.std.specs.Prelude.{not, cond, Some, None, slice_get, slice_index_or, length, drop, if◌then◌else◌}
-use Rattle.std.specs.Cmp.{IsEquivalence, decided}
+use Rattle.std.specs.Cmp.{decided}
 use Rattle.std.specs.List.{AllByRecursion, IsDistinct, list_any, slice_set, remove}
 use Rattle.std.specs.Map.{keys_of, remove_entry}
 use Rattle.std.specs.Option.{option_map}

@@ -1,12 +1,11 @@
 -- Records by rising node: each look-up finds the same as before they were ordered, and what is
 -- found in each is all of it.
-use Rattle.std.proofs.Common.{◌≡◌, ℕ, ◌<◌, List, [], ◌∷◌, ◌++◌, refl, subst, sym, arith, eqb, ltb, ap, ◌∙◌, ◌≤◌, Bool, true, false, cond, map, filter, length, IsPermutation, inl, inr}
+use Rattle.std.proofs.Common.{◌≡◌, ℕ, ◌<◌, List, [], ◌∷◌, ◌++◌, refl, subst, sym, arith, eqb, ap, ◌∙◌, Bool, cond, map, filter, length, IsPermutation}
 use Rattle.std.specs.Prelude.{nat_eq, not, IsSome, Option, Some, None}
 use Rattle.std.specs.Borrow.{Bor}
 use Rattle.std.specs.List.{AllByRecursion, IsDistinct, filter_map}
 use Rattle.std.specs.List.Sorted.{IsNonDecreasingBy}
 use Rattle.std.specs.Map.{lookup, keys_of}
-use Rattle.std.proofs.lemmas.Bool.{cases_eq}
 use Rattle.std.proofs.lemmas.Bool.Decides.{nat_tests}
 use Rattle.std.proofs.lemmas.List.Sorted.{IsPermutation-map, IsPermutation-sym, IsPermutation-trans, length_permutation}
 use Rattle.std.proofs.lemmas.Map.Made.{IsDistinct-keys_filter}
@@ -15,7 +14,7 @@ use Rattle.lq_value.specs.declared.entry.Entry.{Entry}
 use Rattle.lq_volume_entries.specs.Edits.{altered}
 use Rattle.lq_volume_entries.specs.Order.{insert_by, by_node, shown_pair, RisesBy}
 use Rattle.lq_volume_entries.specs.Record.{Record, Rises, entry_of}
-use Rattle.lq_volume_entries.proofs.OrderLemmas.{all_picked, all_weaker, covers-moved, moves-ordered, picked_all, picked-is, rises_map, rises_moved, rises_ordered, rises_picked, same_items}
+use Rattle.lq_volume_entries.proofs.OrderLemmas.{all_picked, covers-moved, moves-ordered, picked_all, picked-is, rises_map, rises_moved, rises_ordered, rises_picked, same_items}
 use Rattle.lq_volume_entries.proofs.RecordLemmas.{Entries, altered-absent, lookup-below, lookup-altered, lookup-filter, lookup-push, Rises-altered, Rises-filter, Rises-push}
 
 -- the node of a record
@@ -63,19 +62,6 @@ Rises-by_node es own = Rises-from_numbers (by_node es) (rises_ordered node_of es
 pub length-by_node : (es : Entries) → length (by_node es) ≡ length es
 length-by_node es = length_permutation es (by_node es) (moves-ordered node_of es)
 
--- the first node isn't below that of records in which the same is found under it
-first-not_below : (e f : ℕ × Record) (es fs : Entries) → AllByRecursion (λ g. f.0 < g.0) fs
-    → lookup (nat_eq e.0) (e ∷ es) ≡ lookup (nat_eq e.0) (f ∷ fs) → f.0 ≤ e.0
-first-not_below e f es fs above same = at (ltb e.0 f.0) refl
-  where
-    at : (b : Bool) → ltb e.0 f.0 ≡ b → f.0 ≤ e.0
-    at true is =
-        let low : e.0 < f.0 = grind (arith, nat_tests) in
-        let off = lookup-below fs e.0 (all_weaker (λ (g : ℕ × Record). f.0 < g.0) (λ g. e.0 < g.0) fs
-        (λ g l. omega arith) above) in
-        grind (arith, nat_tests)
-    at false is = grind (arith, nat_tests)
-
 -- records whose nodes rise are one where the same is found under each node
 pub same_records : (es fs : Entries) → Rises es → Rises fs
     → ((n : ℕ) → lookup (nat_eq n) es ≡ lookup (nat_eq n) fs) → es ≡ fs
@@ -83,16 +69,16 @@ same_records [] [] h k same = refl
 same_records [] (f ∷ fs) h k same = let found = same f.0 in grind (arith, nat_tests)
 same_records (e ∷ es) [] h k same = let found = same e.0 in grind (arith, nat_tests)
 same_records (e ∷ es) (f ∷ fs) h k same =
-    let low = first-not_below e f es fs k.0 (same e.0) in
-    let high = first-not_below f e fs es h.0 (sym (same f.0)) in
-    let node : e.0 ≡ f.0 = omega arith in
+    let below = lookup-below es f.0 e.0 h.0 in
+    let above = lookup-below fs e.0 f.0 k.0 in
     let here = same e.0 in
+    let there = same f.0 in
+    let node : e.0 ≡ f.0 = grind (arith, nat_tests) in
     let value : e.1 ≡ f.1 = grind (arith, nat_tests) in
-    let rest : es ≡ fs = same_records es fs h.1 k.1 (λ n. elim (cases_eq n e.0) [
-      | inl is ↦ rw is (lookup-below es e.0 h.0
-          ∙ sym (rw node (lookup-below fs f.0 k.0)))
-      | inr off ↦ let there = same n in grind (arith, nat_tests)
-    ]) in
+    let rest : es ≡ fs = same_records es fs h.1 k.1 (λ n.
+    let a = lookup-below es n e.0 h.0 in
+    let b = lookup-below fs n f.0 k.0 in
+    let at = same n in grind (arith, nat_tests)) in
     λ j. (node j, value j) ∷ rest j
 
 -- records in order are the list whose nodes rise and in which each look-up finds the same

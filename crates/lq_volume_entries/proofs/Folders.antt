@@ -58,12 +58,11 @@ found-more es dir ns i below =
       take_more ns i 0 below,
       filter_map-append (entry_in es dir) (take i ns) (get_or ns i 0 ∷ []),
     )
-    (at (filter_map (entry_in es dir) (take i ns)) (entry_in es dir (get_or ns i 0)))
+    (at (entry_in es dir (get_or ns i 0)))
   where
-    at : (found : List Entry) (e : Option Entry)
-        → with_entry found e ≡ found ++ cons_option e []
-    at found None = sym (append-nil found)
-    at found (Some e) = refl
+    at : (e : Option Entry) → with_entry (filter_map (entry_in es dir) (take i ns)) e
+        ≡ filter_map (entry_in es dir) (take i ns) ++ cons_option e []
+    at e = grind (arith, nat_tests, append-nil (filter_map (entry_in es dir) (take i ns)))
 
 -- numbers that a comparison puts in order rise
 rises_sorted : (ns : List ℕ) → IsStrictlySortedBy nat_cmp ns → RisesBy (λ n. n) ns

@@ -1,13 +1,12 @@
 -- The index: a folder has a name just where an entry is in it.
 use Rattle.std.proofs.Common.{◌≡◌, ◌↔◌, ℕ, List, refl, sym, arith, ap, ◌∙◌, Bool, true, false}
-use Rattle.std.specs.Prelude.{cond, nat_eq, Option, Some, None, is_some, ◌&&◌, ◌==◌}
+use Rattle.std.specs.Prelude.{Option, Some, None, is_some, ◌==◌}
 use Rattle.std.specs.List.{list_any}
-use Rattle.std.specs.Map.{lookup, values_of}
-use Rattle.std.specs.Option.{option_map_or}
+use Rattle.std.specs.Map.{values_of}
 use Rattle.std.proofs.lemmas.Bool.Decides.{nat_tests}
 use Rattle.lq_value.specs.NameHash.{hash_of}
-use Rattle.lq_volume_entries.specs.Record.{Record, node_in}
-use Rattle.lq_volume_entries.specs.PlaceIndex.{is_named, found, stands, IsIndex}
+use Rattle.lq_volume_entries.specs.Record.{node_in}
+use Rattle.lq_volume_entries.specs.PlaceIndex.{found, stands, IsIndex}
 use Rattle.lq_volume_entries.specs.declared.places.Places.{Places}
 use Rattle.lq_volume_entries.specs.Places.{first_in, other_in, IsNameless}
 use Rattle.lq_volume_entries.proofs.RecordLemmas.{Entries, fails-lookup}
@@ -16,14 +15,8 @@ use Rattle.lq_volume_entries.proofs.PlaceLemmas.{any-named, named-any}
 -- what stands under a hash in a folder is an entry in it
 first-any : (es : Entries) (d h x : ℕ) → stands es d h x ≡ true
     → list_any (λ r. r.dir == d) (values_of es) ≡ false → ⊥
-first-any es d h x s none = at (lookup (nat_eq x) es) refl s
-  where
-    at : (o : Option Record) → lookup (nat_eq x) es ≡ o
-        → option_map_or (λ r. (r.dir == d) && (hash_of r.name == h)) o false ≡ true → ⊥
-    at None is k = cc
-    at (Some r) is k =
-        let never = fails-lookup (λ r. r.dir == d) es x r none is in
-        grind (arith, nat_tests)
+first-any es d h x s none =
+    let never = fails-lookup (λ r. r.dir == d) es x in grind (arith, nat_tests)
 
 -- where something stands under a name, something is found
 found-other : (es : Entries) (n : List ℕ) (o : Option ℕ) (y : ℕ)

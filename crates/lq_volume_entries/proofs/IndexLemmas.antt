@@ -1,20 +1,20 @@
 -- The index: what a record more, less or altered makes of what it finds.
-use Rattle.std.proofs.Common.{◌≡◌, ℕ, List, [], ◌∷◌, ◌++◌, ◌<◌, refl, sym, arith, eqb, ap, ◌∙◌, Bool, true, false, inl, inr}
+use Rattle.std.proofs.Common.{◌≡◌, ℕ, List, [], ◌∷◌, ◌++◌, ◌<◌, refl, sym, arith, eqb, ap, ◌∙◌, Bool, true, false}
 use Rattle.std.specs.Prelude.{not, filter, cond, nat_eq, Option, Some, None, ◌&&◌, ◌==◌}
 use Rattle.std.specs.List.{AllByRecursion}
 use Rattle.std.specs.Map.{lookup}
 use Rattle.std.specs.Option.{option_map_or}
 use Rattle.std.specs.Str.{bytes_eq}
-use Rattle.std.proofs.lemmas.Bool.{cases_eq}
 use Rattle.std.proofs.lemmas.Bool.Decides.{nat_tests}
+use Rattle.std.proofs.lemmas.Slice.Eq.{bytes_eq-Decides}
 use Rattle.lq_value.specs.NameHash.{hash_of}
 use Rattle.lq_volume_entries.specs.Record.{Record, Rises, node_in}
 use Rattle.lq_volume_entries.specs.Edits.{altered}
 use Rattle.lq_volume_entries.specs.PlaceIndex.{is_named, found, stands, IsIndex, IsApart}
 use Rattle.lq_volume_entries.specs.declared.places.Places.{Places}
-use Rattle.lq_volume_entries.specs.Places.{first_in, other_in, is_first, is_open, SamePlaces, Puts, Takes}
+use Rattle.lq_volume_entries.specs.Places.{first_in, other_in, is_first, SamePlaces, Puts, Takes}
 use Rattle.lq_volume_entries.proofs.RecordLemmas.{Entries, lookup-altered, lookup-filter, lookup-push, lookup-above}
-use Rattle.lq_volume_entries.proofs.PlaceLemmas.{at-node, at-true, node_in-push, node_in-left, node_in-altered}
+use Rattle.lq_volume_entries.proofs.PlaceLemmas.{at-node, node_in-push, node_in-left, node_in-altered}
 
 -- whether a folder and a name are this place
 abbrev pub is_at : ℕ → List ℕ → ℕ → List ℕ → Bool
@@ -32,32 +32,12 @@ is_free over o = option_map_or (λ there. option_map_or (nat_eq there) over fals
 abbrev pub is_node : ℕ → Option ℕ → Bool
 is_node node o = option_map_or (λ there. there == node) o false
 
--- a place has the hash of its name
-pub hash-at : (dir : ℕ) (name : List ℕ) (d : ℕ) (n : List ℕ) → is_at dir name d n ≡ true
-    → has_hash dir name d (hash_of n) ≡ true
-hash-at dir name d n h =
-    let same = ap hash_of (at-true d dir name n h).1 in
-    grind (arith, nat_tests)
-
--- a test of what stands under a place's hash, where this matters
-at-hash : (first : ℕ → ℕ → Option ℕ) (test : Option ℕ → Bool) (dir : ℕ) (name : List ℕ)
-    (d h : ℕ) (o : Option ℕ) → first d h ≡ o → (b : Bool) → has_hash dir name d h ≡ b
-    → (test (first dir (hash_of name)) && b) ≡ (test o && b)
-at-hash first test dir name d h o was true t =
-    let folder : d ≡ dir = grind (arith, nat_tests) in
-    let hash : h ≡ hash_of name = grind (arith, nat_tests) in
-    ap (λ (z : Option ℕ). test z && true) (rw (← folder, ← hash) was)
-at-hash first test dir name d h o was false t = grind (arith, nat_tests)
-
 -- what stands under a hash after a put
 pub put-first : (p q : Places) (dir : ℕ) (name : List ℕ) (node : ℕ) (over : Option ℕ)
     → Puts p q dir name node over → (d h : ℕ) (o : Option ℕ) → first_in p d h ≡ o
     → first_in q d h ≡ cond (is_free over o && has_hash dir name d h) (Some node) o
 put-first p q dir name node over puts d h o was =
-    puts.first d h
-    ∙ (ap (λ (b : Bool). cond b (Some node) (first_in p d h))
-    (at-hash (first_in p) (is_free over) dir name d h o was (has_hash dir name d h) refl)
-    ∙ ap (λ (z : Option ℕ). cond (is_free over o && has_hash dir name d h) (Some node) z) was)
+    let now = puts.first d h in grind (arith, nat_tests)
 
 -- what stands under a name after a put
 pub put-other : (p q : Places) (dir : ℕ) (name : List ℕ) (node : ℕ) (over : Option ℕ)
@@ -65,14 +45,9 @@ pub put-other : (p q : Places) (dir : ℕ) (name : List ℕ) (node : ℕ) (over 
     → first_in p d (hash_of n) ≡ o
     → other_in q d n ≡ cond (not (is_free over o) && is_at dir name d n) (Some node) (other_in p d n)
 put-other p q dir name node over puts d n o was =
-    puts.others d n ∙ ap (λ (b : Bool). cond b (Some node) (other_in p d n)) (go (is_at dir name d n) refl)
-  where
-    go : (b : Bool) → is_at dir name d n ≡ b
-        → (not (is_open p dir name over) && b) ≡ (not (is_free over o) && b)
-    go true t =
-        let same = at-true d dir name n t in
-        ap (λ (z : Option ℕ). not (is_free over z) && true) (rw (← same.0, same.1) was)
-    go false t = grind (arith, nat_tests)
+    let now = puts.others d n in
+    let same = bytes_eq-Decides name n in
+    grind (arith, nat_tests)
 
 -- what stands under a hash after a node was taken from its place
 pub take-first : (p mid q : Places) (dir : ℕ) (name : List ℕ) (node : ℕ)
@@ -80,8 +55,7 @@ pub take-first : (p mid q : Places) (dir : ℕ) (name : List ℕ) (node : ℕ)
     → first_in p d h ≡ o
     → first_in q d h ≡ cond (is_node node o && has_hash dir name d h) None (first_in mid d h)
 take-first p mid q dir name node takes d h o was =
-    takes.first d h ∙ ap (λ (b : Bool). cond b None (first_in mid d h))
-    (at-hash (first_in p) (is_node node) dir name d h o was (has_hash dir name d h) refl)
+    let now = takes.first d h in grind (arith, nat_tests)
 
 -- what was found at a place, by what stood there
 pub had-at : (p : Places) (es : Entries) → IsIndex p es → (d : ℕ) (n : List ℕ) (o : Option ℕ)
@@ -128,16 +102,12 @@ module _ (p q : Places) (es : Entries) (k : ℕ) (v : Record) (i : IsIndex p es)
       → found more n (first_in q d (hash_of n)) (other_in q d n) ≡ node_in more d n
   added-finds d n = go (first_in p d (hash_of n)) refl
     where
-      -- no other node has the new place
-      empty : is_at v.dir v.name d n ≡ true → node_in es d n ≡ None
-      empty h = let t = at-true d v.dir v.name n h in rw (t.0, ← t.1) free
-
       go : (o : Option ℕ) → first_in p d (hash_of n) ≡ o
           → found more n (first_in q d (hash_of n)) (other_in q d n) ≡ node_in more d n
       go None was =
           let f = put-first p q v.dir v.name k None puts d (hash_of n) None was in
           let g = put-other p q v.dir v.name k None puts d n None was in
-          let hash = hash-at v.dir v.name d n in
+          let same = bytes_eq-Decides v.name n in
           let named : is_named more n k ≡ bytes_eq v.name n = rw look-new refl in
           let step = node_in-push es k v d n free in
           let had = had-at p es i d n None was in
@@ -147,7 +117,8 @@ module _ (p q : Places) (es : Entries) (k : ℕ) (v : Record) (i : IsIndex p es)
           let g = put-other p q v.dir v.name k None puts d n (Some x) was in
           let old = look-old d (hash_of n) x (i.sound d (hash_of n) x was) in
           let named : is_named more n x ≡ is_named es n x = rw old refl in
-          let none = empty in
+          let same = bytes_eq-Decides v.name n in
+          let none = free in
           let step = node_in-push es k v d n free in
           let had = had-at p es i d n (Some x) was in
           grind (arith, nat_tests)
@@ -186,26 +157,6 @@ module _ (p q : Places) (es : Entries) (k : ℕ) (r : Record) (rise : Rises es) 
   abbrev fewer : Entries
   fewer = filter (λ e. not (eqb e.0 k)) es
 
-  -- another node is looked up as before
-  look-other : (x : ℕ) → (x ≡ k → ⊥) → lookup (nat_eq x) fewer ≡ lookup (nat_eq x) es
-  look-other x differs = let l = lookup-filter es k x in grind (arith, nat_tests)
-
-  -- it stands under its hash no more
-  goes : (d h : ℕ) → first_in p d h ≡ Some k
-      → (first_in q d h ≡ None) × (has_hash r.dir r.name d h ≡ true)
-  goes d h was =
-      let f = take-first p p q r.dir r.name k takes d h (Some k) was in
-      let s = i.sound d h k was in
-      let there = is in
-      (grind (arith, nat_tests), grind (arith, nat_tests))
-
-  -- and no other under its hash is gone
-  stays : (d h : ℕ) (o : Option ℕ) → is_node k o ≡ false → first_in p d h ≡ o
-      → first_in q d h ≡ o
-  stays d h o off was =
-      let f = take-first p p q r.dir r.name k takes d h o was in
-      grind (arith, nat_tests)
-
   -- what is found at a place
   taken-finds : (d : ℕ) (n : List ℕ)
       → found fewer n (first_in q d (hash_of n)) (other_in q d n) ≡ node_in fewer d n
@@ -214,44 +165,36 @@ module _ (p q : Places) (es : Entries) (k : ℕ) (r : Record) (rise : Rises es) 
       go : (o : Option ℕ) → first_in p d (hash_of n) ≡ o
           → found fewer n (first_in q d (hash_of n)) (other_in q d n) ≡ node_in fewer d n
       go None was =
-          let f = stays d (hash_of n) None refl was in
+          let f = take-first p p q r.dir r.name k takes d (hash_of n) None was in
           let g = takes.others d n in
           let step = node_in-left es k r rise apart is d n in
           let had = had-at p es i d n None was in
           grind (arith, nat_tests)
       go (Some x) was =
+          let f = take-first p p q r.dir r.name k takes d (hash_of n) (Some x) was in
           let g = takes.others d n in
           let step = node_in-left es k r rise apart is d n in
-          elim (cases_eq x k) [
-            | inl same ↦
-                let f = goes d (hash_of n) (was ∙ ap Some same) in
-                let had = had-at p es i d n (Some k) (was ∙ ap Some same) in
-                let there = is in
-                grind (arith, nat_tests)
-            | inr differs ↦
-                let f = stays d (hash_of n) (Some x) (grind (arith, nat_tests)) was in
-                let had = had-at p es i d n (Some x) was in
-                let named : is_named fewer n x ≡ is_named es n x =
-                rw (look-other x (λ e. differs e)) refl in
-                let itself = at-node es k r rise apart is d n in
-                grind (arith, nat_tests)
-          ]
+          let had = had-at p es i d n (Some x) was in
+          let itself = at-node es k r rise apart is d n in
+          let look = lookup-filter es k x in
+          let s = i.sound d (hash_of n) x was in
+          let there = is in
+          grind (arith, nat_tests)
 
   -- what stands under a hash
   taken-sound : (d h x : ℕ) → first_in q d h ≡ Some x → stands fewer d h x ≡ true
   taken-sound d h x now = go (first_in p d h) refl
     where
       go : (o : Option ℕ) → first_in p d h ≡ o → stands fewer d h x ≡ true
-      go None was = absurd (let f = stays d h None refl was in cc)
-      go (Some y) was = elim (cases_eq y k) [
-        | inl same ↦ absurd (let f = (goes d h (was ∙ ap Some same)).0 in cc)
-        | inr differs ↦
-            let f = stays d h (Some y) (grind (arith, nat_tests)) was in
-            let e : y ≡ x = cc in
-            let look = look-other x (λ j. differs (e ∙ j)) in
-            let s = i.sound d h x (was ∙ ap Some e) in
-            rw look s
-      ]
+      go None was =
+          let f = take-first p p q r.dir r.name k takes d h None was in
+          grind (arith, nat_tests)
+      go (Some y) was =
+          let f = take-first p p q r.dir r.name k takes d h (Some y) was in
+          let s = i.sound d h y was in
+          let look = lookup-filter es k y in
+          let there = is in
+          grind (arith, nat_tests)
 
   -- it is an index of the records with one less
   pub index-taken : IsIndex q fewer
@@ -263,23 +206,8 @@ pub index-altered : (p : Places) (es : Entries) (k : ℕ) (f : Record → Record
     → IsIndex p (altered k f es)
 index-altered p es k f i dirs names = record {
   finds = λ d n. found-by es (altered k f es) n (first_in p d (hash_of n)) (other_in p d n)
-      (λ x is. same (λ e m. bytes_eq m n) x) ∙ i.finds d n ∙ sym (node_in-altered es k f dirs names d n);
-  sound = λ d h x is. same (λ e m. (e == d) && (hash_of m == h)) x ∙ i.sound d h x is;
+      (λ x is. let l = lookup-altered es k f x in grind (arith, nat_tests))
+      ∙ i.finds d n ∙ sym (node_in-altered es k f dirs names d n);
+  sound = λ d h x is.
+      let l = lookup-altered es k f x in let s = i.sound d h x is in grind (arith, nat_tests);
 }
-  where
-    -- a test of folder and name passes as before
-    same : (test : ℕ → List ℕ → Bool) (x : ℕ)
-        → option_map_or (λ (r : Record). test r.dir r.name) (lookup (nat_eq x) (altered k f es)) false
-        ≡ option_map_or (λ (r : Record). test r.dir r.name) (lookup (nat_eq x) es) false
-    same test x = at (lookup (nat_eq x) es) refl
-      where
-        at : (o : Option Record) → lookup (nat_eq x) es ≡ o
-            → option_map_or (λ (r : Record). test r.dir r.name)
-            (lookup (nat_eq x) (altered k f es)) false
-            ≡ option_map_or (λ (r : Record). test r.dir r.name) (lookup (nat_eq x) es) false
-        at None is = let l = lookup-altered es k f x in grind (arith, nat_tests)
-        at (Some r) is =
-            let l = lookup-altered es k f x in
-            let m = names r in
-            let e = dirs r in
-            grind (arith, nat_tests)

@@ -1,10 +1,9 @@
 -- The index: what a move makes of what it finds.
-use Rattle.std.proofs.Common.{◌≡◌, ℕ, List, [], ◌∷◌, refl, sym, arith, ap, ◌∙◌, Bool, true, false, inl, inr}
+use Rattle.std.proofs.Common.{◌≡◌, ℕ, List, refl, arith, ap, ◌∙◌, Bool, true, false}
 use Rattle.std.specs.Prelude.{not, cond, nat_eq, Option, Some, None, ◌&&◌, ◌==◌}
 use Rattle.std.specs.Map.{lookup}
 use Rattle.std.specs.Option.{option_map_or}
 use Rattle.std.specs.Str.{bytes_eq}
-use Rattle.std.proofs.lemmas.Bool.{cases_eq}
 use Rattle.std.proofs.lemmas.Bool.Decides.{nat_tests}
 use Rattle.std.proofs.lemmas.Slice.Eq.{bytes_eq-Decides}
 use Rattle.lq_value.specs.NameHash.{hash_of}
@@ -16,7 +15,7 @@ use Rattle.lq_volume_entries.specs.Places.{first_in, other_in, is_first, Puts, T
 use Rattle.lq_volume_entries.proofs.RecordLemmas.{Entries, lookup-altered, node_in-some, Rises-altered}
 use Rattle.lq_volume_entries.proofs.ByNode.{same_records}
 use Rattle.lq_volume_entries.proofs.PlaceLemmas.{at-node, at-true, goes-there, look-new, node_in-moved, stays, uniq}
-use Rattle.lq_volume_entries.proofs.IndexLemmas.{had-at, has_hash, hash-at, is_at, is_free, is_node, put-first, put-other, take-first}
+use Rattle.lq_volume_entries.proofs.IndexLemmas.{had-at, has_hash, is_at, is_free, is_node, put-first, put-other, take-first}
 
 -- one node at another place, and perhaps another taken away
 module _ (p mid q : Places) (es : Entries) (node dir : ℕ) (name : List ℕ) (other : Option ℕ)
@@ -47,23 +46,15 @@ module _ (p mid q : Places) (es : Entries) (node dir : ℕ) (name : List ℕ) (o
       ∙ ap (λ (z : Option ℕ). cond (is_node node o && has_hash r.dir r.name d h) None z)
       (put-first p mid dir name node other puts d h o was)
 
-  -- where the node stood nothing stands
-  left : (d h : ℕ) → first_in p d h ≡ Some node
-      → (first_in q d h ≡ None) × (has_hash r.dir r.name d h ≡ true)
-  left d h was =
-      let f = after d h (Some node) was in
-      let s = i.sound d h node was in
-      let there = is in
-      (grind (arith, nat_tests), grind (arith, nat_tests))
-
   -- where the node stood that goes the node stands
-  replaced : (d h x : ℕ) → (x == node) ≡ false → goes x ≡ true → first_in p d h ≡ Some x
+  replaced : (d h x : ℕ) → goes x ≡ true → first_in p d h ≡ Some x
       → (first_in q d h ≡ Some node) × (has_hash dir name d h ≡ true)
       × ((n : List ℕ) → is_named es n x ≡ bytes_eq name n)
-  replaced d h x off gone was =
+  replaced d h x gone was =
+      let kept = stays es node dir name other r rise m is in
       let f = after d h (Some x) was in
       let s = i.sound d h x was in
-      let goes_x : other ≡ Some x = goes-is other gone in
+      let goes_x : other ≡ Some x = grind (arith, nat_tests) in
       let w = node_in-some es dir name x rise (goes-there es node dir name other r rise m is x goes_x) in
       let there = w.1 in
       let hash : hash_of w.0.name ≡ hash_of name = ap hash_of w.3 in
@@ -73,10 +64,6 @@ module _ (p mid q : Places) (es : Entries) (node dir : ℕ) (name : List ℕ) (o
         new,
         (λ n. rw w.1 (ap (λ (a : List ℕ). bytes_eq a n) w.3)),
       )
-    where
-      goes-is : (o : Option ℕ) → option_map_or (nat_eq x) o false ≡ true → o ≡ Some x
-      goes-is None k = cc
-      goes-is (Some y) k = grind (arith, nat_tests)
 
   -- no place is both the old and the new one
   not-both : (d : ℕ) (n : List ℕ) → is_at r.dir r.name d n ≡ true → is_at dir name d n ≡ false
@@ -119,41 +106,29 @@ module _ (p mid q : Places) (es : Entries) (node dir : ℕ) (name : List ℕ) (o
       go None was =
           let f = after d (hash_of n) None was in
           let g = others None was in
-          let hash = hash-at dir name d n in
+          let same = bytes_eq-Decides name n in
           let named = new-named in
           let had = had-at p es i d n None was in
           let now = step in
           grind (arith, nat_tests)
-      go (Some x) was = elim (cases_eq x node) [
-        | inl same ↦
-            let f = left d (hash_of n) (was ∙ ap Some same) in
-            let g = others (Some node) (was ∙ ap Some same) in
-            let had = had-at p es i d n (Some node) (was ∙ ap Some same) in
-            let kept = stays es node dir name other r rise m is in
-            let there = is in
-            let both = not-both d n in
-            let now = step in
-            grind (arith, nat_tests)
-        | inr differs ↦ other-stood x (grind (arith, nat_tests)) was (goes x) refl
-      ]
+      go (Some x) was = at (goes x) refl
         where
-          other-stood : (y : ℕ) → (y == node) ≡ false → first_in p d (hash_of n) ≡ Some y
-              → (b : Bool) → goes y ≡ b
+          at : (b : Bool) → goes x ≡ b
               → found moved n (first_in q d (hash_of n)) (other_in q d n) ≡ node_in moved d n
-          other-stood y off stood true gone =
-              let f = replaced d (hash_of n) y off gone stood in
-              let old-named = f.2 n in
-              let g = others (Some y) stood in
+          at true gone =
+              let f = replaced d (hash_of n) x gone was in
+              let old_name = f.2 n in
+              let g = others (Some x) was in
               let named = new-named in
-              let had = had-at p es i d n (Some y) stood in
+              let had = had-at p es i d n (Some x) was in
               let now = step in
               grind (arith, nat_tests)
-          other-stood y off stood false kept =
-              let f = after d (hash_of n) (Some y) stood in
-              let g = others (Some y) stood in
-              let l = look y in
-              let named : is_named moved n y ≡ is_named es n y = grind (arith, nat_tests) in
-              let had = had-at p es i d n (Some y) stood in
+          at false kept =
+              let f = after d (hash_of n) (Some x) was in
+              let g = others (Some x) was in
+              let l = look x in
+              let s = i.sound d (hash_of n) x was in
+              let had = had-at p es i d n (Some x) was in
               let itself = at-node es node r rise m.apart is d n in
               let there = there-goes d n in
               let both = not-both d n in
@@ -171,26 +146,22 @@ module _ (p mid q : Places) (es : Entries) (node dir : ℕ) (name : List ℕ) (o
           (let k = look node in grind (arith, nat_tests)) in
           rw (← itself, l) (grind (arith, nat_tests))
 
-      other-stood : (y : ℕ) → (y == node) ≡ false → first_in p d h ≡ Some y → (b : Bool)
-          → goes y ≡ b → stands moved d h x ≡ true
-      other-stood y off was true gone =
-          let f = replaced d h y off gone was in
-          here f.1 (let first = f.0 in cc)
-      other-stood y off was false kept =
-          let f = after d h (Some y) was in
-          let same : y ≡ x = grind (arith, nat_tests) in
-          let l : lookup (nat_eq y) moved ≡ lookup (nat_eq y) es =
-          (let k = look y in grind (arith, nat_tests)) in
-          rw (← same, l) (i.sound d h y was)
-
       go : (o : Option ℕ) → first_in p d h ≡ o → stands moved d h x ≡ true
       go None was =
           let f = after d h None was in
           here (grind (arith, nat_tests)) (grind (arith, nat_tests))
-      go (Some y) was = elim (cases_eq y node) [
-        | inl same ↦ absurd (let f = (left d h (was ∙ ap Some same)).0 in cc)
-        | inr differs ↦ other-stood y (grind (arith, nat_tests)) was (goes y) refl
-      ]
+      go (Some y) was = at (goes y) refl
+        where
+          at : (b : Bool) → goes y ≡ b → stands moved d h x ≡ true
+          at true gone =
+              let f = replaced d h y gone was in
+              here f.1 (let first = f.0 in cc)
+          at false kept =
+              let f = after d h (Some y) was in
+              let s = i.sound d h y was in
+              let l = look y in
+              let there = is in
+              grind (arith, nat_tests)
 
   -- it is an index of the records after the move
   pub index-moved : IsIndex q moved

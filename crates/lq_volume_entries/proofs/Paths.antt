@@ -1,13 +1,12 @@
 -- The path of a node: the names on the walk up to the root lead down again.
-use Rattle.std.proofs.Common.{◌≡◌, ℕ, suc, List, [], ◌∷◌, ◌++◌, refl, sym, arith, ◌∙◌, true, inl, inr}
+use Rattle.std.proofs.Common.{◌≡◌, ℕ, suc, List, [], ◌∷◌, ◌++◌, refl, sym, ◌∙◌, true, inl, inr}
 use Rattle.std.specs.Prelude.{nat_eq, reverse, Some, None}
 use Rattle.std.specs.Map.{lookup}
 use Rattle.std.proofs.lemmas.Bool.{cases_eq}
-use Rattle.std.proofs.lemmas.Bool.Decides.{nat_tests}
 use Rattle.std.proofs.lemmas.List.{reverse-append}
 use Rattle.lq_volume_entries.specs.Folder.{CanClimb, Leads}
 use Rattle.lq_volume_entries.specs.Record.{Record, Rises, climbs, dir_of, root, node_in}
-use Rattle.lq_volume_entries.proofs.Steps.{climbs-on, climbs-top, dir_of-none, dir_of-some}
+use Rattle.lq_volume_entries.proofs.Steps.{climbs-on, climbs-top}
 use Rattle.lq_volume_entries.proofs.PlaceLemmas.{uniq}
 use Rattle.lq_volume_entries.proofs.RecordLemmas.{Entries}
 
@@ -17,7 +16,7 @@ pub ends-at_root : (n : ℕ) (es : Entries) (at : ℕ) → climbs n (dir_of es) 
 ends-at_root n es at within none = elim (cases_eq at root) [
   | inl same ↦ same
   | inr off ↦
-      let never = climbs-top n (dir_of es) root at off (dir_of-none es at none) in
+      let never = climbs-top n es root at off none in
       absurd cc
 ]
 
@@ -33,8 +32,7 @@ pub reaches-on : (n : ℕ) (es : Entries) (at : ℕ) (r : Record) → lookup (na
     → Some r ≡ lookup (nat_eq at) es → climbs (suc n) (dir_of es) root at ≡ true
     → climbs n (dir_of es) root r.dir ≡ true
 reaches-on n es at r none is within =
-    sym (climbs-on n (dir_of es) root at r.dir (isn't-root es at r none is)
-    (dir_of-some es at r is)) ∙ within
+    sym (climbs-on n es root at r (isn't-root es at r none is) is) ∙ within
 
 -- a name more leads from the folder above
 pub Leads-up : (es : Entries) (at from : ℕ) (r : Record) (names : List (List ℕ)) → Rises es

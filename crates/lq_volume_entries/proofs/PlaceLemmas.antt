@@ -3,13 +3,13 @@ use Rattle.std.proofs.Common.{◌≡◌, ℕ, ◌<◌, List, [], ◌∷◌, ◌+
 use Rattle.std.specs.Prelude.{not, filter, cond, nat_eq, Option, Some, None, is_some, ◌&&◌, ◌==◌}
 use Rattle.std.specs.List.{AllByRecursion, list_any}
 use Rattle.std.specs.Map.{lookup, values_of}
-use Rattle.std.specs.Option.{option_map, option_map_or}
+use Rattle.std.specs.Option.{option_map_or}
 use Rattle.std.specs.Str.{bytes_eq}
 use Rattle.std.proofs.lemmas.Bool.{cases_eq}
 use Rattle.std.proofs.lemmas.Bool.Decides.{nat_tests}
 use Rattle.std.proofs.lemmas.Slice.Eq.{bytes_eq-Decides}
 use Rattle.lq_volume_entries.specs.Record.{Record, Rises, node_in}
-use Rattle.lq_volume_entries.specs.Edits.{altered, at_place, without, other_than}
+use Rattle.lq_volume_entries.specs.Edits.{altered, at_place, without}
 use Rattle.lq_volume_entries.specs.PlaceIndex.{IsApart, CanMove}
 use Rattle.lq_volume_entries.proofs.RecordLemmas.{Entries, lookup-above, lookup-altered, lookup-filter, node_in-some, node_in-none, Rises-filter, Rises-without, Rises-front}
 
@@ -73,46 +73,46 @@ module _ (es : Entries) (k : ℕ) (r : Record) (rise : Rises es) (apart : IsApar
   -- the node has its place and no other
   pub at-node : (d : ℕ) (n : List ℕ)
       → ((d == r.dir) && bytes_eq r.name n) ≡ option_map_or (nat_eq k) (node_in es d n) false
-  at-node d n = go (node_in es d n) refl ((d == r.dir) && bytes_eq r.name n) refl
+  at-node d n = go (node_in es d n) refl
     where
-      go : (o : Option ℕ) → node_in es d n ≡ o → (b : Bool)
-          → ((d == r.dir) && bytes_eq r.name n) ≡ b → b ≡ option_map_or (nat_eq k) o false
-      go o found true at =
-          let t = at-true d r.dir r.name n at in
-          let there : o ≡ Some k = uniq es k r o rise apart is (rw (← t.0, t.1) found) in
-          rw there (grind (arith, nat_tests))
-      go None found false at = refl
-      go (Some x) found false at =
-          let w = node_in-some es d n x rise found in
+      go : (o : Option ℕ) → node_in es d n ≡ o
+          → ((d == r.dir) && bytes_eq r.name n) ≡ option_map_or (nat_eq k) o false
+      go None found =
           let same = bytes_eq-Decides r.name n in
+          let none = node_in-none es d n k r found is in
+          grind (arith, nat_tests)
+      go (Some x) found =
+          let same = bytes_eq-Decides r.name n in
+          let w = node_in-some es d n x rise found in
           let look = w.1 in
           let dir = w.2 in
           let name = w.3 in
+          let one = apart x k w.0 r w.1 is in
           grind (arith, nat_tests)
-
-  -- no node is left at its place
-  left-gone : (d : ℕ) (n : List ℕ) (o : Option ℕ) → d ≡ r.dir → r.name ≡ n
-      → node_in left d n ≡ o → o ≡ None
-  left-gone d n None e f found = refl
-  left-gone d n (Some x) e f found =
-      let w = node_in-some left d n x (Rises-filter (λ e. not (eqb e.0 k)) es rise) found in
-      let look = w.1 in
-      let l = lookup-filter es k x in
-      let old : lookup (nat_eq x) es ≡ Some w.0 = grind (arith, nat_tests) in
-      let same = apart x k w.0 r old is (w.2 ∙ e) (w.3 ∙ sym f) in
-      absurd (grind (arith, nat_tests))
 
   -- with one record less, its place is free and no other place changes
   pub node_in-left : (d : ℕ) (n : List ℕ)
       → cond ((d == r.dir) && bytes_eq r.name n) None (node_in es d n) ≡ node_in left d n
-  node_in-left d n = go ((d == r.dir) && bytes_eq r.name n) refl
+  node_in-left d n = go (node_in left d n) refl
     where
-      go : (b : Bool) → ((d == r.dir) && bytes_eq r.name n) ≡ b
-          → cond b None (node_in es d n) ≡ node_in left d n
-      go true h =
-          let t = at-true d r.dir r.name n h in
-          sym (left-gone d n (node_in left d n) t.0 t.1 refl)
-      go false h = sym (left-same es k d n (sym (at-node d n) ∙ h))
+      go : (o : Option ℕ) → node_in left d n ≡ o
+          → cond ((d == r.dir) && bytes_eq r.name n) None (node_in es d n) ≡ node_in left d n
+      go None found =
+          let itself = at-node d n in
+          let same = left-same es k d n in
+          grind (arith, nat_tests)
+      go (Some x) found =
+          let itself = at-node d n in
+          let same = left-same es k d n in
+          let w = node_in-some left d n x (Rises-filter (λ e. not (eqb e.0 k)) es rise) found in
+          let look = w.1 in
+          let dir = w.2 in
+          let name = w.3 in
+          let old = lookup-filter es k x in
+          let one = apart x k w.0 r in
+          let there = is in
+          let names = bytes_eq-Decides r.name n in
+          grind (arith, nat_tests)
 
 -- a node that has no record, taken out
 pub node_in-absent : (es : Entries) (k : ℕ) → lookup (nat_eq k) es ≡ None
@@ -188,17 +188,6 @@ look-without : (other : Option ℕ) (es : Entries) (x : ℕ) → lookup (nat_eq 
 look-without None es x = refl
 look-without (Some k) es x = lookup-filter es k x
 
--- the other node at a place isn't the node itself
-not-itself : (node : ℕ) (o : Option ℕ)
-    → option_map_or (nat_eq node) (other_than node o) false ≡ false
-not-itself node None = refl
-not-itself node (Some x) = grind (arith, nat_tests)
-
--- it is the one found there
-other-there : (node x : ℕ) (o : Option ℕ) → other_than node o ≡ Some x → o ≡ Some x
-other-there node x None h = cc
-other-there node x (Some y) h = grind (arith, nat_tests)
-
 -- one node at another place, and perhaps another taken away
 module _ (es : Entries) (node dir : ℕ) (name : List ℕ) (other : Option ℕ)
     (r : Record) (rise : Rises es) (m : CanMove es node dir name other)
@@ -213,11 +202,11 @@ module _ (es : Entries) (node dir : ℕ) (name : List ℕ) (other : Option ℕ)
 
   -- the node that moves doesn't go
   pub stays : option_map_or (nat_eq node) other false ≡ false
-  stays = rw m.other_is (not-itself node (node_in es dir name))
+  stays = let o = m.other_is in grind (arith, nat_tests)
 
   -- the node that goes is the one at the new place
   pub goes-there : (x : ℕ) → other ≡ Some x → node_in es dir name ≡ Some x
-  goes-there x goes = other-there node x (node_in es dir name) (sym m.other_is ∙ goes)
+  goes-there x goes = let o = m.other_is in grind (arith, nat_tests)
 
   -- the node that moves is among the others
   look-node : lookup (nat_eq node) others ≡ Some r
@@ -231,14 +220,8 @@ module _ (es : Entries) (node dir : ℕ) (name : List ℕ) (other : Option ℕ)
   look-new x =
       let l = lookup-altered others node (at_place dir name) x in
       let k = look-without other es x in
-      elim (cases_eq x node) [
-        | inl same ↦
-            let here : option_map (at_place dir name) (lookup (nat_eq x) others)
-            ≡ Some (at_place dir name r) =
-            rw same (ap (option_map (at_place dir name)) look-node) in
-            grind (arith, nat_tests)
-        | inr off ↦ grind (arith, nat_tests)
-      ]
+      let here = look-node in
+      grind (arith, nat_tests)
 
   -- no two of the others share a place
   apart-others : IsApart others
@@ -264,28 +247,13 @@ module _ (es : Entries) (node dir : ℕ) (name : List ℕ) (other : Option ℕ)
   pub node_in-moved : (d : ℕ) (n : List ℕ) → node_in new d n
       ≡ cond ((d == dir) && bytes_eq name n) (Some node)
       (cond ((d == r.dir) && bytes_eq r.name n) None (node_in es d n))
-  node_in-moved d n = go ((d == dir) && bytes_eq name n) refl
-    where
-      -- what is found without the node itself
-      rest : cond ((d == r.dir) && bytes_eq r.name n) None (node_in others d n)
-          ≡ node_in (filter (λ e. not (eqb e.0 node)) others) d n
-      rest =
-          node_in-left others node r (Rises-without other es rise) apart-others look-node d n
-
-      go : (b : Bool) → ((d == dir) && bytes_eq name n) ≡ b → node_in new d n
-          ≡ cond b (Some node) (cond ((d == r.dir) && bytes_eq r.name n) None (node_in es d n))
-      go false off =
-          let l = rest in
-          let o = node_in-others d n in
-          let p = placed-off others node dir name d n off in
-          grind (arith, nat_tests)
-      go true here =
-          let t = at-true d dir name n here in
-          let l = rest in
-          let o = node_in-others d n in
-          let itself = at-node es node r rise m.apart is d n in
-          let other_is : other ≡ other_than node (node_in es d n) =
-          rw (t.0, ← t.1) m.other_is in
-          let free : node_in (filter (λ e. not (eqb e.0 node)) others) d n ≡ None =
-          grind (arith, nat_tests) in
-          placed-here others node dir name d n here (ap is_some look-node) free
+  node_in-moved d n =
+      let left = node_in-left others node r (Rises-without other es rise) apart-others look-node d n in
+      let without_other = node_in-others d n in
+      let off = placed-off others node dir name d n in
+      let here = placed-here others node dir name d n in
+      let there = look-node in
+      let itself = at-node es node r rise m.apart is d n in
+      let other_is = m.other_is in
+      let names = bytes_eq-Decides name n in
+      grind (arith, nat_tests)

@@ -1,5 +1,5 @@
 -- What one more node at the end, and one node less, make of entries whose nodes rise.
-use Rattle.std.proofs.Common.{◌≡◌, ℕ, ◌<◌, Result, List, [], ◌∷◌, ◌++◌, refl, arith, eqb}
+use Rattle.std.proofs.Common.{◌≡◌, ℕ, ◌<◌, ◌≤◌, Result, List, [], ◌∷◌, ◌++◌, refl, arith, eqb}
 use Rattle.std.specs.Prelude.{not, ◌&&◌, ◌==◌, filter, Bool, true, false, cond, nat_eq, Option, Some, None, Ok, Err, OnErr}
 use Rattle.std.specs.Option.{option_map}
 use Rattle.std.specs.List.{AllByRecursion, list_any}
@@ -88,10 +88,10 @@ Rises-altered k g [] h = tt
 Rises-altered k g (e ∷ es) h = (All-altered (λ n. e.0 < n) k g es h.0, Rises-altered k g es h.1)
 
 -- a node below all others is not found among them
-pub lookup-below : (es : Entries) (k : ℕ) → AllByRecursion (λ f. k < f.0) es
+pub lookup-below : (es : Entries) (k m : ℕ) → AllByRecursion (λ f. m < f.0) es → k ≤ m
     → lookup (nat_eq k) es ≡ None
-lookup-below [] k h = refl
-lookup-below (e ∷ es) k h = grind (arith, nat_tests, lookup-below es k h.1)
+lookup-below [] k m h low = refl
+lookup-below (e ∷ es) k m h low = grind (arith, nat_tests, lookup-below es k m h.1, h.0)
 
 -- nor is one above all others
 pub lookup-above : (es : Entries) (k : ℕ) → AllByRecursion (λ f. f.0 < k) es
@@ -136,7 +136,7 @@ node_in-some (e ∷ es) dir name x h found =
     at hyp false is =
         let rest : HasPlace es x dir name = hyp (grind (arith, nat_tests)) in
         let l = rest.1 in
-        let off = lookup-below es e.0 h.0 in
+        let off = lookup-below es e.0 e.0 h.0 (omega arith) in
         (rest.0, grind (arith, nat_tests), rest.2, rest.3)
 
 -- where no node is found at a place, no record has it

@@ -1,8 +1,7 @@
-use Rattle.std.proofs.Common.{arith, sym}
+use Rattle.std.proofs.Common.{arith}
 use Rattle.std.proofs.lemmas.Grind.{common_steps}
 use Rattle.std.proofs.lemmas.Bool.Decides.{nat_tests}
 use Rattle.std.proofs.lemmas.Map.Text.{is_eq-slice_cmp}
-use Rattle.lq_volume_entries.proofs.Options.{not-there}
 use Rattle.lq_volume_entries.proofs.places.Places.put_other.Goals as goal
 
 pub returns-in_ok-insert-clause-ok : goal.returns-in_ok-insert-clause-ok
@@ -18,4 +17,4 @@ returns-in_ok-insert-clause-ok c = record {
 
 pub returns-in_default-clause-ok : goal.returns-in_default-clause-ok
 returns-in_default-clause-ok c =
-    absurd (not-there _ (sym c.in_default.ensures.value) c.requires)
+    let clash = rw (← c.in_default.ensures.value) at c.requires in absurd cc
