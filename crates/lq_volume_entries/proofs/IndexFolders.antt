@@ -1,27 +1,16 @@
 -- The index: a folder has a name just where an entry is in it.
-use Rattle.std.proofs.Common.{◌≡◌, ◌↔◌, ℕ, List, refl, sym, arith, ap, ◌∙◌, Bool, true, false}
+use Rattle.std.proofs.Common.{◌≡◌, ◌↔◌, ℕ, List, refl, arith, Bool, true, false}
 use Rattle.std.specs.Prelude.{Option, Some, None, is_some, ◌==◌}
 use Rattle.std.specs.List.{list_any}
 use Rattle.std.specs.Map.{values_of}
 use Rattle.std.proofs.lemmas.Bool.Decides.{nat_tests}
 use Rattle.lq_value.specs.NameHash.{hash_of}
 use Rattle.lq_volume_entries.specs.Record.{node_in}
-use Rattle.lq_volume_entries.specs.PlaceIndex.{found, stands, IsIndex}
+use Rattle.lq_volume_entries.specs.PlaceIndex.{IsIndex}
 use Rattle.lq_volume_entries.specs.declared.places.Places.{Places}
 use Rattle.lq_volume_entries.specs.Places.{first_in, other_in, IsNameless}
 use Rattle.lq_volume_entries.proofs.RecordLemmas.{Entries, fails-lookup}
 use Rattle.lq_volume_entries.proofs.PlaceLemmas.{any-named, named-any}
-
--- what stands under a hash in a folder is an entry in it
-first-any : (es : Entries) (d h x : ℕ) → stands es d h x ≡ true
-    → list_any (λ r. r.dir == d) (values_of es) ≡ false → ⊥
-first-any es d h x s none =
-    let never = fails-lookup (λ r. r.dir == d) es x in grind (arith, nat_tests)
-
--- where something stands under a name, something is found
-found-other : (es : Entries) (n : List ℕ) (o : Option ℕ) (y : ℕ)
-    → is_some (found es n o (Some y)) ≡ true
-found-other es n o y = grind (arith, nat_tests)
 
 -- a folder has a name just where an entry is in it
 pub has_names-is : (p : Places) (es : Entries) (dir : ℕ) (has : Bool) → IsIndex p es
@@ -33,19 +22,19 @@ has_names-is p es dir has i nameless =
     by-first : list_any (λ r. r.dir == dir) (values_of es) ≡ false → (h : ℕ) (o : Option ℕ)
         → first_in p dir h ≡ o → o ≡ None
     by-first none h None is = refl
-    by-first none h (Some x) is = absurd (first-any es dir h x (i.sound dir h x is) none)
+    by-first none h (Some x) is =
+        let s = i.sound dir h x is in
+        let never = fails-lookup (λ r. r.dir == dir) es x in
+        absurd (grind (arith, nat_tests))
 
     -- nothing is under a name there
     by-other : list_any (λ r. r.dir == dir) (values_of es) ≡ false → (n : List ℕ) (o : Option ℕ)
         → other_in p dir n ≡ o → o ≡ None
     by-other none n None is = refl
     by-other none n (Some y) is =
-        let has = found-other es n (first_in p dir (hash_of n)) y in
-        let there : is_some (node_in es dir n) ≡ true =
-        sym (ap is_some (sym (ap (found es n (first_in p dir (hash_of n))) is) ∙ i.finds dir n))
-        ∙ has in
-        let any = named-any es dir n there in
-        absurd cc
+        let had = i.finds dir n in
+        let any = named-any es dir n in
+        absurd (grind (arith, nat_tests))
 
     go : (b : Bool) → list_any (λ r. r.dir == dir) (values_of es) ≡ b → has ≡ b
     go false none = nameless.1 (
@@ -59,9 +48,8 @@ has_names-is p es dir has i nameless =
         named w true h = h
         named w false h =
             let both = nameless.0 h in
-            let empty : found es w.0 (first_in p dir (hash_of w.0)) (other_in p dir w.0) ≡ None =
-            rw (both.0 (hash_of w.0), both.1 w.0) refl in
-            let never : is_some (node_in es dir w.0) ≡ false =
-            ap is_some (sym (i.finds dir w.0) ∙ empty) in
+            let first = both.0 (hash_of w.0) in
+            let rest = both.1 w.0 in
+            let had = i.finds dir w.0 in
             let some = w.1 in
-            absurd cc
+            absurd (grind (arith, nat_tests))

@@ -1,8 +1,8 @@
 -- The path of a node: the names on the walk up to the root lead down again.
-use Rattle.std.proofs.Common.{◌≡◌, ℕ, suc, List, [], ◌∷◌, ◌++◌, refl, sym, ◌∙◌, true, inl, inr}
+use Rattle.std.proofs.Common.{◌≡◌, ℕ, suc, List, [], ◌∷◌, ◌++◌, refl, sym, arith, ◌∙◌, true}
 use Rattle.std.specs.Prelude.{nat_eq, reverse, Some, None}
 use Rattle.std.specs.Map.{lookup}
-use Rattle.std.proofs.lemmas.Bool.{cases_eq}
+use Rattle.std.proofs.lemmas.Bool.Decides.{nat_tests}
 use Rattle.std.proofs.lemmas.List.{reverse-append}
 use Rattle.lq_volume_entries.specs.Folder.{CanClimb, Leads}
 use Rattle.lq_volume_entries.specs.Record.{Record, Rises, climbs, dir_of, root, node_in}
@@ -13,12 +13,8 @@ use Rattle.lq_volume_entries.proofs.RecordLemmas.{Entries}
 -- a walk that reaches the root ends there where there is no record
 pub ends-at_root : (n : ℕ) (es : Entries) (at : ℕ) → climbs n (dir_of es) root at ≡ true
     → None ≡ lookup (nat_eq at) es → at ≡ root
-ends-at_root n es at within none = elim (cases_eq at root) [
-  | inl same ↦ same
-  | inr off ↦
-      let never = climbs-top n es root at off none in
-      absurd cc
-]
+ends-at_root n es at within none =
+    let never = climbs-top n es root at in grind (arith, nat_tests)
 
 -- a node with a record isn't the root
 pub isn't-root : (es : Entries) (at : ℕ) (r : Record) → lookup (nat_eq root) es ≡ None

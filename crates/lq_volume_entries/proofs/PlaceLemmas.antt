@@ -225,11 +225,11 @@ module _ (es : Entries) (node dir : ℕ) (name : List ℕ) (other : Option ℕ)
 
   -- no two of the others share a place
   apart-others : IsApart others
-  apart-others x y q v a b = m.apart x y q v (back x q a) (back y v b)
-    where
-      back : (z : ℕ) (u : Record) → lookup (nat_eq z) others ≡ Some u
-          → lookup (nat_eq z) es ≡ Some u
-      back z u h = let l = look-without other es z in grind (arith, nat_tests)
+  apart-others x y q v a b =
+      let k = look-without other es x in
+      let l = look-without other es y in
+      let one = m.apart x y q v in
+      λ dir name. grind (arith, nat_tests)
 
   -- the new place is free among the others if a node goes, and no other place changes
   node_in-others : (d : ℕ) (n : List ℕ) → node_in others d n

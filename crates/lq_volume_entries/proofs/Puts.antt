@@ -1,6 +1,6 @@
 -- The steps of a put into the index of places, and what they come to.
 use Rattle.std.proofs.Common.{◌≡◌, ℕ, List, ◌∙◌, ap, sym, arith, Bool, true, false}
-use Rattle.std.specs.Prelude.{Option, Some, None, nat_eq}
+use Rattle.std.specs.Prelude.{Option, Some, nat_eq}
 use Rattle.std.specs.Option.{option_eq, option_map_or}
 use Rattle.std.proofs.lemmas.Bool.Decides.{nat_tests}
 use Rattle.lq_value.specs.NameHash.{hash_of}
@@ -57,5 +57,4 @@ same-twice a b c x y = record {
 -- whether a node that stands there goes, as the code tests it
 pub goes-is : (over : Option ℕ) (there : ℕ) (is : Bool) → option_eq nat_eq over (Some there) ≡ is
     → option_map_or (nat_eq there) over false ≡ is
-goes-is None there is h = h
-goes-is (Some x) there is h = grind (arith, nat_tests)
+goes-is over there is h = grind (arith, nat_tests)

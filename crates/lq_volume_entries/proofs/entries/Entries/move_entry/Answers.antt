@@ -2,7 +2,6 @@ use Rattle.std.proofs.Common.{sym, ◌∙◌}
 use Rattle.lq_volume_entries.specs.PlaceIndex.{CanMove}
 use Rattle.lq_volume_entries.proofs.IndexLemmas.{index-same}
 use Rattle.lq_volume_entries.proofs.IndexMoves.{index-moved, index-stays}
-use Rattle.lq_volume_entries.proofs.Options.{not-there}
 use Rattle.lq_volume_entries.proofs.entries.Entries.move_entry.Goals as goal
 use Rattle.lq_volume_entries.proofs.entries.Entries.move_entry.Goals.{in-Some+then-not-is_at+in_ok-put, in-Some+else-not-is_at, in_default}
 
@@ -28,7 +27,7 @@ invariant_of-self-2 c =
           rw (w.self-inside-is, c.relocate.ensures, c.remove_if.ensures, kept, w.self-inside-is)
           (index-stays _ _ _ _ _ _ _ c.get.ensures.rise moves (sym w.in-Some.ensures.record)
           c.self.invariant (sym w.is_at.ensures ∙ w.if-not-is_at.false))
-      | in_default w ↦ absurd (not-there _ (sym w.in_default.ensures.record) moves.there)
+      | in_default w ↦ let clash = rw (← w.in_default.ensures.record) at moves.there in absurd cc
     ]
 
 pub invariant_of-self : goal.invariant_of-self
