@@ -1,10 +1,9 @@
 -- What a walk over a map has found so far.
-use Rattle.std.proofs.Common.{◌≡◌, ℕ, Bool, true, false, List, [], ◌∷◌, ◌++◌, ◌∙◌, ap, append-nil, arith, cond, filter, map, sym}
+use Rattle.std.proofs.Common.{◌≡◌, ℕ, Bool, List, [], ◌∷◌, ◌++◌, ◌∙◌, ap, arith, cond, filter, map, sym}
 use Rattle.std.specs.Borrow.{Bor}
 use Rattle.std.specs.Map.Iter.{deref_pair}
 use Rattle.std.proofs.lemmas.Bool.Decides.{nat_tests}
 use Rattle.std.proofs.lemmas.List.{map-append}
-use Rattle.lq_value.specs.declared.entry.Entry.{Entry}
 use Rattle.lq_volume_entries.specs.Order.{shown_pair}
 use Rattle.lq_volume_entries.specs.Record.{Record, entry_of}
 
@@ -16,27 +15,11 @@ pairs-more ps ys y h =
     map-append shown_pair ps ((y.0.now, y.1) ∷ [])
     ∙ (ap (λ l. l ++ deref_pair y ∷ []) h ∙ sym (map-append deref_pair ys (y ∷ [])))
 
--- what is found of a last record
-found-last : (test : ℕ × Record → Bool) (ys : List (Bor ℕ × Bor Record)) (y : Bor ℕ × Bor Record)
-    → map entry_of (filter test (map deref_pair (ys ++ y ∷ [])))
-    ≡ map entry_of (filter test (map deref_pair ys))
-    ++ cond (test (deref_pair y)) (entry_of (deref_pair y) ∷ []) []
+-- what is found with one record more
+pub found-last : (test : ℕ × Record → Bool) (ys : List (Bor ℕ × Bor Record))
+    (y : Bor ℕ × Bor Record) → map entry_of (filter test (map deref_pair (ys ++ y ∷ [])))
+    ≡ cond (test (deref_pair y))
+    (map entry_of (filter test (map deref_pair ys)) ++ entry_of (deref_pair y) ∷ [])
+    (map entry_of (filter test (map deref_pair ys)))
 found-last test [] y = grind (arith, nat_tests)
 found-last test (z ∷ ys) y = grind (arith, nat_tests, found-last test ys y)
-
--- a record that passes is found
-pub finds-more : (test : ℕ × Record → Bool) (ys : List (Bor ℕ × Bor Record))
-    (y : Bor ℕ × Bor Record) (finds more : List Entry)
-    → finds ≡ map entry_of (filter test (map deref_pair ys))
-    → more ≡ finds ++ entry_of (deref_pair y) ∷ [] → test (deref_pair y) ≡ true
-    → more ≡ map entry_of (filter test (map deref_pair (ys ++ y ∷ [])))
-finds-more test ys y finds more so is passes =
-    rw (found-last test ys y, passes, ← so) is
-
--- a record that doesn't pass is not
-pub finds-same : (test : ℕ × Record → Bool) (ys : List (Bor ℕ × Bor Record))
-    (y : Bor ℕ × Bor Record) (finds : List Entry)
-    → finds ≡ map entry_of (filter test (map deref_pair ys)) → test (deref_pair y) ≡ false
-    → finds ≡ map entry_of (filter test (map deref_pair (ys ++ y ∷ [])))
-finds-same test ys y finds so fails =
-    rw (found-last test ys y, fails, ← so) (sym (append-nil finds))

@@ -12,13 +12,10 @@ use Rattle.lq_volume_entries.specs.Edits.{altered, at_place, without}
 use Rattle.lq_volume_entries.specs.PlaceIndex.{is_named, found, stands, IsIndex, CanMove}
 use Rattle.lq_volume_entries.specs.declared.places.Places.{Places}
 use Rattle.lq_volume_entries.specs.Places.{first_in, other_in, is_first, Puts, Takes}
+use Rattle.lq_volume_entries.proofs.Puts.{is_free}
 use Rattle.lq_volume_entries.proofs.RecordLemmas.{Entries, lookup-altered, node_in-some, Rises-altered}
 use Rattle.lq_volume_entries.proofs.ByNode.{same_records}
 use Rattle.lq_volume_entries.proofs.PlaceLemmas.{at-node, goes-there, look-new, node_in-moved, stays}
-
--- whether nothing stands under a hash, or only a node that goes
-abbrev is_free : Option ℕ → Option ℕ → Bool
-is_free over o = option_map_or (λ there. option_map_or (nat_eq there) over false) o true
 
 -- what stands under a hash after a put
 put-first : (p q : Places) (dir : ℕ) (name : List ℕ) (node : ℕ) (over : Option ℕ)

@@ -38,12 +38,6 @@ uniq fs x v (Some y) h apart is found =
     let w = node_in-some fs v.dir v.name y h found in
     ap Some (sym (apart x y v w.0 is w.1 (sym w.2) (sym w.3)))
 
--- if the test of a place holds, folder and name are the same
-pub at-true : (a b : ℕ) (x y : List ℕ) → ((a == b) && bytes_eq x y) ≡ true → (a ≡ b) × (x ≡ y)
-at-true a b x y h =
-    let e = bytes_eq-Decides x y in
-    (grind (arith, nat_tests), grind (arith, nat_tests))
-
 -- with one more record at a free place, that place has its node, and no other place changes
 pub node_in-push : (es : Entries) (k : ℕ) (v : Record) (d : ℕ) (n : List ℕ)
     → node_in es v.dir v.name ≡ None
@@ -248,7 +242,8 @@ module _ (es : Entries) (node dir : ℕ) (name : List ℕ) (other : Option ℕ)
       ≡ cond ((d == dir) && bytes_eq name n) (Some node)
       (cond ((d == r.dir) && bytes_eq r.name n) None (node_in es d n))
   node_in-moved d n =
-      let left = node_in-left others node r (Rises-without other es rise) apart-others look-node d n in
+      let rises = Rises-without other es rise in
+      let left = node_in-left others node r rises apart-others look-node d n in
       let without_other = node_in-others d n in
       let off = placed-off others node dir name d n in
       let here = placed-here others node dir name d n in
