@@ -50,19 +50,20 @@ has-nodes p es dir ns i rise apart firsts others n r is same =
         ]
 
 -- one node more is one entry more, if its record is in the folder
-pub found-more : (es : Entries) (dir : ℕ) (ns : List ℕ) (i : ℕ) → i < length ns
-    → with_entry (filter_map (entry_in es dir) (take i ns)) (entry_in es dir (slice_index ns i))
+pub found-more : (es : Entries) (dir : ℕ) (ns : List ℕ) (i : ℕ) (found : List Entry) → i < length ns
+    → found ≡ filter_map (entry_in es dir) (take i ns)
+    → with_entry found (entry_in es dir (slice_index ns i))
     ≡ filter_map (entry_in es dir) (take (i + 1) ns)
-found-more es dir ns i below =
+found-more es dir ns i found below is =
     rw (
       take_more ns i 0 below,
       filter_map-append (entry_in es dir) (take i ns) (get_or ns i 0 ∷ []),
+      ← is,
     )
     (at (entry_in es dir (get_or ns i 0)))
   where
-    at : (e : Option Entry) → with_entry (filter_map (entry_in es dir) (take i ns)) e
-        ≡ filter_map (entry_in es dir) (take i ns) ++ cons_option e []
-    at e = grind (arith, nat_tests, append-nil (filter_map (entry_in es dir) (take i ns)))
+    at : (e : Option Entry) → with_entry found e ≡ found ++ cons_option e []
+    at e = grind (arith, nat_tests, append-nil found)
 
 -- numbers that a comparison puts in order rise
 rises_sorted : (ns : List ℕ) → IsStrictlySortedBy nat_cmp ns → RisesBy (λ n. n) ns

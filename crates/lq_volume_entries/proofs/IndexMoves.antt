@@ -90,7 +90,7 @@ module _ (p mid q : Places) (es : Entries) (node dir : ℕ) (name : List ℕ) (o
       takes.others d n ∙ ap (λ (z : Option ℕ). cond ((d == r.dir) && bytes_eq r.name n) None z)
       (put-other p mid dir name node other puts d n o was)
 
-  -- where the node stood that goes the node stands
+  -- where a node stood that goes, the node that moves stands
   replaced : (d h x : ℕ) → first_in p d h ≡ Some x → goes x ≡ true
       → (first_in q d h ≡ Some node) × (((d == dir) && (h == hash_of name)) ≡ true)
       × ((n : List ℕ) → is_named es n x ≡ bytes_eq name n)

@@ -46,7 +46,7 @@ module _ {K : Type 0} {cmp : K → K → Ordering} (o : IsTotalOrder cmp) (m : B
   among exact k x there = Contains-values_of m.entries k x
       (MatchOption-at_some _ (λ v. Contains m.entries (k, v)) x there (IfSome-get o exact m k))
 
--- whether a folder has a name, by what is under the hashes and names of its map
+-- whether the map of a folder, if there is one, has a name
 nameless-in : (o : Option Names) (has : Bool)
     → has ≡ option_map_or (λ names. not (length names.first.entries == 0)
     || not (length names.others.entries == 0)) o false

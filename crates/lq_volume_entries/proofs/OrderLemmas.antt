@@ -48,7 +48,7 @@ flip-eqb : (a b : ℕ) → eqb a b ≡ eqb b a
 flip-eqb a b = grind (arith, nat_tests)
 
 module _ {X : Type 0} (number : X → ℕ) where
-  -- an item among others has moved from their front
+  -- an item in its place among others has moved there from their front
   moves-insert : (x : X) (ys : List X) → IsPermutation (x ∷ ys) (insert_by number x ys)
   moves-insert x [] = IsPermutation-refl (x ∷ [])
   moves-insert x (y ∷ ys) =
@@ -60,7 +60,7 @@ module _ {X : Type 0} (number : X → ℕ) where
             (IsPermutation-cons y (x ∷ ys) (insert_by number x ys) (moves-insert x ys))
       ]
 
-  -- items in order have moved
+  -- items in order are the same items, moved
   pub moves-ordered : (xs : List X) → IsPermutation xs (ordered_by number xs)
   moves-ordered [] = IsPermutation-refl []
   moves-ordered (x ∷ xs) = IsPermutation-trans (x ∷ xs) (x ∷ ordered_by number xs)
@@ -124,7 +124,7 @@ module _ {X : Type 0} (number : X → ℕ) where
         (IsDistinct-tail eqb (number x) (map number xs) own),
   )
 
-  -- nor do those of items that were moved until they don't fall
+  -- so do those of items that were moved until they don't fall
   pub rises_moved : (xs ys : List X) → IsPermutation xs ys → IsNonDecreasingBy number ys
       → IsDistinct eqb (map number xs) → RisesBy number ys
   rises_moved xs ys moves up own =
@@ -139,7 +139,7 @@ module _ {X : Type 0} (number : X → ℕ) where
     all_weaker (λ z. number x < number z) (λ z. number x ≤ number z) xs (λ z l. omega arith) h.0,
   )).0
 
-  -- where two lists have the same least number, one without its first item covers the other
+  -- where the first numbers are one, the rest of a list covers the rest of what it covers
   covers_rest : (x y : X) (xs ys : List X) → number x ≡ number y → RisesBy number (y ∷ ys)
       → Covers (x ∷ xs) (y ∷ ys) → Covers xs ys
   covers_rest x y xs ys same k f P all =

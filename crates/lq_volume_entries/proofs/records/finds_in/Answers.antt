@@ -1,8 +1,7 @@
-use Rattle.std.proofs.Common.{◌≡◌, List, ◌∙◌, ℕ, ap, arith, filter, map, rules}
+use Rattle.std.proofs.Common.{◌≡◌, arith, map, rules}
 use Rattle.std.specs.Map.Iter.{deref_pair}
 use Rattle.std.proofs.lemmas.Bool.Decides.{nat_tests}
 use Rattle.std.proofs.lemmas.Map.Iter.{iter_end}
-use Rattle.lq_volume_entries.specs.Record.{Record, entry_of}
 use Rattle.lq_volume_entries.proofs.Finds.{found-last}
 use Rattle.lq_volume_entries.proofs.records.finds_in.Goals as goal
 
@@ -22,6 +21,4 @@ pub returns-clause-finds : goal.returns-clause-finds
 returns-clause-finds g c =
     let all : map deref_pair c.loop-node.yielded ≡ c.args.stored.now.entries =
     search (rules, iter_end) in
-    c.loop-node.invariant
-    ∙ ap (λ (es : List (ℕ × Record)). map entry_of
-    (filter (λ e. g.T.Test.picks c.args.test.now e.1) es)) all
+    rw (← all) c.loop-node.invariant

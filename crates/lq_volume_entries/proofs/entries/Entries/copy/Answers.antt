@@ -1,4 +1,4 @@
-use Rattle.std.proofs.Common.{◌≡◌, ℕ, [], ◌∷◌, ◌++◌, ◌∙◌, ap, append_assoc, arith, length, map, sym}
+use Rattle.std.proofs.Common.{◌≡◌, ℕ, ◌∷◌, ◌++◌, append_assoc, arith, length, map}
 use Rattle.std.specs.Vec.Iter.{into_iter_items}
 use Rattle.std.proofs.lemmas.List.{length-map}
 use Rattle.lq_volume_entries.specs.Order.{shown_pair}
@@ -13,8 +13,7 @@ add-requires c =
     let e : ℕ × Record = (c.in-Some.node, c.in-Some.record.now) in
     let left : Entries = map shown_pair (into_iter_items c.next.new.self) in
     let all : c.loop-node.copy ++ e ∷ left ≡ c.args.self.now =
-    ap (λ rest. c.loop-node.copy ++ map shown_pair rest) (sym c.in-Some.ensures.steps.0)
-    ∙ c.loop-node.invariant in
+    rw c.in-Some.ensures.steps.0 at c.loop-node.invariant in
     let rise = rw (← all) at (rw c.self.view_is at c.in_ok-items.ensures.rise) in
     record {
       last = Rises-front c.loop-node.copy left e rise;
@@ -24,13 +23,8 @@ add-requires c =
 
 pub loop-node-preserved : goal.loop-node-preserved
 loop-node-preserved c =
-    let e : ℕ × Record = (c.in-Some.node, c.in-Some.record.now) in
-    let left : Entries = map shown_pair (into_iter_items c.next.new.self) in
-    let all : c.loop-node.copy ++ e ∷ left ≡ c.args.self.now =
-    ap (λ rest. c.loop-node.copy ++ map shown_pair rest) (sym c.in-Some.ensures.steps.0)
-    ∙ c.loop-node.invariant in
-    rw (c.in_ok-add.ensures.ok, c.in_ok-copy.ensures.value)
-    (append_assoc c.loop-node.copy (e ∷ []) left ∙ all)
+    let all = rw c.in-Some.ensures.steps.0 at c.loop-node.invariant in
+    rw (c.in_ok-add.ensures.ok, c.in_ok-copy.ensures.value, append_assoc) all
 
 pub returns-clause-value : goal.returns-clause-value
 returns-clause-value c =
