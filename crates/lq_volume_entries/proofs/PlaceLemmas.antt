@@ -124,18 +124,13 @@ node_in-altered (e ∷ es) k f dirs names d n =
     let b = names e.1 in
     grind (arith, nat_tests, node_in-altered es k f dirs names d n)
 
--- a place that has a node has it with more records behind
-node_in-front : (es fs : Entries) (d : ℕ) (n : List ℕ) (x : ℕ) → node_in es d n ≡ Some x
-    → node_in (es ++ fs) d n ≡ Some x
-node_in-front [] fs d n x h = cc
-node_in-front (e ∷ es) fs d n x h = grind (arith, nat_tests, node_in-front es fs d n x)
-
--- a node that is found is below what all of them are below
-node_in-below : (es : Entries) (k d : ℕ) (n : List ℕ) (x : ℕ) → AllByRecursion (λ e. e.0 < k) es
-    → node_in es d n ≡ Some x → x < k
-node_in-below [] k d n x low h = cc
-node_in-below (e ∷ es) k d n x low h =
-    let first = low.0 in grind (arith, nat_tests, node_in-below es k d n x low.1)
+-- a place has no node before the one that is found there
+node_in-before : (es fs : Entries) (e : ℕ × Record) (d : ℕ) (n : List ℕ)
+    → AllByRecursion (λ f. f.0 < e.0) es → node_in (es ++ e ∷ fs) d n ≡ Some e.0
+    → node_in es d n ≡ None
+node_in-before [] fs e d n low found = refl
+node_in-before (f ∷ es) fs e d n low found =
+    let first = low.0 in grind (arith, nat_tests, node_in-before es fs e d n low.1)
 
 -- a node that the front doesn't have is found after it
 lookup-next : (es fs : Entries) (e : ℕ × Record) → lookup (nat_eq e.0) es ≡ None
@@ -146,17 +141,11 @@ lookup-next (f ∷ es) fs e h = grind (arith, nat_tests, lookup-next es fs e)
 -- the place of a record is free in the records before it
 pub node_in-next : (es fs : Entries) (e : ℕ × Record) → Rises (es ++ e ∷ fs)
     → IsApart (es ++ e ∷ fs) → node_in es e.1.dir e.1.name ≡ None
-node_in-next es fs e rise apart = at (node_in es e.1.dir e.1.name) refl
-  where
-    at : (o : Option ℕ) → node_in es e.1.dir e.1.name ≡ o → o ≡ None
-    at None is = refl
-    at (Some x) is =
-        let front = Rises-front es fs e rise in
-        let low = node_in-below es e.0 e.1.dir e.1.name x front is in
-        let same = uniq (es ++ e ∷ fs) e.0 e.1 (Some x) rise apart
-        (lookup-next es fs e (lookup-above es e.0 front))
-        (node_in-front es (e ∷ fs) e.1.dir e.1.name x is) in
-        absurd (grind (arith, nat_tests))
+node_in-next es fs e rise apart =
+    let front = Rises-front es fs e rise in
+    node_in-before es fs e e.1.dir e.1.name front
+    (uniq (es ++ e ∷ fs) e.0 e.1 (node_in (es ++ e ∷ fs) e.1.dir e.1.name) rise apart
+    (lookup-next es fs e (lookup-above es e.0 front)) refl)
 
 -- a record at another place is found at no third place
 placed-off : (es : Entries) (k dir : ℕ) (name : List ℕ) (d : ℕ) (n : List ℕ)

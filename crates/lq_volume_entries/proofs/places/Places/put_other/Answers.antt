@@ -7,12 +7,9 @@ use Rattle.lq_volume_entries.proofs.places.Places.put_other.Goals as goal
 pub returns-in_ok-insert-clause-ok : goal.returns-in_ok-insert-clause-ok
 returns-in_ok-insert-clause-ok c = record {
   first = λ d h. grind (arith, common_steps, nat_tests);
-  others = λ d n. grind (
-    arith,
-    common_steps,
-    is_eq-slice_cmp c.args.name n,
-    c.in_ok-insert.ensures.updates.0 n,
-  );
+  others = λ d n.
+      let put = c.in_ok-insert.ensures.updates.0 n in
+      grind (arith, common_steps, is_eq-slice_cmp c.args.name n);
 }
 
 pub returns-in_default-clause-ok : goal.returns-in_default-clause-ok
