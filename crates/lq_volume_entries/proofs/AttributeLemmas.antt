@@ -1,17 +1,23 @@
 -- What a setting and a removal make of a list of attributes with names of their own, and what a map
 -- makes of one.
-use Rattle.std.proofs.Common.{◌≡◌, ◌<◌, ◌+◌, ℕ, zero, suc, List, [], ◌∷◌, ◌++◌, refl, subst, sym, arith, ap, ◌∙◌, Bool, true, false}
-use Rattle.std.specs.Prelude.{filter, not, cond, Some, None, slice_get, slice_index_or, length, drop}
-use Rattle.std.specs.List.{AllByRecursion, IsDistinct, slice_set, remove}
+use Rattle.std.proofs.Common.{◌≡◌, ◌<◌, ◌+◌, ℕ, zero, suc, add-one, List, [], ◌∷◌, ◌++◌, append_assoc, refl, sym, arith, ap, ◌∙◌, Bool, true, false, drop-cons}
+use Rattle.std.specs.Prelude.{not, cond, Some, None, slice_get, slice_index_or, length, drop, if◌then◌else◌}
+use Rattle.std.specs.Cmp.{decided}
+use Rattle.std.specs.List.{AllByRecursion, IsDistinct, list_any, slice_set, remove}
 use Rattle.std.specs.Map.{keys_of, remove_entry}
 use Rattle.std.specs.Option.{option_map}
 use Rattle.std.specs.Str.{bytes_eq}
 use Rattle.std.proofs.lemmas.Bool.Decides.{nat_tests}
 use Rattle.std.proofs.lemmas.List.{append-nil}
+use Rattle.std.proofs.lemmas.Map.{lookup-none}
+use Rattle.std.proofs.lemmas.Map.Keys.{IsDistinct-push}
+use Rattle.std.proofs.lemmas.Map.Made.{IsDistinct-keys_filter}
 use Rattle.std.proofs.lemmas.Slice.Eq.{bytes_eq-Decides}
+use Rattle.indexmap.proofs.SetLemmas.{keys_insert_entry}
 use Rattle.indexmap.specs.IndexMap.{insert_all}
 use Rattle.lq_value.specs.declared.value.Value.{Value}
 use Rattle.lq_volume_entries.specs.Attributes.{Attributes, HasOwnNames, value_of, with_attr, without_attr}
+use Rattle.lq_volume_entries.proofs.OrderLemmas.{all_map, map_all}
 
 -- names that differ do so either way round
 turned : (x y : List ℕ) → bytes_eq x y ≡ false → bytes_eq y x ≡ false
@@ -46,16 +52,6 @@ pub without_attr-none : (es : Attributes) (attr : List ℕ) → value_of es attr
 without_attr-none [] attr h = refl
 without_attr-none (e ∷ es) attr h = grind (arith, nat_tests, without_attr-none es attr)
 
--- likewise where each is known to have another name
-all-others : (es : Attributes) (attr : List ℕ) →
-    AllByRecursion (λ b. bytes_eq attr b.0 ≡ false) es →
-    without_attr es attr ≡ es
-all-others [] attr h = refl
-all-others (e ∷ es) attr h =
-    let off = h.0 in
-    let rest = all-others es attr h.1 in
-    grind (arith, nat_tests)
-
 -- a name that all differ from is not at a place
 apart-at : (es : Attributes) (i : ℕ) (name attr : List ℕ) →
     AllByRecursion (λ b. bytes_eq name b.0 ≡ false) es →
@@ -84,7 +80,8 @@ without_attr-at [] i attr h at = cc
 without_attr-at (e ∷ es) zero attr h at =
     let is : e.0 ≡ attr = grind (arith, nat_tests) in
     let same = bytes_eq-Decides attr e.0 in
-    let others : without_attr es attr ≡ es = rw (← is) (all-others es e.0 h.0) in
+    let others : without_attr es attr ≡ es =
+    rw (← is) (without_attr-none es e.0 (lookup-none (bytes_eq e.0) es h.0)) in
     grind (arith, nat_tests)
 without_attr-at (e ∷ es) (suc i) attr h at =
     let off = turned e.0 attr (apart-at es i e.0 attr h.0 at) in
@@ -92,25 +89,11 @@ without_attr-at (e ∷ es) (suc i) attr h at =
     grind (arith, nat_tests)
 
 -- the value is at a place, or among those after it
-value_of-here : (es : Attributes) (i : ℕ) (name : List ℕ) (x : List ℕ × Value) → i < length es →
-    x ≡ slice_index_or es i x →
-    value_of (drop i es) name
-    ≡ cond (bytes_eq name x.0) (Some x.1) (value_of (drop (suc i) es) name)
-value_of-here [] i name x less at = grind (arith, nat_tests)
-value_of-here (e ∷ es) zero name x less at = rw at refl
-value_of-here (e ∷ es) (suc i) name x less at = value_of-here es i name x (omega arith) at
-
--- likewise, with the next place as a loop counts it
 pub value_of-drop : (es : Attributes) (i : ℕ) (name : List ℕ) (x : List ℕ × Value) → i < length es →
     x ≡ slice_index_or es i x →
     value_of (drop i es) name
     ≡ cond (bytes_eq name x.0) (Some x.1) (value_of (drop (i + 1) es) name)
-value_of-drop es i name x less at =
-    let next : suc i ≡ i + 1 = omega arith in
-    subst
-    (λ (n : ℕ).
-    value_of (drop i es) name ≡ cond (bytes_eq name x.0) (Some x.1) (value_of (drop n es) name))
-    next (value_of-here es i name x less at)
+value_of-drop es i name x less at = rw (add-one, drop-cons es i x, ← at) refl
 
 -- what is found under a name afterwards
 pub value_of-with : (es : Attributes) (attr name : List ℕ) (value : Value)
@@ -133,61 +116,37 @@ value_of-without (e ∷ es) attr name =
     let c = bytes_eq-Decides name attr in
     grind (arith, nat_tests, value_of-without es attr name)
 
--- one element moved from the front of the second list to the end of the first
-pub append-one : {X : Type 0} (es fs : List X) (e : X) → (es ++ e ∷ []) ++ fs ≡ es ++ e ∷ fs
-append-one [] fs e = refl
-append-one (f ∷ es) fs e = ap (λ l. f ∷ l) (append-one es fs e)
+-- names of their own are distinct keys
+keys-own : (es : Attributes) → HasOwnNames es → IsDistinct bytes_eq (keys_of es)
+unfolding IsDistinct
+keys-own [] h = tt
+keys-own (e ∷ es) h = (map_all (λ a. a.0) (λ n. bytes_eq e.0 n ≡ false) es h.0, keys-own es h.1)
 
--- what keeps each name apart from the others
-All-with : (P : List ℕ → Type 0) (es : Attributes) (attr : List ℕ) (value : Value)
-    → AllByRecursion (λ b. P b.0) es → P attr
-    → AllByRecursion (λ b. P b.0) (with_attr es attr value)
-All-with P [] attr value h p = (p, tt)
-All-with P (e ∷ es) attr value h p =
-    elim (bytes_eq attr e.0) as (λ b.
-    AllByRecursion (λ a. P a.0) (cond b ((e.0, value) ∷ es) (e ∷ with_attr es attr value))) [
-      | true ↦ (h.0, h.1)
-      | false ↦ (h.0, All-with P es attr value h.1 p)
-    ]
+-- the same back
+pub HasOwnNames-keys : (es : Attributes) → IsDistinct bytes_eq (keys_of es) → HasOwnNames es
+unfolding IsDistinct
+HasOwnNames-keys [] h = tt
+HasOwnNames-keys (e ∷ es) h =
+    (all_map (λ a. a.0) (λ n. bytes_eq e.0 n ≡ false) es h.0, HasOwnNames-keys es h.1)
 
 -- a setting leaves no name twice
 pub HasOwnNames-with : (es : Attributes) (attr : List ℕ) (value : Value) → HasOwnNames es
     → HasOwnNames (with_attr es attr value)
-HasOwnNames-with [] attr value h = (tt, tt)
-HasOwnNames-with (e ∷ es) attr value h =
-    go (HasOwnNames-with es attr value h.1) (bytes_eq attr e.0) refl
+HasOwnNames-with es attr value h = HasOwnNames-keys (with_attr es attr value)
+    (rw (keys_insert_entry bytes_eq es attr value)
+    (go (list_any (bytes_eq attr) (keys_of es)) refl))
   where
-    go : HasOwnNames (with_attr es attr value) → (b : Bool) → bytes_eq attr e.0 ≡ b
-        → HasOwnNames (cond b ((e.0, value) ∷ es) (e ∷ with_attr es attr value))
-    go rest true k = (h.0, h.1)
-    go rest false k =
-        (All-with (λ n. bytes_eq e.0 n ≡ false) es attr value h.0 (turned attr e.0 k), rest)
-
--- what is so of each attribute is so of those that a filter leaves
-All-attrs : (P : List ℕ × Value → Type 0) (test : List ℕ × Value → Bool) (es : Attributes)
-    → AllByRecursion P es → AllByRecursion P (filter test es)
-All-attrs P test [] h = tt
-All-attrs P test (e ∷ es) h =
-    elim (test e) as (λ b. AllByRecursion P (cond b (e ∷ filter test es) (filter test es))) [
-      | true ↦ (h.0, All-attrs P test es h.1)
-      | false ↦ All-attrs P test es h.1
-    ]
-
--- a filter leaves no name twice
-HasOwnNames-filter : (test : List ℕ × Value → Bool) (es : Attributes) → HasOwnNames es
-    → HasOwnNames (filter test es)
-HasOwnNames-filter test [] h = tt
-HasOwnNames-filter test (e ∷ es) h =
-    elim (test e) as (λ b. HasOwnNames (cond b (e ∷ filter test es) (filter test es))) [
-      | true ↦
-          (All-attrs (λ a. bytes_eq e.0 a.0 ≡ false) test es h.0, HasOwnNames-filter test es h.1)
-      | false ↦ HasOwnNames-filter test es h.1
-    ]
+    go : (b : Bool) → list_any (bytes_eq attr) (keys_of es) ≡ b
+        → IsDistinct bytes_eq (if b then keys_of es else keys_of es ++ attr ∷ [])
+    go true is = keys-own es h
+    go false is =
+        IsDistinct-push (decided bytes_eq bytes_eq-Decides) (keys_of es) attr (keys-own es h) is
 
 -- a removal leaves no name twice
 pub HasOwnNames-without : (es : Attributes) (attr : List ℕ) → HasOwnNames es
     → HasOwnNames (without_attr es attr)
-HasOwnNames-without es attr h = HasOwnNames-filter (λ a. not (bytes_eq attr a.0)) es h
+HasOwnNames-without es attr h = HasOwnNames-keys (without_attr es attr)
+    (IsDistinct-keys_filter bytes_eq (λ a. not (bytes_eq attr a.0)) es (keys-own es h))
 
 -- the first of a name taken out is all of them, where none is left
 remove_entry-all : (es : Attributes) (attr : List ℕ)
@@ -202,24 +161,13 @@ pub without_attr-removed : (es fs : Attributes) (attr : List ℕ)
     → fs ≡ remove_entry (bytes_eq attr) es → value_of fs attr ≡ None → fs ≡ without_attr es attr
 without_attr-removed es fs attr is none = is ∙ remove_entry-all es attr (rw is at none)
 
--- the names of a map are its entries' own
-pub HasOwnNames-keys : (es : Attributes) → IsDistinct bytes_eq (keys_of es) → HasOwnNames es
-unfolding IsDistinct
-HasOwnNames-keys [] h = tt
-HasOwnNames-keys (e ∷ es) h = (apart es h.0, HasOwnNames-keys es h.1)
-  where
-    apart : (fs : Attributes) → AllByRecursion (λ n. bytes_eq e.0 n ≡ false) (keys_of fs)
-        → AllByRecursion (λ b. bytes_eq e.0 b.0 ≡ false) fs
-    apart [] k = tt
-    apart (f ∷ fs) k = (k.0, apart fs k.1)
-
 -- a map of a list behind another
 insert_all-next : (es fs : Attributes) → HasOwnNames (es ++ fs)
     → insert_all bytes_eq es fs ≡ es ++ fs
 insert_all-next es [] h = sym (append-nil es)
 insert_all-next es (f ∷ fs) h =
     let one = with_attr-next es fs f h in
-    let more = append-one es fs f in
+    let more = append_assoc es (f ∷ []) fs in
     ap (λ l. insert_all bytes_eq l fs) one
     ∙ (insert_all-next (es ++ f ∷ []) fs (rw more h) ∙ more)
 

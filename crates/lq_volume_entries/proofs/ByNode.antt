@@ -1,19 +1,34 @@
 -- Records by rising node: each look-up finds the same as before they were ordered, and what is
 -- found in each is all of it.
-use Rattle.std.proofs.Common.{◌≡◌, ℕ, ◌<◌, List, [], ◌∷◌, ◌++◌, refl, sym, arith, eqb, ltb, ap, ◌∙◌, ◌≤◌, Bool, true, false, cond, map, filter, length, IsPermutation, inl, inr}
-use Rattle.std.specs.Prelude.{nat_eq, not, Some, None}
+use Rattle.std.proofs.Common.{◌≡◌, ℕ, ◌<◌, List, [], ◌∷◌, ◌++◌, refl, subst, sym, arith, eqb, ap, ◌∙◌, Bool, cond, map, filter, length, IsPermutation}
+use Rattle.std.specs.Prelude.{nat_eq, not, IsSome, Option, Some, None}
 use Rattle.std.specs.Borrow.{Bor}
-use Rattle.std.specs.List.{AllByRecursion, IsDistinct}
+use Rattle.std.specs.List.{AllByRecursion, IsDistinct, filter_map}
 use Rattle.std.specs.List.Sorted.{IsNonDecreasingBy}
 use Rattle.std.specs.Map.{lookup, keys_of}
-use Rattle.std.proofs.lemmas.Bool.{cases_eq}
 use Rattle.std.proofs.lemmas.Bool.Decides.{nat_tests}
+use Rattle.std.proofs.lemmas.List.Sorted.{IsPermutation-map, IsPermutation-sym, IsPermutation-trans, length_permutation}
+use Rattle.std.proofs.lemmas.Map.Made.{IsDistinct-keys_filter}
+use Rattle.std.proofs.lemmas.Simd.{map-map}
 use Rattle.lq_value.specs.declared.entry.Entry.{Entry}
 use Rattle.lq_volume_entries.specs.Edits.{altered}
-use Rattle.lq_volume_entries.specs.Order.{insert_by, ordered_by, by_node, shown_pair, RisesBy}
+use Rattle.lq_volume_entries.specs.Order.{insert_by, by_node, shown_pair, RisesBy}
 use Rattle.lq_volume_entries.specs.Record.{Record, Rises, entry_of}
-use Rattle.lq_volume_entries.proofs.OrderLemmas.{rises_ordered, length-ordered, ordered-is, map-ordered, map-number, filter-ordered, own_filter}
-use Rattle.lq_volume_entries.proofs.RecordLemmas.{Entries, All-weaker, altered-absent, lookup-below, lookup-altered, lookup-filter, lookup-push, Rises-altered, Rises-filter, Rises-push}
+use Rattle.lq_volume_entries.proofs.OrderLemmas.{all_picked, covers-moved, moves-ordered, picked_all, picked-is, rises_map, rises_moved, rises_ordered, rises_picked, same_items}
+use Rattle.lq_volume_entries.proofs.RecordLemmas.{Entries, altered-absent, lookup-below, lookup-altered, lookup-filter, lookup-push, Rises-altered, Rises-filter, Rises-push}
+
+-- the node of a record
+abbrev pub node_of : ℕ × Record → ℕ
+node_of e = e.0
+
+-- the entry of a record that passes a test
+abbrev pub pick : (ℕ × Record → Bool) → ℕ × Record → Option Entry
+pick test e = cond (test e) (Some (entry_of e)) None
+
+-- the entry that is picked has its record's node
+pub pick-node : (test : ℕ × Record → Bool) (e : ℕ × Record) (f : Entry) → pick test e ≡ Some f
+    → f.node ≡ e.0
+pick-node test e f found = grind (arith, nat_tests)
 
 -- a look-up with one more record finds it, or what it found before
 lookup-insert_by : (n : ℕ) (e : ℕ × Record) (es : Entries)
@@ -30,30 +45,22 @@ lookup-by_node (e ∷ es) n = lookup-insert_by n e (by_node es)
     ∙ ap (cond (eqb n e.0) (Some e.1)) (lookup-by_node es n)
 
 -- nodes that rise as numbers rise
-Rises-from_numbers : (es : Entries) → RisesBy (λ e. e.0) es → Rises es
+Rises-from_numbers : (es : Entries) → RisesBy node_of es → Rises es
 Rises-from_numbers [] h = tt
 Rises-from_numbers (e ∷ es) h = (h.0, Rises-from_numbers es h.1)
 
+-- the same back
+pub rises_numbers : (es : Entries) → Rises es → RisesBy node_of es
+rises_numbers [] h = tt
+rises_numbers (e ∷ es) h = (h.0, rises_numbers es h.1)
+
 -- nodes that differ rise in order
 pub Rises-by_node : (es : Entries) → IsDistinct eqb (keys_of es) → Rises (by_node es)
-Rises-by_node es own = Rises-from_numbers (by_node es) (rises_ordered (λ e. e.0) es own)
+Rises-by_node es own = Rises-from_numbers (by_node es) (rises_ordered node_of es own)
 
 -- there are as many records in order
 pub length-by_node : (es : Entries) → length (by_node es) ≡ length es
-length-by_node es = length-ordered (λ e. e.0) es
-
--- the first node isn't below that of records in which the same is found under it
-first-not_below : (e f : ℕ × Record) (es fs : Entries) → AllByRecursion (λ g. f.0 < g.0) fs
-    → lookup (nat_eq e.0) (e ∷ es) ≡ lookup (nat_eq e.0) (f ∷ fs) → f.0 ≤ e.0
-first-not_below e f es fs above same = at (ltb e.0 f.0) refl
-  where
-    at : (b : Bool) → ltb e.0 f.0 ≡ b → f.0 ≤ e.0
-    at true is =
-        let low : e.0 < f.0 = grind (arith, nat_tests) in
-        let off = lookup-below fs e.0 (All-weaker (λ g. f.0 < g.0) (λ g. e.0 < g.0) fs
-        (λ g l. omega arith) above) in
-        grind (arith, nat_tests)
-    at false is = grind (arith, nat_tests)
+length-by_node es = length_permutation es (by_node es) (moves-ordered node_of es)
 
 -- records whose nodes rise are one where the same is found under each node
 pub same_records : (es fs : Entries) → Rises es → Rises fs
@@ -62,16 +69,16 @@ same_records [] [] h k same = refl
 same_records [] (f ∷ fs) h k same = let found = same f.0 in grind (arith, nat_tests)
 same_records (e ∷ es) [] h k same = let found = same e.0 in grind (arith, nat_tests)
 same_records (e ∷ es) (f ∷ fs) h k same =
-    let low = first-not_below e f es fs k.0 (same e.0) in
-    let high = first-not_below f e fs es h.0 (sym (same f.0)) in
-    let node : e.0 ≡ f.0 = omega arith in
+    let below = lookup-below es f.0 e.0 h.0 in
+    let above = lookup-below fs e.0 f.0 k.0 in
     let here = same e.0 in
+    let there = same f.0 in
+    let node : e.0 ≡ f.0 = grind (arith, nat_tests) in
     let value : e.1 ≡ f.1 = grind (arith, nat_tests) in
-    let rest : es ≡ fs = same_records es fs h.1 k.1 (λ n. elim (cases_eq n e.0) [
-      | inl is ↦ rw is (lookup-below es e.0 h.0
-          ∙ sym (rw node (lookup-below fs f.0 k.0)))
-      | inr off ↦ let there = same n in grind (arith, nat_tests)
-    ]) in
+    let rest : es ≡ fs = same_records es fs h.1 k.1 (λ n.
+    let a = lookup-below es n e.0 h.0 in
+    let b = lookup-below fs n f.0 k.0 in
+    let at = same n in grind (arith, nat_tests)) in
     λ j. (node j, value j) ∷ rest j
 
 -- records in order are the list whose nodes rise and in which each look-up finds the same
@@ -103,17 +110,14 @@ by_node-removed es fs k rise own found =
 -- records in order where one was altered
 pub by_node-altered : (es fs : Entries) (k : ℕ) (g : Record → Record) (r w : Record) → w ≡ g r
     → Rises (by_node es) → IsDistinct eqb (keys_of fs) → Some r ≡ lookup (nat_eq k) es
-    → ((n : ℕ) → lookup (nat_eq n) fs ≡ cond (eqb k n) (Some w) (lookup (nat_eq n) es))
+    → (IsSome (lookup (nat_eq k) es) → (n : ℕ)
+    → lookup (nat_eq n) fs ≡ cond (eqb k n) (Some w) (lookup (nat_eq n) es))
     → by_node fs ≡ altered k g (by_node es)
 by_node-altered es fs k g r w value rise own there found =
     by_node-is fs (altered k g (by_node es)) own (Rises-altered k g (by_node es) rise) (λ n.
-    let is = found n in let was = lookup-by_node es n in
-    let next = lookup-altered (by_node es) k g n in elim (cases_eq n k) [
-      | inl same ↦
-          let here : lookup (nat_eq n) es ≡ Some r = rw same (sym there) in
-          grind (arith, nat_tests)
-      | inr off ↦ grind (arith, nat_tests)
-    ])
+    let is = found (subst (λ (o : Option Record). IsSome o) there refl) n in
+    let was = lookup-by_node es n in
+    let next = lookup-altered (by_node es) k g n in grind (arith, nat_tests))
 
 -- records in order where none was there to alter
 pub by_node-absent : (es : Entries) (k : ℕ) (g : Record → Record) → None ≡ lookup (nat_eq k) es
@@ -123,15 +127,12 @@ by_node-absent es k g none = sym (altered-absent (by_node es) k g (lookup-by_nod
 -- records in order where one was written as it was
 pub by_node-same : (es fs : Entries) (k : ℕ) (r w : Record) → w ≡ r → Rises (by_node es)
     → IsDistinct eqb (keys_of fs) → Some r ≡ lookup (nat_eq k) es
-    → ((n : ℕ) → lookup (nat_eq n) fs ≡ cond (eqb k n) (Some w) (lookup (nat_eq n) es))
+    → (IsSome (lookup (nat_eq k) es) → (n : ℕ)
+    → lookup (nat_eq n) fs ≡ cond (eqb k n) (Some w) (lookup (nat_eq n) es))
     → by_node fs ≡ by_node es
 by_node-same es fs k r w value rise own there found = by_node-is fs (by_node es) own rise (λ n.
-    let is = found n in let was = lookup-by_node es n in elim (cases_eq n k) [
-      | inl same ↦
-          let here : lookup (nat_eq n) es ≡ Some r = rw same (sym there) in
-          grind (arith, nat_tests)
-      | inr off ↦ grind (arith, nat_tests)
-    ])
+    let is = found (subst (λ (o : Option Record). IsSome o) there refl) n in
+    let was = lookup-by_node es n in grind (arith, nat_tests))
 
 -- records with their nodes, moved until these don't fall, are those in order
 pub pairs-ordered : (es : Entries) (pairs moved : List (ℕ × Bor Record))
@@ -139,11 +140,17 @@ pub pairs-ordered : (es : Entries) (pairs moved : List (ℕ × Bor Record))
     → IsNonDecreasingBy (λ (p : ℕ × Bor Record). p.0) moved → map shown_pair moved ≡ by_node es
 pairs-ordered es pairs moved own is moves up =
     let number : ℕ × Bor Record → ℕ = λ p. p.0 in
-    let same = map-number number (λ (e : ℕ × Record). e.0) shown_pair (λ p. refl) pairs in
-    let theirs : IsDistinct eqb (map number pairs) = rw (← same, is) own in
-    ap (map shown_pair) (ordered-is number pairs moved moves up theirs)
-    ∙ (map-ordered number (λ (e : ℕ × Record). e.0) shown_pair (λ p. refl) pairs
-    ∙ ap by_node is)
+    let theirs : IsDistinct eqb (map number pairs) =
+    rw (← map-map node_of shown_pair pairs, is) own in
+    let there : IsPermutation es (map shown_pair moved) =
+    rw is at (IsPermutation-map shown_pair pairs moved moves) in
+    let both = IsPermutation-trans (map shown_pair moved) es (by_node es)
+    (IsPermutation-sym es (map shown_pair moved) there) (moves-ordered node_of es) in
+    same_items node_of (map shown_pair moved) (by_node es)
+    (rises_map shown_pair node_of moved (rises_moved number pairs moved moves up theirs))
+    (rises_ordered node_of es own) (covers-moved (map shown_pair moved) (by_node es) both)
+    (covers-moved (by_node es) (map shown_pair moved)
+    (IsPermutation-sym (map shown_pair moved) (by_node es) both))
 
 -- the entries that a query finds, moved until their nodes don't fall, are those of the records in
 -- order
@@ -152,11 +159,20 @@ pub finds-ordered : (es : Entries) (test : ℕ × Record → Bool) (finds moved 
     → IsPermutation finds moved → IsNonDecreasingBy (λ (e : Entry). e.node) moved
     → moved ≡ map entry_of (filter test (by_node es))
 finds-ordered es test finds moved own is moves up =
-    let kept = filter test es in
-    let theirs : IsDistinct eqb (map (λ (e : Entry). e.node) finds) =
-    rw (is, map-number (λ e. e.0) (λ (e : Entry). e.node) entry_of (λ e. refl) kept)
-    (own_filter (λ e. e.0) test es own) in
-    ordered-is (λ (e : Entry). e.node) finds moved moves up theirs
-    ∙ (ap (ordered_by (λ (e : Entry). e.node)) is
-    ∙ (sym (map-ordered (λ e. e.0) (λ (e : Entry). e.node) entry_of (λ e. refl) kept)
-    ∙ ap (map entry_of) (sym (filter-ordered (λ e. e.0) test es own))))
+    let number : Entry → ℕ = λ e. e.node in
+    let theirs : IsDistinct eqb (map number finds) =
+    rw (is, map-map number entry_of (filter test es)) (IsDistinct-keys_filter eqb test es own) in
+    let there : IsPermutation (filter_map (pick test) es) moved =
+    rw (is, picked-is entry_of test es) at moves in
+    let order = moves-ordered node_of es in
+    same_items number moved (filter_map (pick test) (by_node es))
+    (rises_moved number finds moved moves up theirs)
+    (rises_picked node_of number (pick test) (by_node es) (pick-node test)
+    (rises_ordered node_of es own))
+    (λ P all. all_picked P (pick test) (by_node es) (covers-moved es (by_node es) order _
+    (picked_all P (pick test) es (covers-moved moved (filter_map (pick test) es)
+    (IsPermutation-sym (filter_map (pick test) es) moved there) P all))))
+    (λ P all. covers-moved (filter_map (pick test) es) moved there P (all_picked P (pick test) es
+    (covers-moved (by_node es) es (IsPermutation-sym es (by_node es) order) _
+    (picked_all P (pick test) (by_node es) all))))
+    ∙ sym (picked-is entry_of test (by_node es))

@@ -1,80 +1,55 @@
 -- The index: a folder has a name just where an entry is in it.
-use Rattle.std.proofs.Common.{◌≡◌, ◌↔◌, ℕ, List, refl, sym, arith, ap, ◌∙◌, Bool, true, false}
-use Rattle.std.specs.Prelude.{cond, nat_eq, Option, Some, None, is_some, ◌&&◌, ◌==◌}
+use Rattle.std.proofs.Common.{◌≡◌, ◌↔◌, ℕ, List, refl, arith, Bool, true, false}
+use Rattle.std.specs.Prelude.{Option, Some, None, is_some, ◌==◌}
 use Rattle.std.specs.List.{list_any}
-use Rattle.std.specs.Map.{lookup, values_of}
-use Rattle.std.specs.Option.{option_map_or}
+use Rattle.std.specs.Map.{values_of}
 use Rattle.std.proofs.lemmas.Bool.Decides.{nat_tests}
 use Rattle.lq_value.specs.NameHash.{hash_of}
-use Rattle.lq_volume_entries.specs.Record.{Record, node_in}
-use Rattle.lq_volume_entries.specs.PlaceIndex.{is_named, found, stands, IsIndex}
+use Rattle.lq_volume_entries.specs.Record.{node_in}
+use Rattle.lq_volume_entries.specs.PlaceIndex.{IsIndex}
 use Rattle.lq_volume_entries.specs.declared.places.Places.{Places}
 use Rattle.lq_volume_entries.specs.Places.{first_in, other_in, IsNameless}
 use Rattle.lq_volume_entries.proofs.RecordLemmas.{Entries, fails-lookup}
 use Rattle.lq_volume_entries.proofs.PlaceLemmas.{any-named, named-any}
 
--- what stands under a hash in a folder is an entry in it
-first-any : (es : Entries) (d h x : ℕ) → stands es d h x ≡ true
-    → list_any (λ r. r.dir == d) (values_of es) ≡ false → ⊥
-first-any es d h x s none = at (lookup (nat_eq x) es) refl s
-  where
-    at : (o : Option Record) → lookup (nat_eq x) es ≡ o
-        → option_map_or (λ r. (r.dir == d) && (hash_of r.name == h)) o false ≡ true → ⊥
-    at None is k = cc
-    at (Some r) is k =
-        let never = fails-lookup (λ r. r.dir == d) es x r none is in
-        grind (arith, nat_tests)
-
--- where something stands under a name, something is found
-found-other : (es : Entries) (n : List ℕ) (o : Option ℕ) (y : ℕ)
-    → is_some (found es n o (Some y)) ≡ true
-found-other es n None y = refl
-found-other es n (Some x) y =
-    elim (is_named es n x) as (λ b. is_some (cond b (Some x) (Some y)) ≡ true)
-    [ true ↦ refl | false ↦ refl ]
-
 -- a folder has a name just where an entry is in it
 pub has_names-is : (p : Places) (es : Entries) (dir : ℕ) (has : Bool) → IsIndex p es
     → (has ≡ false) ↔ IsNameless p dir → has ≡ list_any (λ r. r.dir == dir) (values_of es)
 has_names-is p es dir has i nameless =
-    go has refl (list_any (λ r. r.dir == dir) (values_of es)) refl
+    go (list_any (λ r. r.dir == dir) (values_of es)) refl
   where
     -- nothing is under a hash where no entry is
     by-first : list_any (λ r. r.dir == dir) (values_of es) ≡ false → (h : ℕ) (o : Option ℕ)
         → first_in p dir h ≡ o → o ≡ None
     by-first none h None is = refl
-    by-first none h (Some x) is = absurd (first-any es dir h x (i.sound dir h x is) none)
+    by-first none h (Some x) is =
+        let s = i.sound dir h x is in
+        let never = fails-lookup (λ r. r.dir == dir) es x in
+        absurd (grind (arith, nat_tests))
 
     -- nothing is under a name there
     by-other : list_any (λ r. r.dir == dir) (values_of es) ≡ false → (n : List ℕ) (o : Option ℕ)
         → other_in p dir n ≡ o → o ≡ None
     by-other none n None is = refl
     by-other none n (Some y) is =
-        let has = found-other es n (first_in p dir (hash_of n)) y in
-        let there : is_some (node_in es dir n) ≡ true =
-        sym (ap is_some (sym (ap (found es n (first_in p dir (hash_of n))) is) ∙ i.finds dir n))
-        ∙ has in
-        let any = named-any es dir n there in
-        absurd cc
+        let had = i.finds dir n in
+        let any = named-any es dir n in
+        absurd (grind (arith, nat_tests))
 
-    go : (a : Bool) → has ≡ a → (b : Bool)
-        → list_any (λ r. r.dir == dir) (values_of es) ≡ b → a ≡ b
-    go true h true k = refl
-    go false h false k = refl
-    go true h false k =
-        let empty = nameless.1 (
-          (λ hash. by-first k hash (first_in p dir hash) refl),
-          (λ name. by-other k name (other_in p dir name) refl),
-        ) in
-        absurd cc
-    go false h true k =
-        let w = any-named es dir k in
-        let both = nameless.0 h in
-        let f = both.0 (hash_of w.0) in
-        let g = both.1 w.0 in
-        let empty : found es w.0 (first_in p dir (hash_of w.0)) (other_in p dir w.0) ≡ None =
-        ap (λ (o : Option ℕ). found es w.0 o (other_in p dir w.0)) f ∙ g in
-        let never : is_some (node_in es dir w.0) ≡ false =
-        sym (ap is_some (i.finds dir w.0)) ∙ ap is_some empty in
-        let some = w.1 in
-        cc
+    go : (b : Bool) → list_any (λ r. r.dir == dir) (values_of es) ≡ b → has ≡ b
+    go false none = nameless.1 (
+      (λ hash. by-first none hash (first_in p dir hash) refl),
+      (λ name. by-other none name (other_in p dir name) refl),
+    )
+    go true any = named (any-named es dir any) has refl
+      where
+        named : (n : List ℕ) × (is_some (node_in es dir n) ≡ true) → (a : Bool) → has ≡ a
+            → has ≡ true
+        named w true h = h
+        named w false h =
+            let both = nameless.0 h in
+            let first = both.0 (hash_of w.0) in
+            let rest = both.1 w.0 in
+            let had = i.finds dir w.0 in
+            let some = w.1 in
+            absurd (grind (arith, nat_tests))

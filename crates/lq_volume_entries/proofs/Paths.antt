@@ -1,29 +1,20 @@
 -- The path of a node: the names on the walk up to the root lead down again.
-use Rattle.std.proofs.Common.{◌≡◌, subst, ℕ, suc, List, [], ◌∷◌, ◌++◌, refl, sym, arith, ◌∙◌, true, inl, inr}
+use Rattle.std.proofs.Common.{◌≡◌, ℕ, suc, List, [], ◌∷◌, ◌++◌, refl, sym, arith, ◌∙◌, true}
 use Rattle.std.specs.Prelude.{nat_eq, reverse, Some, None}
 use Rattle.std.specs.Map.{lookup}
-use Rattle.std.proofs.lemmas.Bool.{cases_eq}
 use Rattle.std.proofs.lemmas.Bool.Decides.{nat_tests}
 use Rattle.std.proofs.lemmas.List.{reverse-append}
 use Rattle.lq_volume_entries.specs.Folder.{CanClimb, Leads}
 use Rattle.lq_volume_entries.specs.Record.{Record, Rises, climbs, dir_of, root, node_in}
-use Rattle.lq_volume_entries.proofs.Steps.{climbs-on, climbs-top, dir_of-none, dir_of-some}
+use Rattle.lq_volume_entries.proofs.Steps.{climbs-on, climbs-top}
 use Rattle.lq_volume_entries.proofs.PlaceLemmas.{uniq}
 use Rattle.lq_volume_entries.proofs.RecordLemmas.{Entries}
 
 -- a walk that reaches the root ends there where there is no record
 pub ends-at_root : (n : ℕ) (es : Entries) (at : ℕ) → climbs n (dir_of es) root at ≡ true
     → None ≡ lookup (nat_eq at) es → at ≡ root
-ends-at_root n es at within none = elim (cases_eq at root) [
-  | inl same ↦ same
-  | inr off ↦
-      let never = climbs-top n (dir_of es) root at off (dir_of-none es at none) in
-      absurd cc
-]
-
--- a walk of no more steps that reaches the root is there
-pub ended-at_root : (es : Entries) (at : ℕ) → climbs 0 (dir_of es) root at ≡ true → at ≡ root
-ended-at_root es at within = grind (arith, nat_tests)
+ends-at_root n es at within none =
+    let never = climbs-top n es root at in grind (arith, nat_tests)
 
 -- a node with a record isn't the root
 pub isn't-root : (es : Entries) (at : ℕ) (r : Record) → lookup (nat_eq root) es ≡ None
@@ -37,8 +28,7 @@ pub reaches-on : (n : ℕ) (es : Entries) (at : ℕ) (r : Record) → lookup (na
     → Some r ≡ lookup (nat_eq at) es → climbs (suc n) (dir_of es) root at ≡ true
     → climbs n (dir_of es) root r.dir ≡ true
 reaches-on n es at r none is within =
-    sym (climbs-on n (dir_of es) root at r.dir (isn't-root es at r none is)
-    (dir_of-some es at r is)) ∙ within
+    sym (climbs-on n es root at r (isn't-root es at r none is) is) ∙ within
 
 -- a name more leads from the folder above
 pub Leads-up : (es : Entries) (at from : ℕ) (r : Record) (names : List (List ℕ)) → Rises es
@@ -47,8 +37,3 @@ pub Leads-up : (es : Entries) (at from : ℕ) (r : Record) (names : List (List �
 Leads-up es at from r names rise can is leads =
     rw (reverse-append names (r.name ∷ []))
     (at, uniq es at r (node_in es r.dir r.name) rise can.apart (sym is) refl, leads)
-
--- names lead from the root where the walk ended there
-pub Leads-root : (es : Entries) (at from : ℕ) (names : List (List ℕ)) → at ≡ root
-    → Leads es at names from → Leads es root names from
-Leads-root es at from names same leads = subst (λ (n : ℕ). Leads es n names from) same leads

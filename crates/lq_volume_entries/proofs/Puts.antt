@@ -1,28 +1,31 @@
 -- The steps of a put into the index of places, and what they come to.
-use Rattle.std.proofs.Common.{◌≡◌, ℕ, List, ◌∙◌, ap, sym, arith, Bool, true, false}
-use Rattle.std.specs.Prelude.{Option, Some, None, nat_eq}
+use Rattle.std.proofs.Common.{◌≡◌, ℕ, List, ◌∙◌, arith, Bool, true, false}
+use Rattle.std.specs.Prelude.{Option, Some, nat_eq}
 use Rattle.std.specs.Option.{option_eq, option_map_or}
 use Rattle.std.proofs.lemmas.Bool.Decides.{nat_tests}
 use Rattle.lq_value.specs.NameHash.{hash_of}
 use Rattle.lq_volume_entries.specs.declared.places.Places.{Places}
-use Rattle.lq_volume_entries.specs.Places.{first_in, is_open, Puts, PutsFirst, PutsOther, SamePlaces}
+use Rattle.lq_volume_entries.specs.Places.{first_in, Puts, PutsFirst, PutsOther, SamePlaces}
 
--- whether a place is open to a node, by the node that stands under the hash
-pub open-is : (a b : Places) (dir : ℕ) (name : List ℕ) (over first : Option ℕ) (is : Bool)
-    → SamePlaces a b → first ≡ first_in b dir (hash_of name)
-    → option_map_or (λ there. option_map_or (nat_eq there) over false) first true ≡ is
-    → is_open a dir name over ≡ is
-open-is a b dir name over first is same there test =
-    ap (λ (o : Option ℕ). option_map_or (λ there. option_map_or (nat_eq there) over false) o true)
-    (sym (same.first dir (hash_of name)) ∙ sym there) ∙ test
+-- whether nothing stands under a hash, or only a node that goes
+abbrev pub is_free : Option ℕ → Option ℕ → Bool
+is_free over o = option_map_or (λ there. option_map_or (nat_eq there) over false) o true
 
--- a node that is put under an open hash has the place
-pub puts-first : (a b c : Places) (dir : ℕ) (name : List ℕ) (node : ℕ) (over : Option ℕ)
-    → SamePlaces a b → is_open a dir name over ≡ true → PutsFirst b c dir (hash_of name) node
-    → Puts a c dir name node over
-puts-first a b c dir name node over same free put = record {
-  first = λ d h. let x = put.first d h in let y = same.first d h in grind (arith, nat_tests);
-  others = λ d n. let x = put.others d n in let y = same.others d n in grind (arith, nat_tests);
+-- a node that is put under a free hash has the place
+pub puts-first : (a b c : Places) (dir hash : ℕ) (name : List ℕ) (node : ℕ)
+    (over first : Option ℕ) → SamePlaces a b → hash ≡ hash_of name → first ≡ first_in b dir hash
+    → is_free over first ≡ true → PutsFirst b c dir hash node → Puts a c dir name node over
+puts-first a b c dir hash name node over first same hash_is there free put = record {
+  first = λ d h.
+      let x = put.first d h in
+      let y = same.first d h in
+      let z = same.first dir hash in
+      grind (arith, nat_tests);
+  others = λ d n.
+      let x = put.others d n in
+      let y = same.others d n in
+      let z = same.first dir hash in
+      grind (arith, nat_tests);
 }
 
 -- a hash that is given back to the node that stood there is as it was
@@ -38,11 +41,11 @@ puts-back a b c d dir hash node there same was put back = record {
   others = λ e n. back.others e n ∙ (put.others e n ∙ same.others e n);
 }
 
--- a node that is put under its name, where the hash isn't open, has the place
-pub puts-other : (a b c : Places) (dir : ℕ) (name : List ℕ) (node : ℕ) (over : Option ℕ)
-    → SamePlaces a b → is_open a dir name over ≡ false → PutsOther b c dir name node
-    → Puts a c dir name node over
-puts-other a b c dir name node over same shut put = record {
+-- a node that is put under its name, where the hash isn't free, has the place
+pub puts-other : (a b c : Places) (dir hash : ℕ) (name : List ℕ) (node : ℕ)
+    (over first : Option ℕ) → SamePlaces a b → hash ≡ hash_of name → first ≡ first_in a dir hash
+    → is_free over first ≡ false → PutsOther b c dir name node → Puts a c dir name node over
+puts-other a b c dir hash name node over first same hash_is there shut put = record {
   first = λ d h. let x = put.first d h in let y = same.first d h in grind (arith, nat_tests);
   others = λ d n. let x = put.others d n in let y = same.others d n in grind (arith, nat_tests);
 }
@@ -57,5 +60,4 @@ same-twice a b c x y = record {
 -- whether a node that stands there goes, as the code tests it
 pub goes-is : (over : Option ℕ) (there : ℕ) (is : Bool) → option_eq nat_eq over (Some there) ≡ is
     → option_map_or (nat_eq there) over false ≡ is
-goes-is None there is h = h
-goes-is (Some x) there is h = grind (arith, nat_tests)
+goes-is over there is h = grind (arith, nat_tests)

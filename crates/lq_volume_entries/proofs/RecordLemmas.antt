@@ -1,9 +1,10 @@
 -- What one more node at the end, and one node less, make of entries whose nodes rise.
-use Rattle.std.proofs.Common.{◌≡◌, ℕ, ◌<◌, Result, List, [], ◌∷◌, ◌++◌, refl, arith, eqb}
+use Rattle.std.proofs.Common.{◌≡◌, ℕ, ◌<◌, ◌≤◌, Result, List, [], ◌∷◌, ◌++◌, refl, arith, eqb}
 use Rattle.std.specs.Prelude.{not, ◌&&◌, ◌==◌, filter, Bool, true, false, cond, nat_eq, Option, Some, None, Ok, Err, OnErr}
 use Rattle.std.specs.Option.{option_map}
 use Rattle.std.specs.List.{AllByRecursion, list_any}
 use Rattle.std.specs.Str.{bytes_eq}
+use Rattle.std.proofs.lemmas.List.Elements.{All-filter, All-from_recursion, recursion_from_All}
 use Rattle.std.proofs.lemmas.Slice.Eq.{bytes_eq-Decides}
 use Rattle.std.specs.Map.{lookup, values_of}
 use Rattle.std.proofs.lemmas.Bool.Decides.{nat_tests}
@@ -31,22 +32,6 @@ pub All-push : (P : ℕ × Record → Type 0) (es : Entries) (e : ℕ × Record)
 All-push P [] e h p = (p, tt)
 All-push P (f ∷ es) e h p = (h.0, All-push P es e h.1 p)
 
--- what follows from what is so of each entry is so of each
-pub All-weaker : (P Q : ℕ × Record → Type 0) (es : Entries) → ((e : ℕ × Record) → P e → Q e)
-    → AllByRecursion P es → AllByRecursion Q es
-All-weaker P Q [] f h = tt
-All-weaker P Q (e ∷ es) f h = (f e h.0, All-weaker P Q es f h.1)
-
--- what is so of each entry is so of those that a filter leaves
-pub All-filter : (P : ℕ × Record → Type 0) (test : ℕ × Record → Bool) (es : Entries)
-    → AllByRecursion P es → AllByRecursion P (filter test es)
-All-filter P test [] h = tt
-All-filter P test (e ∷ es) h =
-    elim (test e) as (λ b. AllByRecursion P (cond b (e ∷ filter test es) (filter test es))) [
-      | true ↦ (h.0, All-filter P test es h.1)
-      | false ↦ All-filter P test es h.1
-    ]
-
 -- the nodes still rise after one more that is above all others
 pub Rises-push : (es : Entries) (k : ℕ) (v : Record) → Rises es → AllByRecursion (λ e. e.0 < k) es
     → Rises (es ++ (k, v) ∷ [])
@@ -59,7 +44,11 @@ pub Rises-filter : (test : ℕ × Record → Bool) (es : Entries) → Rises es �
 Rises-filter test [] h = tt
 Rises-filter test (e ∷ es) h =
     elim (test e) as (λ b. Rises (cond b (e ∷ filter test es) (filter test es))) [
-      | true ↦ (All-filter (λ f. e.0 < f.0) test es h.0, Rises-filter test es h.1)
+      | true ↦ (
+        recursion_from_All (λ f. e.0 < f.0) (filter test es)
+            (All-filter test (λ f. e.0 < f.0) es (All-from_recursion (λ f. e.0 < f.0) es h.0)),
+        Rises-filter test es h.1,
+      )
       | false ↦ Rises-filter test es h.1
     ]
 
@@ -99,10 +88,10 @@ Rises-altered k g [] h = tt
 Rises-altered k g (e ∷ es) h = (All-altered (λ n. e.0 < n) k g es h.0, Rises-altered k g es h.1)
 
 -- a node below all others is not found among them
-pub lookup-below : (es : Entries) (k : ℕ) → AllByRecursion (λ f. k < f.0) es
+pub lookup-below : (es : Entries) (k m : ℕ) → AllByRecursion (λ f. m < f.0) es → k ≤ m
     → lookup (nat_eq k) es ≡ None
-lookup-below [] k h = refl
-lookup-below (e ∷ es) k h = grind (arith, nat_tests, lookup-below es k h.1)
+lookup-below [] k m h low = refl
+lookup-below (e ∷ es) k m h low = grind (arith, nat_tests, lookup-below es k m h.1, h.0)
 
 -- nor is one above all others
 pub lookup-above : (es : Entries) (k : ℕ) → AllByRecursion (λ f. f.0 < k) es
@@ -126,38 +115,28 @@ Rises-front (f ∷ es) fs e h = (below es h.0, Rises-front es fs e h.1)
     below [] k = k.0
     below (g ∷ gs) k = below gs k.1
 
--- the nodes of a front rise
-pub Rises-start : (es fs : Entries) → Rises (es ++ fs) → Rises es
-Rises-start [] fs h = tt
-Rises-start (e ∷ es) fs h = (front es h.0, Rises-start es fs h.1)
-  where
-    front : (gs : Entries) → AllByRecursion (λ g. e.0 < g.0) (gs ++ fs)
-        → AllByRecursion (λ g. e.0 < g.0) gs
-    front [] k = tt
-    front (g ∷ gs) k = (k.0, front gs k.1)
+-- the record of a node is at a place
+abbrev pub HasPlace : Entries → ℕ → ℕ → List ℕ → Type 0
+HasPlace es x dir name =
+    (r : Record) × (lookup (nat_eq x) es ≡ Some r) × (r.dir ≡ dir) × (r.name ≡ name)
 
 -- the node that the search for a place finds has a record there
 pub node_in-some : (es : Entries) (dir : ℕ) (name : List ℕ) (x : ℕ) → Rises es
-    → node_in es dir name ≡ Some x
-    → (r : Record) × (lookup (nat_eq x) es ≡ Some r) × (r.dir ≡ dir) × (r.name ≡ name)
+    → node_in es dir name ≡ Some x → HasPlace es x dir name
 node_in-some [] dir name x h found = cc
 node_in-some (e ∷ es) dir name x h found =
     at (node_in-some es dir name x h.1) ((e.1.dir == dir) && bytes_eq e.1.name name) refl
   where
-    at : (node_in es dir name ≡ Some x
-        → (r : Record) × (lookup (nat_eq x) es ≡ Some r) × (r.dir ≡ dir) × (r.name ≡ name))
-        → (b : Bool) → ((e.1.dir == dir) && bytes_eq e.1.name name) ≡ b
-        → (r : Record) × (lookup (nat_eq x) (e ∷ es) ≡ Some r) × (r.dir ≡ dir) × (r.name ≡ name)
+    at : (node_in es dir name ≡ Some x → HasPlace es x dir name) → (b : Bool)
+        → ((e.1.dir == dir) && bytes_eq e.1.name name) ≡ b → HasPlace (e ∷ es) x dir name
     at hyp true is =
         let same = bytes_eq-Decides e.1.name name in
         let here : e.0 ≡ x = grind (arith, nat_tests) in
         (e.1, grind (arith, nat_tests), grind (arith, nat_tests), grind (arith, nat_tests))
     at hyp false is =
-        let rest : (r : Record) × (lookup (nat_eq x) es ≡ Some r) × (r.dir ≡ dir)
-        × (r.name ≡ name) = hyp (grind (arith, nat_tests)) in
+        let rest : HasPlace es x dir name = hyp (grind (arith, nat_tests)) in
         let l = rest.1 in
-        let off = lookup-below es e.0 h.0 in
-        let differs : eqb x e.0 ≡ false = grind (arith, nat_tests) in
+        let off = lookup-below es e.0 e.0 h.0 (omega arith) in
         (rest.0, grind (arith, nat_tests), rest.2, rest.3)
 
 -- where no node is found at a place, no record has it

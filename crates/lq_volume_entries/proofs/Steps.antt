@@ -1,7 +1,6 @@
 -- The steps of a bounded walk up.
-use Rattle.std.proofs.Common.{◌≡◌, ℕ, zero, suc, sym, arith, ap, true, false, Some, None}
+use Rattle.std.proofs.Common.{◌≡◌, ℕ, zero, suc, arith, true, false, Some, None}
 use Rattle.std.specs.Prelude.{nat_eq, Option}
-use Rattle.std.specs.Option.{option_map}
 use Rattle.std.specs.Map.{lookup}
 use Rattle.std.proofs.lemmas.Bool.Decides.{nat_tests}
 use Rattle.lq_volume_entries.specs.Record.{Record, climbs, dir_of}
@@ -12,22 +11,14 @@ pub climbs-here : (n : ℕ) (up : ℕ → Option ℕ) (to at : ℕ) → at ≡ t
 climbs-here zero up to at h = grind (arith, nat_tests)
 climbs-here (suc n) up to at h = grind (arith, nat_tests)
 
--- a bounded walk from another node that is in no folder finds nothing
-pub climbs-top : (n : ℕ) (up : ℕ → Option ℕ) (to at : ℕ) → (at ≡ to → ⊥) → up at ≡ None
-    → climbs n up to at ≡ false
-climbs-top zero up to at h is = grind (arith, nat_tests)
-climbs-top (suc n) up to at h is = grind (arith, nat_tests)
+-- a bounded walk from another node that has no record finds nothing
+pub climbs-top : (n : ℕ) (es : Entries) (to at : ℕ) → (at ≡ to → ⊥)
+    → None ≡ lookup (nat_eq at) es → climbs n (dir_of es) to at ≡ false
+climbs-top zero es to at off none = grind (arith, nat_tests)
+climbs-top (suc n) es to at off none = grind (arith, nat_tests)
 
 -- a bounded walk goes on from the folder that the node is in
-pub climbs-on : (n : ℕ) (up : ℕ → Option ℕ) (to at d : ℕ) → (at ≡ to → ⊥) → up at ≡ Some d
-    → climbs (suc n) up to at ≡ climbs n up to d
-climbs-on n up to at d h is = grind (arith, nat_tests)
-
--- a folder as a map's look-up gives it
-pub dir_of-some : (es : Entries) (k : ℕ) (r : Record) → Some r ≡ lookup (nat_eq k) es
-    → dir_of es k ≡ Some r.dir
-dir_of-some es k r h = sym (ap (option_map (λ (v : Record). v.dir)) h)
-
--- a node that the map doesn't have is in no folder
-pub dir_of-none : (es : Entries) (k : ℕ) → None ≡ lookup (nat_eq k) es → dir_of es k ≡ None
-dir_of-none es k h = sym (ap (option_map (λ (v : Record). v.dir)) h)
+pub climbs-on : (n : ℕ) (es : Entries) (to at : ℕ) (r : Record) → (at ≡ to → ⊥)
+    → Some r ≡ lookup (nat_eq at) es
+    → climbs (suc n) (dir_of es) to at ≡ climbs n (dir_of es) to r.dir
+climbs-on n es to at r off is = grind (arith, nat_tests)

@@ -1,6 +1,4 @@
-use Rattle.std.proofs.Common.{sym, subst, None, ◌∙◌}
-use Rattle.std.specs.Prelude.{IsSome, Option}
-use Rattle.lq_volume_entries.specs.Record.{Record}
+use Rattle.std.proofs.Common.{sym, ◌∙◌}
 use Rattle.lq_volume_entries.specs.PlaceIndex.{CanMove}
 use Rattle.lq_volume_entries.proofs.IndexLemmas.{index-same}
 use Rattle.lq_volume_entries.proofs.IndexMoves.{index-moved, index-stays}
@@ -11,6 +9,7 @@ pub invariant_of-self-2 : goal.invariant_of-self-2
 invariant_of-self-2 c =
     let moves : CanMove c.self.inside.records c.args.node c.args.dir c.args.name.now c.args.other =
     rw c.self.view_is c.requires in
+    let kept = c.in_ok-kept.ensures.value in
     elim c.match-get.branch [
       | in-Some+then-not-is_at+in_ok-put w ↦
           let takes = rw (
@@ -21,29 +20,14 @@ invariant_of-self-2 c =
             w.name.ensures,
           ) at w.take.ensures in
           let away = sym w.is_at.ensures ∙ w.if-not-is_at.true in
-          rw (
-            w.self-inside-is,
-            c.relocate.ensures,
-            c.remove_if.ensures,
-            c.in_ok-kept.ensures.value,
-            w.self-inside-is,
-          )
+          rw (w.self-inside-is, c.relocate.ensures, c.remove_if.ensures, kept, w.self-inside-is)
           (index-moved _ _ _ _ _ _ _ _ _ c.get.ensures.rise moves (sym w.in-Some.ensures.record)
           c.self.invariant w.in_ok-put.ensures.ok takes away)
       | in-Some+else-not-is_at w ↦
-          rw (
-            w.self-inside-is,
-            c.relocate.ensures,
-            c.remove_if.ensures,
-            c.in_ok-kept.ensures.value,
-            w.self-inside-is,
-          )
+          rw (w.self-inside-is, c.relocate.ensures, c.remove_if.ensures, kept, w.self-inside-is)
           (index-stays _ _ _ _ _ _ _ c.get.ensures.rise moves (sym w.in-Some.ensures.record)
           c.self.invariant (sym w.is_at.ensures ∙ w.if-not-is_at.false))
-      | in_default w ↦
-          let clash : IsSome {T = Record} None =
-          subst (λ (o : Option Record). IsSome o) (sym w.in_default.ensures.record) moves.there in
-          cc
+      | in_default w ↦ let clash = rw (← w.in_default.ensures.record) at moves.there in absurd cc
     ]
 
 pub invariant_of-self : goal.invariant_of-self

@@ -1,24 +1,21 @@
 use Rattle.std.proofs.Common.{◌∙◌, refl, sym, true, false, None, Some}
 use Rattle.std.proofs.lemmas.Result.{on_ok_weaker, on_err_weaker}
-use Rattle.lq_volume_entries.proofs.Puts.{goes-is, open-is, puts-first, puts-back, puts-other, same-twice}
+use Rattle.lq_volume_entries.proofs.Puts.{goes-is, puts-first, puts-back, puts-other, same-twice}
 use Rattle.lq_volume_entries.proofs.places.Places.put.Goals as goal
 
 pub returns-in-None-clause-ok : goal.returns-in-None-clause-ok
 returns-in-None-clause-ok c =
-    let same = c.in_ok-open_folder.ensures.same in
-    puts-first _ _ _ c.args.dir c.args.name.now c.args.node c.args.over same
-    (open-is _ _ c.args.dir c.args.name.now c.args.over None _ same
-    (rw (← c.hash-hash.ensures) (sym c.in-None.is ∙ c.in_ok-put_first.ensures.there)) refl)
-    (rw (← c.hash-hash.ensures) c.in_ok-put_first.ensures.ok)
+    puts-first _ _ _ c.args.dir _ c.args.name.now c.args.node c.args.over None
+    c.in_ok-open_folder.ensures.same c.hash-hash.ensures
+    (sym c.in-None.is ∙ c.in_ok-put_first.ensures.there) refl c.in_ok-put_first.ensures.ok
 
 pub returns-in-Some-clause-ok : goal.returns-in-Some-clause-ok
 returns-in-Some-clause-ok c =
-    let same = c.in_ok-open_folder.ensures.same in
-    puts-first _ _ _ c.args.dir c.args.name.now c.args.node c.args.over same
-    (open-is _ _ c.args.dir c.args.name.now c.args.over (Some c.in-Some.there) _ same
-    (rw (← c.hash-hash.ensures) (sym c.in-Some.is ∙ c.in_ok-put_first.ensures.there))
-    (goes-is c.args.over c.in-Some.there true (sym c.eq.ensures ∙ c.if-eq.true)))
-    (rw (← c.hash-hash.ensures) c.in_ok-put_first.ensures.ok)
+    puts-first _ _ _ c.args.dir _ c.args.name.now c.args.node c.args.over (Some c.in-Some.there)
+    c.in_ok-open_folder.ensures.same c.hash-hash.ensures
+    (sym c.in-Some.is ∙ c.in_ok-put_first.ensures.there)
+    (goes-is c.args.over c.in-Some.there true (sym c.eq.ensures ∙ c.if-eq.true))
+    c.in_ok-put_first.ensures.ok
 
 pub returns-in_ok-copy-in-Some-2-clause-ok : goal.returns-in_ok-copy-in-Some-2-clause-ok
 returns-in_ok-copy-in-Some-2-clause-ok c =
@@ -26,12 +23,11 @@ returns-in_ok-copy-in-Some-2-clause-ok c =
     let there = sym c.in-Some.is ∙ c.in_ok-put_first.ensures.there in
     let back = puts-back _ _ _ _ _ _ _ _ same there c.in_ok-put_first.ensures.ok
     c.put_back.ensures in
-    let shut = open-is _ _ c.args.dir c.args.name.now c.args.over (Some c.in-Some.there) _ same
-    (rw (← c.hash-hash.ensures) there)
-    (goes-is c.args.over c.in-Some.there false (sym c.eq.ensures ∙ c.if-eq.false)) in
-    on_ok_weaker c.put_other.result (λ put. puts-other _ _ _ c.args.dir c.args.name.now
-    c.args.node c.args.over back shut (rw (← c.in_ok-copy-in-Some-2.ensures.value) put))
-    c.put_other.ensures.ok
+    on_ok_weaker c.put_other.result (λ put. puts-other _ _ _ c.args.dir _ c.args.name.now
+    c.args.node c.args.over (Some c.in-Some.there) back c.hash-hash.ensures
+    (there ∙ same.first _ _)
+    (goes-is c.args.over c.in-Some.there false (sym c.eq.ensures ∙ c.if-eq.false))
+    (rw (← c.in_ok-copy-in-Some-2.ensures.value) put)) c.put_other.ensures.ok
 
 pub returns-in_ok-copy-in-Some-2-clause-err : goal.returns-in_ok-copy-in-Some-2-clause-err
 returns-in_ok-copy-in-Some-2-clause-err c =

@@ -1,7 +1,6 @@
-use Rattle.std.proofs.Common.{arith, sym}
+use Rattle.std.proofs.Common.{arith}
 use Rattle.std.proofs.lemmas.Grind.{common_steps}
 use Rattle.std.proofs.lemmas.Bool.Decides.{nat_tests}
-use Rattle.lq_volume_entries.proofs.Options.{not-there}
 use Rattle.lq_volume_entries.proofs.places.Places.put_first.Goals as goal
 
 pub returns-in_ok-insert-in-Some-clause-ok : goal.returns-in_ok-insert-in-Some-clause-ok
@@ -12,8 +11,8 @@ returns-in_ok-insert-in-Some-clause-ok c = record {
 
 pub returns-in-None-clause-there : goal.returns-in-None-clause-there
 returns-in-None-clause-there c =
-    absurd (not-there _ (sym c.in-None.ensures.value) c.requires)
+    let clash = rw (← c.in-None.ensures.value) at c.requires in absurd cc
 
 pub returns-in-None-clause-ok : goal.returns-in-None-clause-ok
 returns-in-None-clause-ok c =
-    absurd (not-there _ (sym c.in-None.ensures.value) c.requires)
+    let clash = rw (← c.in-None.ensures.value) at c.requires in absurd cc

@@ -7,34 +7,18 @@ use Rattle.lq_volume_entries.proofs.places.Places.take_name.Goals.{then-was_firs
 
 pub returns-after-was_first-clause-takes : goal.returns-after-was_first-clause-takes
 returns-after-was_first-clause-takes c = elim c.if-was_first.branch [
-  | then-was_first w ↦
-      let is = w.names-is in
-      let was = w.if-was_first.true in
-      record {
-        first = λ d h. grind (
-          arith,
-          common_steps,
-          nat_tests,
-          w.hash.ensures,
-          w.remove.ensures.updates.0 h,
-        );
-        others = λ d n. grind (
-          arith,
-          common_steps,
-          is_eq-slice_cmp c.args.name.now n,
-          c.remove-in-Some.ensures.updates.0 n,
-        );
-      }
-  | else-was_first w ↦
-      let is = w.names-is in
-      let was = w.if-was_first.false in
-      record {
-        first = λ d h. grind (arith, common_steps, nat_tests);
-        others = λ d n. grind (
-          arith,
-          common_steps,
-          is_eq-slice_cmp c.args.name.now n,
-          c.remove-in-Some.ensures.updates.0 n,
-        );
-      }
+  | then-was_first w ↦ record {
+    first = λ d h.
+        let gone = w.remove.ensures.updates.0 h in
+        grind (arith, common_steps, nat_tests, w.hash.ensures);
+    others = λ d n.
+        let gone = c.remove-in-Some.ensures.updates.0 n in
+        grind (arith, common_steps, is_eq-slice_cmp c.args.name.now n);
+  }
+  | else-was_first w ↦ record {
+    first = λ d h. grind (arith, common_steps, nat_tests);
+    others = λ d n.
+        let gone = c.remove-in-Some.ensures.updates.0 n in
+        grind (arith, common_steps, is_eq-slice_cmp c.args.name.now n);
+  }
 ]

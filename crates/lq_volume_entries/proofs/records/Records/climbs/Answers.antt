@@ -1,6 +1,5 @@
-use Rattle.std.proofs.Common.{◌≡◌, suc, ◌-◌, ◌∙◌, sym, arith, Some}
-use Rattle.lq_volume_entries.specs.Record.{dir_of}
-use Rattle.lq_volume_entries.proofs.Steps.{climbs-here, climbs-top, climbs-on, dir_of-some, dir_of-none}
+use Rattle.std.proofs.Common.{suc, ◌-◌, ◌∙◌, sym, arith}
+use Rattle.lq_volume_entries.proofs.Steps.{climbs-here, climbs-top, climbs-on}
 use Rattle.lq_volume_entries.proofs.records.Records.climbs.Goals as goal
 
 pub returns-then-at-to : goal.returns-then-at-to
@@ -11,20 +10,16 @@ returns-then-at-to c =
 pub returns-in-None : goal.returns-in-None
 returns-in-None c =
     let n = c.len-end.result - c.loop.counter in
-    sym (climbs-top n _ _ _ c.if-at-to.false
-    (dir_of-none c.args.self.now c.loop.at c.in-None.ensures.record))
+    sym (climbs-top n _ _ _ c.if-at-to.false c.in-None.ensures.record)
     ∙ c.loop.invariant.rest n (omega arith)
 
 pub loop-preserved : goal.loop-preserved
-loop-preserved c =
-    let up : dir_of c.args.self.now c.loop.at ≡ Some c.dir-at.result =
-    rw c.dir-at.ensures (dir_of-some c.args.self.now c.loop.at c.in-Some.record.now
-    c.in-Some.ensures.record) in
-    record {
-      end = c.loop.invariant.end;
-      rest = λ n e. sym (climbs-on n _ _ _ _ c.if-at-to.false up)
-          ∙ c.loop.invariant.rest (suc n) (omega arith);
-    }
+loop-preserved c = record {
+  end = c.loop.invariant.end;
+  rest = λ n e.
+      rw c.dir-at.ensures (sym (climbs-on n _ _ _ _ c.if-at-to.false c.in-Some.ensures.record)
+      ∙ c.loop.invariant.rest (suc n) (omega arith));
+}
 
 pub returns : goal.returns
 returns c = c.loop.invariant.rest 0 (omega arith)

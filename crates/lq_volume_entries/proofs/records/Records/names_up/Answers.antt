@@ -1,14 +1,14 @@
 use Rattle.std.proofs.Common.{suc, ◌-◌, ◌∷◌, ◌++◌, ◌∙◌, [], ℕ, List, ap, arith}
-use Rattle.lq_volume_entries.proofs.Paths.{ended-at_root, ends-at_root, reaches-on, Leads-root, Leads-up}
+use Rattle.std.proofs.lemmas.Bool.{eqb-true}
+use Rattle.lq_volume_entries.specs.Record.{root}
+use Rattle.lq_volume_entries.proofs.Paths.{ends-at_root, reaches-on, Leads-up}
 use Rattle.lq_volume_entries.proofs.records.Records.names_up.Goals as goal
 
 pub returns-in-None-clause-names : goal.returns-in-None-clause-names
 returns-in-None-clause-names c =
     let n = c.len-end.result - c.loop.counter in
-    Leads-root c.args.self.now c.loop.at c.args.from _
-    (ends-at_root n c.args.self.now c.loop.at (c.loop.invariant.rest n (omega arith))
-    c.in-None.ensures.record)
-    c.loop.invariant.so_far
+    rw (← ends-at_root n c.args.self.now c.loop.at (c.loop.invariant.rest n (omega arith))
+    c.in-None.ensures.record) c.loop.invariant.so_far
 
 pub loop-preserved : goal.loop-preserved
 loop-preserved c = record {
@@ -25,6 +25,5 @@ loop-preserved c = record {
 }
 
 pub returns-clause-names : goal.returns-clause-names
-returns-clause-names c = Leads-root c.args.self.now c.loop.at c.args.from _
-    (ended-at_root c.args.self.now c.loop.at (c.loop.invariant.rest 0 (omega arith)))
-    c.loop.invariant.so_far
+returns-clause-names c =
+    rw (← eqb-true c.loop.at root (c.loop.invariant.rest 0 (omega arith))) c.loop.invariant.so_far

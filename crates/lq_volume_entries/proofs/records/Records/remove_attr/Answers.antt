@@ -1,7 +1,4 @@
-use Rattle.std.proofs.Common.{refl, subst}
-use Rattle.std.specs.Prelude.{IsSome, Option}
 use Rattle.lq_volume_entries.specs.Edits.{remove_attr}
-use Rattle.lq_volume_entries.specs.Record.{Record}
 use Rattle.lq_volume_entries.proofs.ByNode.{by_node-absent, by_node-altered, Rises-by_node}
 use Rattle.lq_volume_entries.proofs.records.Records.remove_attr.Goals as goal
 use Rattle.lq_volume_entries.proofs.records.Records.remove_attr.Goals.{in-Some, in_default}
@@ -16,10 +13,9 @@ invariant_of-self c = elim c.match-get_mut.branch [
 pub returns : goal.returns
 returns c = elim c.match-get_mut.branch [
   | in-Some w ↦
-      let there = subst (λ (o : Option Record). IsSome o) w.in-Some.ensures.value refl in
       let end = c.get_mut.follows.holds w.remove_attr.new.self in
       rw (w.self-inside-is, ← c.self.view_is) (by_node-altered _ _ _ _ _ _ w.remove_attr.ensures
-      c.self.invariant end.4 w.in-Some.ensures.value (λ n. (end.3 there).0 n))
+      c.self.invariant end.4 w.in-Some.ensures.value (λ there n. (end.3 there).0 n))
   | in_default w ↦ rw (w.self-inside-is, c.get_mut.follows.holds-at-none, ← c.self.view_is)
       (by_node-absent c.self.inside.stored.entries c.args.node (remove_attr c.args.attr.now)
       w.in_default.ensures.value)

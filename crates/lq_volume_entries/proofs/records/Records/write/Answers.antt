@@ -1,8 +1,6 @@
-use Rattle.std.proofs.Common.{refl, subst}
+use Rattle.std.proofs.Common.{refl}
 use Rattle.std.proofs.Math.Facts.{to_z-of_z}
-use Rattle.std.specs.Prelude.{IsSome, Option}
 use Rattle.lq_volume_entries.specs.Edits.{rewritten}
-use Rattle.lq_volume_entries.specs.Record.{Record}
 use Rattle.lq_volume_entries.proofs.ByNode.{by_node-absent, by_node-altered, Rises-by_node}
 use Rattle.lq_volume_entries.proofs.records.Records.write.Goals as goal
 use Rattle.lq_volume_entries.proofs.records.Records.write.Goals.{in-Some, in_default}
@@ -17,11 +15,10 @@ invariant_of-self c = elim c.match-get_mut.branch [
 pub returns : goal.returns
 returns c = elim c.match-get_mut.branch [
   | in-Some w ↦
-      let there = subst (λ (o : Option Record). IsSome o) w.in-Some.ensures.value refl in
       let end = c.get_mut.follows.holds w.write.new.self in
       rw (w.self-inside-is, ← c.self.view_is) (by_node-altered _ _ _ _ _ _
       (rw (w.write.ensures, to_z-of_z c.ranges.time) refl) c.self.invariant end.4
-      w.in-Some.ensures.value (λ n. (end.3 there).0 n))
+      w.in-Some.ensures.value (λ there n. (end.3 there).0 n))
   | in_default w ↦ rw (w.self-inside-is, c.get_mut.follows.holds-at-none, ← c.self.view_is)
       (by_node-absent c.self.inside.stored.entries c.args.node (rewritten c.args.size c.args.time)
       w.in_default.ensures.value)
