@@ -112,7 +112,8 @@ pub record IsOpeningAnswer (slots : ServerSlots) (limit port backlog : ℕ)
     (result : Result Opened Refusal) : Type 0 where
   -- the first refusal that fits, and no other
   pub table : IsOpeningTabled slots limit port backlog result
-  -- the slot is the lowest that is free
+  -- the slot was free, and each lower one is taken
+  pub free : IfOk result (λ o. slot_in slots.subscriptions.items o.slot ≡ None)
   pub lowest : IfOk result (λ o.
       (j : ℕ) → 0 < j → j < o.slot → IsSome (slot_in slots.subscriptions.items j))
   -- the numbers are checked first, by their bounds alone
