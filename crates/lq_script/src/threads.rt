@@ -25,7 +25,8 @@ use std::thread::{Scope, Threads};
 
 /// Carries out a script as lq_script_desk's `run` does, its reads in threads.
 ///
-/// Its server makes no change but those that the replies tell.
+/// Its server makes no change but those that the replies tell, and at most one that they don't,
+/// where memory is wanting or the writer fails.
 pub fn run_threads<T: Threads + Wait + Sync, R: Source, W: Sink, G: Gate + Sync>(
     rt: &T,
     alloc: Global,

@@ -102,7 +102,7 @@ impl Reader {
     /// The seat of its slot, as the board gave it.
     ///
     /// The server's calls borrow this seat. Afterwards the reader's own calls go on. A caller who
-    /// puts another seat in its place can make no further calls with this reader.
+    /// puts another seat in its place can make no further call that goes to this reader's slot.
     pub fn seat(&mut self) -> &mut Seat
         ensures* lends { sem 𝓛 (LendsSeat self.entry result) }
         ensures now { result.now ≡ self.old.seat }

@@ -12,8 +12,8 @@ pub fn slots_show_worlds()
     ensures { SlotsShowWorlds }
 {}
 
-/// A commit, a notice and a close under the lock do to a subscription what the core's change,
-/// notice and close do to the one that it stands for.
+/// A commit, a notice and a close under the lock do to a subscription's mark what the core's
+/// change, notice and close do to the end of the one that it stands for.
 pub fn acts_show_worlds()
     ensures { ActsShowWorlds }
 {}
