@@ -98,30 +98,35 @@ class Folder:
         return told
 
 
+def show(volume, maildir, formulas):
+    """Prints each folder's subjects, and then what enters and leaves it, without end."""
+    mirror = Mirror(volume, maildir)
+    mirror.look()
+    folders = [Folder(volume, formula) for formula in formulas]
+    for folder in folders:
+        for subject in folder.rows.values():
+            print(f"{folder.formula}\t= {subject}")
+    while True:
+        for folder in folders:
+            for sign, subject in folder.follow():
+                print(f"{folder.formula}\t{sign} {subject}")
+        sys.stdout.flush()
+        time.sleep(SECONDS)
+        mirror.look()
+
+
 def main(words):
     if len(words) < 2:
-        sys.exit(__doc__.rstrip())
-    with Volume() as volume:
-        mirror = Mirror(volume, words[0])
-        try:
-            mirror.look()
-            folders = [Folder(volume, formula) for formula in words[1:]]
-        except BadQuery as error:
-            print(f"live_mail: {error.name} at {error.place}", file=sys.stderr)
-            return 2
-        except OSError as error:
-            print(f"live_mail: {error}", file=sys.stderr)
-            return 2
-        for folder in folders:
-            for subject in folder.rows.values():
-                print(f"{folder.formula}\t= {subject}")
-        while True:
-            for folder in folders:
-                for sign, subject in folder.follow():
-                    print(f"{folder.formula}\t{sign} {subject}")
-            sys.stdout.flush()
-            time.sleep(SECONDS)
-            mirror.look()
+        print(__doc__.rstrip(), file=sys.stderr)
+        return 2
+    try:
+        with Volume() as volume:
+            show(volume, words[0], words[1:])
+    except BadQuery as error:
+        print(f"live_mail: {error.name} at {error.place}", file=sys.stderr)
+    except OSError as error:
+        print(f"live_mail: {error}", file=sys.stderr)
+    return 2
 
 
 if __name__ == "__main__":

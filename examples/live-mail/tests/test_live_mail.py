@@ -1,6 +1,6 @@
 """Live mail folders over a Maildir in which mail comes and goes: what they show is what Python's mailbox finds. And the
 tutorial's folder is the program's."""
-import mailbox, os, re, subprocess, sys, tempfile, threading, time, unittest
+import mailbox, os, re, shutil, subprocess, sys, tempfile, threading, time, unittest
 
 sys.dont_write_bytecode = True
 HERE = os.path.dirname(os.path.dirname(os.path.realpath(__file__)))
@@ -104,6 +104,23 @@ class LiveMail(unittest.TestCase):
         done = subprocess.run(words, capture_output=True, text=True, timeout=SECONDS)
         self.assertEqual((done.returncode, done.stdout), (2, ""))
         self.assertEqual(done.stderr, "live_mail: BadQuery at 12\n")
+
+    def test_too_few_words_are_said(self):
+        done = subprocess.run([f"{HERE}/live_mail.py", self.mail.maildir], capture_output=True, text=True)
+        self.assertEqual((done.returncode, done.stdout), (2, ""))
+        self.assertIn("live_mail.py MAILDIR FORMULA..", done.stderr)
+
+    def test_a_maildir_that_goes_away_is_said(self):
+        words = [f"{HERE}/live_mail.py", self.mail.maildir, "name==*"]
+        with subprocess.Popen(words, stdout=subprocess.PIPE, stderr=subprocess.PIPE, text=True) as live:
+            timer = threading.Timer(SECONDS, live.kill)
+            timer.start()
+            live.stdout.readline()
+            shutil.rmtree(self.mail.maildir)
+            _, said = live.communicate()
+            timer.cancel()
+        self.assertEqual(live.returncode, 2)
+        self.assertRegex(said, "^live_mail: .*No such file or directory: '.*/(new|cur)'\n$")
 
 
 class Tutorial(unittest.TestCase):
