@@ -109,8 +109,8 @@ impl<N: Named> Server<N> {
         ensures refused { IfSome (size_refusal port backlog) (λ e. result ≡ Err e) }
         ensures others { IfNone (size_refusal port backlog) (IfErr result IsOpeningRefused) }
 
-        // The first that fits and no other, by the slots that stood under the lock in this call: the
-        // seat has noted their keeper, also where it is refused.
+        // The first that fits and no other, by the slots that stood under the lock in this call:
+        // the seat has noted their keeper, also where it is refused.
         ensures table { (under : SlotsOf)
             × IsAnsweredOver under N.start seat.old seat.new port backlog result }
     {
