@@ -187,7 +187,7 @@ impl<M> Board<M> {
             .load::<Count>(&mut keeper.token, slot as usize)
     }
 
-    /// The number of changes so far. The seat then knows the book of these changes.
+    /// The number of changes in a book that the seat then knows, which extends what it knew.
     ///
     /// Where it leads and no seat is enlisted, it has gathered all of them. It neither waits nor
     /// takes memory.
@@ -207,7 +207,7 @@ impl<M> Board<M> {
         number
     }
 
-    /// Records that a slot's seat asks once more, which the keeper sees by `asks`.
+    /// Records that a slot's seat asks once more. The keeper knows it once it meets the seat.
     ///
     /// The seat must have asked fewer than 1,000,000,000,000 times before. It neither waits nor
     /// takes memory.

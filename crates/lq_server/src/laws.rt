@@ -13,10 +13,10 @@ use lq_server_slots::{Delivery, Identity};
 use lq_update::{folds_give_results, whole_folds_give_results};
 use lq_volume::Volume;
 
-/// The headline: the reads of a reader give its query's update list, in order.
+/// The headline, of the reads of a reader that had received nothing before.
 ///
-/// Their messages are a prefix of that list, and each comes once. The mark comes after the whole
-/// list up to the change that it names, and only `Ended` comes after the mark. Folding gives the
+/// Their messages are a prefix of its query's update list, each once. The mark comes after all of
+/// it up to the change that it names, and only `Ended` comes after the mark. Folding gives the
 /// query's result after each message that is the last of its change, and before the mark.
 pub fn answers_are_told()
     ensures { AnswersAreTold }

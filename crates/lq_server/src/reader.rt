@@ -53,7 +53,7 @@ impl Model for Reader {
 }
 
 impl Reader {
-    /// The slot, 1 to 64. It takes no lock.
+    /// The slot: 1 to 64 where `IsOwn` holds. It takes no lock.
     pub fn slot(&self) -> u64
         ensures { result ≡ self.now.slot }
     {
@@ -67,8 +67,8 @@ impl Reader {
         self.reading.opened()
     }
 
-    /// The number of changes so far. Its seat then knows the book of these changes. It takes no
-    /// lock.
+    /// The number of changes in a book that its seat then knows, which extends what it knew. It
+    /// takes no lock.
     pub fn latest<N: Named>(&mut self, server: &Server<N>) -> u64
         requires board { self.old.seat.board ≡ N.board }
         ensures number { result ≡ length self.new.seat.book.changes }
@@ -82,7 +82,7 @@ impl Reader {
 
     /// Asks for the end of its subscription. A second call does nothing. It takes no lock.
     ///
-    /// The server's next call that looks at the slot ends the subscription.
+    /// By their clauses, `sync` then shows that it has ended, and `close` answers `NotOpen`.
     pub fn hang_up<N: Named>(&mut self, server: &Server<N>)
         requires board { self.old.seat.board ≡ N.board }
         requires own { IsOwn self.old }
@@ -99,10 +99,10 @@ impl Reader {
         }
     }
 
-    /// The seat of its slot, as the board gave it.
+    /// The seat of its slot.
     ///
-    /// The server's calls borrow this seat. Afterwards the reader's own calls go on. A caller who
-    /// puts another seat in its place can make no further call that goes to this reader's slot.
+    /// The server's calls borrow it, and keep it fit for the reader's calls at the slot
+    /// (`StaysOwn`): those require a seat of this slot and port (`IsOwn`).
     pub fn seat(&mut self) -> &mut Seat
         ensures* lends { sem 𝓛 (LendsSeat self.entry result) }
         ensures now { result.now ≡ self.old.seat }
@@ -114,7 +114,7 @@ impl Reader {
     /// The next update or the mark, if one waits in the port. It takes no lock.
     ///
     /// `Empty` only where none is known to wait; `Ended` after the mark. Refused: `NoMemory`; the
-    /// reader then keeps the message, and the next read gives it.
+    /// reader then keeps the message, and the next read with memory gives it.
     pub fn read<R: Wait>(&mut self, rt: &R) -> Result<Read, Refusal>
         ensures refused { FailsOnlyForMemory result }
         ensures port { IsSamePort self.old.reading.port self.new.reading.port }
@@ -132,7 +132,7 @@ impl Reader {
 
     /// As `read`, but it fills its port first and waits for the next update or the mark.
     ///
-    /// `Ended` at once after the mark. It never answers `Empty`.
+    /// `Ended` after the mark. It never answers `Empty`.
     pub fn read_waiting<N: Named, R: Wait>(
         &mut self,
         rt: &R,

@@ -89,9 +89,9 @@ impl<N: Named> Server<N> {
     /// A counted server over a base, and its leading seat. Another seat may make changes just while
     /// the leading seat has it enlisted.
     ///
-    /// So all changes are answers to the calls by enlisted seats, once the leading seat has
-    /// dismissed them and is the one that `retire` takes: it has then gathered the numbers of all
-    /// changes, each once. N names the counted board of the base, and its volume.
+    /// So all changes are answers to the calls by enlisted seats (`calls_make_the_book`), once the
+    /// leading seat has dismissed them and is the one that `retire` takes: it has then gathered the
+    /// numbers of all changes, each once. N names the counted board of the base, and its volume.
     pub fn counted(base: Base) -> (Server<N>, Seat)
         requires { (N.board ≡ counted_board base.board) × (base.volume ≡ N.start) }
         ensures head { result.1 ≡ leading_seat N.board N.start }
@@ -160,17 +160,17 @@ impl<N: Named> Server<N> {
         self.state.lock(rt).seat(&self.board)
     }
 
-    /// Takes a seat back, so that another can be given out. It takes no memory.
+    /// Takes a seat back. It takes no memory. That another can then be given out is a clause of the
+    /// call under the lock.
     pub fn give_back<R: Wait>(&self, rt: &R, seat: Seat)
         requires { (seat.board ≡ N.board) × (seat.slot ≡ 0) }
     {
         self.state.lock(rt).give_back(&self.board, seat);
     }
 
-    /// The number of changes so far. The seat then knows the book of these changes. It takes no
-    /// lock.
+    /// The number of changes in a book that the seat then knows, which extends what it knew.
     ///
-    /// Where the seat leads and none is enlisted, it has gathered the numbers of all these changes.
+    /// Where it leads and none is enlisted, it has gathered all their numbers. It takes no lock.
     pub fn latest(&self, seat: &mut Seat) -> u64
         requires { seat.old.board ≡ N.board }
         ensures same { seat.new ≡ record seat.old { book = seat.new.book } }
@@ -216,8 +216,8 @@ impl<N: Named> Server<N> {
     /// The volume and the number of its changes, at the end of the server.
     ///
     /// They are those of one book, which begins with the volume of the server's base. Where the
-    /// seat leads and none is enlisted, it has gathered the numbers of all changes, each once. The
-    /// messages that are still held aren't delivered. It takes no memory.
+    /// seat leads and none is enlisted, it has gathered the numbers of all changes, each once.
+    /// Messages still held are dropped, as the code says. It takes no memory.
     pub fn retire<R: Wait>(self, rt: &R, seat: Seat) -> Retired
         requires board { seat.board ≡ N.board }
         ensures retired { IsRetired N.start seat.book result.volume result.changes }

@@ -83,9 +83,9 @@ impl Model for Base {
 }
 
 impl Base {
-    /// A new board beside this volume, which has no changes, and 64 free slots.
+    /// A base over this volume, which has no changes.
     ///
-    /// Refused: `NoMemory`.
+    /// Refused: `NoMemory`. The invariant of a base says that its 64 slots are free.
     pub fn new(alloc: Global, volume: Volume) -> Result<Base, Refusal>
         requires first { volume.number ≡ 0 }
         ensures volume { IfOk result (λ base. base.volume ≡ volume) }

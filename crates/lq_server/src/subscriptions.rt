@@ -31,8 +31,8 @@ pub struct Callers {
 }
 
 impl<N: Named> Server<N> {
-    /// As `counted`, with a seat besides, which counts among the 16, and with the reader of a live
-    /// query that this seat opens first of all.
+    /// As `counted`, with a seat besides (one of the 16, as the code says), and with the reader of
+    /// a live query that this seat opens first of all.
     ///
     /// The numbers are as in `open`. No other caller has the server yet, so no seat and no slot is
     /// taken. Refused, the first that fits: `BadPort`, `BadBacklog`, `Exhausted` where the volume
@@ -164,8 +164,8 @@ impl<N: Named> Server<N> {
     /// Closes the reader's subscription, fills its port as in `sync`, and answers the number of
     /// changes then.
     ///
-    /// Refused: `NotOpen` where it had ended before: its reader asked for the end, it was closed,
-    /// or it was overrun. What the reader has received and knows stays. It takes no memory.
+    /// Refused: `NotOpen` where its reader asked for the end or it was closed, else only where it
+    /// has overrun (`first_closes_are_refused_late`). What was received stays. It takes no memory.
     pub fn close<R: Wait>(&self, rt: &R, reader: &mut Reader) -> Result<u64, Refusal>
         requires board { reader.old.seat.board ≡ N.board }
         requires own { IsOwn reader.old }

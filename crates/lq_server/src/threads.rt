@@ -31,9 +31,9 @@ pub trait Work {
 
 /// The answers of two works at one server.
 ///
-/// The second work runs in this thread. The first has a thread of its own, or runs last where none
-/// can be made: if the second waits for it, it waits for ever then. Both are done when the call
-/// returns. It takes no memory.
+/// Both are done when the call returns. By std's `join`, not by a clause, the second runs in this
+/// thread, and the first in one of its own, or last where none can be made: if the second waits for
+/// it, it waits for ever then. It takes no memory.
 pub fn join_over<
     N: Named + Send + Sync,
     R: Threads + Wait + Sync,
@@ -51,10 +51,10 @@ pub fn join_over<
 
 /// The answers of a list of works at one server, in order.
 ///
-/// Each work has a thread of its own where one can be made. Where memory for a thread is refused,
-/// works share one: a work that waits for another work of the list may then wait for ever. Refused:
-/// `NoMemory`; some works may then have been dropped undone, also those that others wait for, and
-/// the results are dropped.
+/// By std's `map_vec`, not by a clause, each work has a thread of its own where one can be made.
+/// Where memory for a thread is refused, works share one: a work that waits for another of the list
+/// may then wait for ever. Refused: `NoMemory`; some works may then have been dropped undone, also
+/// those that others wait for, and the results are dropped.
 pub fn map_over<
     N: Named + Send + Sync,
     R: Threads + Wait + Sync,

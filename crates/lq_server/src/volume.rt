@@ -25,10 +25,10 @@ impl<N: Named> Server<N> {
     /// The seat has to be one that may make changes: any of a server made by `new`, of a counted
     /// one an enlisted seat. It then knows a book that ends with this change, under the number that
     /// the call answers, and has this number among those of its own changes. Refused as
-    /// `Volume::apply` is after the book that the seat then knows, or `NoMemory`; the volume is
-    /// then as it was. A subscription whose reader hung up before ends, even where the change is
-    /// refused. No clause of this call says what becomes of the subscriptions; clauses of
-    /// `change_in` in lq_server_slots do, for the requests that its keeper knows of.
+    /// `Volume::apply` is after the book that the seat then knows, or `NoMemory`. A subscription
+    /// whose reader hung up before ends, even where it is refused. No clause of this call says what
+    /// becomes of the subscriptions, or that a refused change leaves the volume as it was: clauses
+    /// of `change_in` in lq_server_slots do, for the requests that its keeper knows of.
     pub fn apply<R: Wait>(
         &self,
         rt: &R,
