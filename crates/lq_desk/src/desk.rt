@@ -106,9 +106,9 @@ impl Desk {
 
     /// Carries out events in order and answers each.
     ///
-    /// Refused: `NoMemory`, before any event. The reads of each subscription that these events open
-    /// are answered from its update list: each message once and in order, then the mark. After each
-    /// change the messages read fold to the query's result.
+    /// Refused: `NoMemory`, before any event. The messages read of each subscription that these
+    /// events open are a prefix of its update list, and its mark comes after all of it up to the
+    /// mark's change. Where settled, and before the mark, they fold to the query's result.
     pub fn run(&mut self, events: &[Event]) -> Result<Vec<Reply>, Refusal>
         ensures refused { FailsOnlyForMemory result }
         ensures run { IfOk result (λ replies.

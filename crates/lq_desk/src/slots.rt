@@ -95,8 +95,8 @@ impl Slots {
         occupy(&mut self.places, index.place(), slot);
     }
 
-    /// Makes the messages of a change for each subscription; answers the slots that have
-    /// messages.
+    /// Makes the messages of a change for each live subscription; answers a set that has each slot
+    /// with messages.
     pub fn ready(&mut self, planned: &Planned<'_>) -> Result<SlotSet, Refusal>
         requires few { AllByRecursion (IsFew (2 ^ 63 - 1)) (map (option_map slot_of) self.old) }
         ensures refused { FailsOnlyForMemory result }

@@ -12,8 +12,8 @@ use std::marker::Model;
 
 /// The messages that a subscription holds and those that are made ready for a change, in one queue.
 ///
-/// To hold what is ready moves no message. With them stand the number of changes before the one
-/// that the ready messages are of, and whether there is room to put a message back.
+/// Holding what is ready moves no message. Beside them stand the number of changes before the one
+/// that the ready messages belong to, and whether there is room to put a message back.
 #[derive(Drop)]
 pub struct Messages {
     queue: VecDeque<Message>,
@@ -81,7 +81,7 @@ impl Messages {
         self.queue.len()
     }
 
-    /// The number of changes before the one that the ready messages are of.
+    /// The number of changes before the one that the ready messages belong to.
     pub fn before(&self) -> u64
         ensures { result ≡ self.now.before }
     {

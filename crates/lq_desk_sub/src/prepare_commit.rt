@@ -56,9 +56,9 @@ impl Sub {
     /// Makes the messages of a planned change, if it has some, in place of those made ready before;
     /// answers whether it has.
     ///
-    /// Where there is none, held messages stay, and nothing is ready to be committed: only the
-    /// messages of a change that has some may be committed after it. It skips a change that alters
-    /// only values that the predicate doesn't look at. Without memory nothing changes.
+    /// Where there is none, held messages stay, and no clause says what is ready: only the messages
+    /// of a change that has some may be committed after it. It skips, as the code says, a change
+    /// that alters only values that the predicate doesn't look at. Without memory nothing changes.
     #[inline(always)]
     pub fn prepare_if_any(&mut self, planned: &Planned<'_>) -> Result<bool, AllocError>
         requires few { self.old.held.sent < 2 ^ 63 }

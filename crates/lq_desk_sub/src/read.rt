@@ -8,7 +8,7 @@ pub enum Read {
     Update(Message),
     /// The mark that ends the subscription.
     Fin(Mark),
-    /// The port is empty.
+    /// No message and no mark is known to wait in the port.
     Empty,
     /// The mark was read already.
     Ended,

@@ -156,8 +156,8 @@ impl Sub {
         });
     }
 
-    /// Takes the first message held; after the last one, the mark once; then `None`. The messages
-    /// made ready for a change stay. It takes no memory.
+    /// Takes the first message held; after the last one, the mark once if there is one; else
+    /// `None`. The messages made ready for a change stay. It takes no memory.
     pub fn next(&mut self) -> Option<Parcel>
         ensures value { result ≡ next_parcel self.old.held }
         ensures rest { self.new.held ≡ without_parcel self.old.held (next_parcel self.old.held) }

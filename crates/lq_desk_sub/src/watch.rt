@@ -32,7 +32,7 @@ pub struct Watch {
 }
 
 impl Watch {
-    /// Watches no subscription. It takes no memory.
+    /// A watch before any `set`. It takes no memory.
     pub fn new() -> Watch {
         Watch {
             all: 0,
