@@ -19,7 +19,7 @@ use Rattle.lq_update.specs.Diff.{diff}
 use Rattle.lq_update.specs.Updates.{step_of, updates_from, updates_of, IsSettled}
 use Rattle.lq_update.specs.Fold.{Folding, is_settled, settled_after, fold_refusals, folding_after_all, opened_at, EntriesRise, folded, fits_in, last_change}
 
--- a longer book only appends to an update list
+-- an update list up to a number is a prefix of the one up to the next number
 abbrev pub UpdatesGrow : Type 0
 UpdatesGrow = (q : Query) (moved : Bool) (b : Book) (m n : ℕ)
     → IsPrefix (updates_of q moved b m n) (updates_of q moved b m (n + 1))

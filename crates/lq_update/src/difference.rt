@@ -15,7 +15,7 @@ use std::alloc::Global;
 impl<'s, 'a> Matches<'s, 'a> {
     /// Whether the change may have messages for the query: if false, `put_step` puts none.
     ///
-    /// It reads only the entries in the plan. It takes no memory.
+    /// As the code says, it reads only the entries in the plan. It takes no memory.
     #[inline(always)]
     pub fn may_have_messages(&self) -> bool
         ensures { (moved : Bool) → (seq : ℕ) → result ≡ false → step_of self.now.predicate.now moved

@@ -11,8 +11,8 @@ use std::alloc::Global;
 use std::collections::BTreeMap;
 use std::marker::Model;
 
-/// A query's result as in `Rebuild`, but kept in a map by node. A message costs time logarithmic in
-/// the number of entries, wherever its node stands among them. There is no slice of the entries.
+/// A query's result as in `Rebuild`, but kept in a map by node. As the code says, a message costs
+/// time logarithmic in the number of entries. There is no slice of the entries.
 ///
 /// Contracts see it as a `Folding`, as they see a `Rebuild`.
 #[derive(Drop)]
@@ -63,8 +63,8 @@ impl IndexedRebuild {
         entries_of(self.alloc, &self.locations)
     }
 
-    /// Whether the entries are the result after a whole change: no message was taken yet, or the
-    /// latest one was the last of its change. It takes no memory.
+    /// Whether it is settled (`Folding`): no message was taken yet, or the latest was the last of
+    /// its change. `folds_give_results` says what the entries are then. It takes no memory.
     pub fn is_settled(&self) -> bool
         ensures { result ≡ self.now.settled }
     {

@@ -1,4 +1,4 @@
-//! Laws of the update lists: each is the contract of a function with no body.
+//! Laws of the update lists: each is the contract of a function that does nothing.
 ghost use Rattle.lq_update.specs.Laws.{BareCreatesTellNothing, ChangesAddSteps, ChangesPassOver, FoldingsFollow, FoldsGiveResults, MessagesFitIn, RebuildsTakeAll, ResultsRise, SettledIsTested, StepsAreFew, UpdatesArePrefixes, UpdatesBeginEmpty, UpdatesGrow, UpdatesJoin, UpdatesStay, WholeFoldsGiveResults};
 
 use crate::difference::changes_touch_few;
@@ -8,7 +8,7 @@ use lq_volume::{
     values_are_found,
 };
 
-/// A longer book only appends to an update list: the prefix law.
+/// An update list up to a number is a prefix of the one up to the next number: the prefix law.
 pub fn updates_grow()
     ensures { UpdatesGrow }
 {}

@@ -63,7 +63,7 @@ pub fn entries_of(alloc: Global, locations: &BTreeMap<u64, Location>) -> Result<
     Ok(entries)
 }
 
-/// Folds a message into the locations of a result, in time logarithmic in their number.
+/// Folds a message into the locations of a result: in logarithmic time, as the code says.
 ///
 /// Refused, the first that fits: `Mismatch` where the message doesn't fit the locations,
 /// `NoMemory`. A refused message changes nothing.

@@ -30,7 +30,7 @@ pub struct Matches<'s, 'a> {
 
 /// Asks a query of the entry of a planned change's own node, before the change and after it.
 ///
-/// It reads only the entries in the plan. It takes no memory.
+/// As the code says, it reads only the entries in the plan. It takes no memory.
 #[inline(always)]
 pub fn matches_of<'s, 'a>(predicate: &'s Predicate, planned: &'s Planned<'a>) -> Matches<'s, 'a>
     ensures query { result.predicate.now ≡ predicate.now }

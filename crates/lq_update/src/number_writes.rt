@@ -8,11 +8,11 @@ use crate::difference::changes_touch_few;
 use lq_predicate::{Spans, truth_stays_beside_spans};
 use lq_volume::{Change, Planned};
 
-/// Whether a planned change is a write that crosses none of the numbers with which a query compares
-/// sizes and times: old and new size are on the same side of each, and old and new time. If true,
-/// `step_planned` gives no message.
+/// True only where `step_planned` gives no message of a planned change for a query of these spans.
 ///
-/// It reads the predicate's `Spans`, not the predicate. It takes no memory.
+/// As the code says, it is true of a write whose old and new size are below all numbers that the
+/// query compares sizes with, or above all, and likewise for the times. It reads the predicate's
+/// `Spans`, not the predicate. It takes no memory.
 #[inline(always)]
 pub fn writes_cross_no_number(spans: &Spans, planned: &Planned<'_>) -> bool
     ensures { (q : Query) → (moved : Bool) → (seq : ℕ) → result ≡ true → spans.now ≡ spans_of q

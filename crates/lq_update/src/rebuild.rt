@@ -59,8 +59,8 @@ impl Rebuild {
         &self.entries
     }
 
-    /// Whether the entries are the result after a whole change: no message was taken yet, or the
-    /// latest one was the last of its change. It takes no memory.
+    /// Whether it is settled (`Folding`): no message was taken yet, or the latest was the last of
+    /// its change. `folds_give_results` says what the entries are then. It takes no memory.
     pub fn is_settled(&self) -> bool
         ensures { result ≡ self.now.settled }
     {

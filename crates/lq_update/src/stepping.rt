@@ -51,7 +51,7 @@ pub fn step(
 /// The messages of a planned change for a query, as `step` gives them for the plan's volume and
 /// change.
 ///
-/// It reads only the entries in the plan, looks up no other, and takes memory only for its
+/// As the code says, it reads only the entries in the plan, and takes memory only for its
 /// messages, room for three at once. Refused: `NoMemory`. It changes nothing. To put them into a
 /// queue that has room for them, call `Matches::put_step`.
 pub fn step_planned(
@@ -77,9 +77,9 @@ impl<'s, 'a> Matches<'s, 'a> {
     /// Puts the messages of the change for the query behind those in a queue with room for three
     /// more.
     ///
-    /// They are those of `step_planned`. Asking `may_have_messages` first is faster where there is
-    /// no message. It takes memory for names alone. Refused: `NoMemory`; then the queue stays as it
-    /// was.
+    /// They are those of `step_planned`. Where there mostly is none, ask `may_have_messages` first.
+    /// As the code says, it takes memory for names alone. Refused: `NoMemory`; then the queue stays
+    /// as it was.
     #[inline(always)]
     pub fn put_step(
         &self,

@@ -67,7 +67,7 @@ impl<'a> EntryRef<'a> {
         self.stored.kind()
     }
 
-    /// The entry's size in bytes; 0 for a folder.
+    /// The entry's size in bytes. `IsTree` says that it is 0 for a folder of a volume.
     pub fn size(&self) -> u64
         ensures { result ≡ self.now.size }
     {

@@ -1,10 +1,10 @@
-//! Laws of trees and changes: each is the contract of a function with no body.
+//! Laws of trees and changes: each is the contract of a function that does nothing.
 ghost use Rattle.lq_volume.specs.Laws.{ChangesCount, ChangesKeepTrees, UntouchedStay, ClobberedGo};
 ghost use Rattle.lq_volume.specs.Walk.{ReachesAll};
 
 use lq_volume_entries::{names_stay_apart, records_are_kept};
 
-/// The test whether a node is within another is true exactly where some walk up leads there.
+/// In a tree, the test whether a folder is within a node is true just where a walk up leads there.
 pub fn walks_are_bounded()
     ensures { ReachesAll }
 {

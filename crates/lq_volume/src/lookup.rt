@@ -69,9 +69,9 @@ impl Volume {
 
     /// The entries in a folder, also in the root, by rising name: a directory's listing.
     ///
-    /// It takes the time of sorting them, however many entries other folders have.
     /// Refused, the first that fits: `NoNode` where there is no node `dir`, `NotFolder` where `dir`
-    /// is a file, `NoMemory`.
+    /// is a file, `NoMemory`. As the code says, it takes the time of sorting them, however many
+    /// entries other folders have.
     pub fn children(&self, dir: u64) -> Result<Vec<Entry>, Refusal>
         ensures refused { IsRefusedBy result (first_refusal (children_refusals self.now dir)) }
         ensures children { IfOk result (λ entries.
@@ -84,8 +84,8 @@ impl Volume {
     /// The path of a node: the names that lead from the root down to it. The root's is empty.
     ///
     /// Looked up one after another by `find`, the names lead to the node. The time is linear in
-    /// their number. Refused, the first that fits: `NoNode` where there is no such node,
-    /// `NoMemory`.
+    /// their number, as the code says. Refused, the first that fits: `NoNode` where there is no
+    /// such node, `NoMemory`.
     pub fn path(&self, node: u64) -> Result<Vec<Name>, Refusal>
         ensures refused { IsRefusedBy result (first_refusal (path_refusals self.now node)) }
         ensures path { IfOk result (λ names. Leads self.now.records root names.items node) }
