@@ -112,10 +112,10 @@ impl AttrName {
         self.shared.field
     }
 
-    /// Another name that shares this one's text, which takes no memory.
+    /// Another name with the same text. Refused: `NoMemory`.
     ///
-    /// Only where 2^63 - 1 names share the text already, the new name has a text of its own.
-    /// Refused: `NoMemory`.
+    /// As the code says, it shares this one's text and takes no memory, unless 2^63 - 1 names share
+    /// that already.
     pub fn copy(&self, alloc: Global) -> Result<AttrName, Refusal>
         ensures refused { FailsOnlyForMemory result }
         ensures value { IfOk result (λ name. name ≡ self.now) }

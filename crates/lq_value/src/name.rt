@@ -89,19 +89,18 @@ impl Name {
         }
     }
 
-    /// A hash of the name, which differs for most names. Names with the same text have the same
-    /// hash. It takes no memory.
+    /// A hash of the name: names with the same text have the same. No clause says that others
+    /// differ. It takes no memory.
     pub fn hash(&self) -> u64
         ensures { result ≡ hash_of self.now }
     {
         hash_of_bytes(self.as_str().as_bytes())
     }
 
-    /// Another name with the same text: up to 14 bytes are copied and a longer text is shared, so
-    /// this takes no memory.
+    /// Another name with the same text. Refused: `NoMemory`.
     ///
-    /// Only where 2^63 - 1 names share the text already, the new name has a text of its own.
-    /// Refused: `NoMemory`.
+    /// As the code says, it takes no memory: up to 14 bytes are copied, and a longer text is shared
+    /// unless 2^63 - 1 names share it already.
     pub fn copy(&self, alloc: Global) -> Result<Name, Refusal>
         ensures refused { FailsOnlyForMemory result }
         ensures value { IfOk result (λ name. name ≡ self.now) }

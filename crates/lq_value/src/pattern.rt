@@ -122,10 +122,10 @@ impl Pattern {
 
     /// Whether the pattern fits the whole text. It takes no memory.
     ///
-    /// It takes at most about as many steps as the pattern's length times the text's, and about as
-    /// many as the text has bytes where all but a first and a last star are plain characters. In a
-    /// text of 128 bytes to 4,096 characters many steps are done at once, and in one of 32 bytes or
-    /// more where a set has more than 16 items.
+    /// As the code says, it takes at most about as many steps as the pattern's length times the
+    /// text's, and about as many as the text has bytes where all but a first and a last star are
+    /// plain characters. In a text of 128 bytes to 4,096 characters many steps are done at once,
+    /// and in one of 32 bytes or more where a set has more than 16 items.
     pub fn matches(&self, text: &str) -> bool
         ensures fits { result ≡ fits self.now (chars text.now) }
         ensures split { IsTrue result ↔ Fits self.now (chars text.now) }

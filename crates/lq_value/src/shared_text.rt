@@ -44,10 +44,10 @@ impl SharedText {
         self.text.as_str()
     }
 
-    /// Another handle to the same text, which takes no memory.
+    /// A text with the same bytes. Refused: `NoMemory`.
     ///
-    /// Only where 2^63 - 1 share the text already, the new one has a text of its own. Refused:
-    /// `NoMemory`.
+    /// As the code says, it shares this one's text and takes no memory, unless 2^63 - 1 share that
+    /// already.
     pub fn copy(&self, alloc: Global) -> Result<SharedText, Refusal>
         ensures refused { FailsOnlyForMemory result }
         ensures value { IfOk result (λ shared. shared ≡ self.now) }

@@ -86,9 +86,8 @@ impl Text {
 
 /// Whether two texts are the same. It takes no memory.
 ///
-/// The lengths, the first bytes and the last bytes are compared first. Most texts that are searched
-/// differ from the text in question there, as long names that begin with the same word do in their
-/// last byte.
+/// The lengths, the first bytes and the last bytes are compared first. Most texts that differ do so
+/// there: long names that begin with the same word, for example, in their last byte.
 pub fn same_text(one: &str, other: &str) -> bool
     ensures { result ≡ bytes_eq one.now other.now }
 {

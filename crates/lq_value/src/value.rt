@@ -54,7 +54,7 @@ impl Value {
         }
     }
 
-    /// A copy of the value. Refused: `NoMemory`, for a text only.
+    /// A copy of the value. Refused: `NoMemory`, as the code says for a text only.
     pub fn copy(&self, alloc: Global) -> Result<Value, Refusal>
         ensures refused { FailsOnlyForMemory result }
         ensures value { IfOk result (λ value. value ≡ self.now) }
