@@ -1,6 +1,6 @@
--- What the machine makes of a text and its tokens, for the contracts of private functions. It is
--- the one reading of the text (`HasOneReading` of `specs/Faults`), as `proofs/OneReadingLemmas`
--- shows.
+-- What the machine makes of a text and its tokens, for the law `machine_reads` and the contracts
+-- of private functions of lq_predicate. By that law it is a reading of the text, which has just one
+-- (`HasOneReading` of `specs/Faults`).
 use Rattle.std.specs.Prelude.{ℕ, ◌+◌, ◌&&◌, nat_le, if◌then◌else◌, List, [], ◌∷◌, length, Option, None, Some, Result, Ok, Err}
 use Rattle.lq_predicate_formula.specs.Tokens.{Token, opens, closes, bang, ands, ors, op, word, lone, cut, Placed}
 use Rattle.lq_predicate_formula.specs.Query.{Query}

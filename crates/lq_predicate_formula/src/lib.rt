@@ -4,9 +4,9 @@
 //! `Query` (`specs/Query`, `specs/Grammar`). `specs/Faults` says what a text reads as and where it
 //! is faulty, `specs/Canonical` writes a query, `specs/Truth` says when it is true of a row, and
 //! `specs/PredicateLimits` when it is a predicate. `specs/Lexing`, `Machine` and `MachineReading`
-//! say how a token and a reading are found, for private functions and for lq_predicate's. Nothing
-//! here waits, and asking takes no memory. Begin with `token`, then `laws`, then `tree` and `row`,
-//! then `tree/truth`, `sink` and `writing`.
+//! say how a token and a reading are found, for the law `machine_reads` and for functions of this
+//! crate and of lq_predicate. Nothing here waits, and asking takes no memory. Begin with `token`,
+//! then `laws`, then `tree` and `row`, then `tree/truth`, `sink` and `writing`.
 #![tactic(auto)]
 
 mod count;
