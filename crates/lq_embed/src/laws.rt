@@ -8,7 +8,7 @@ use lq_script_request::Scratch;
 use lq_value::Entry;
 use std::vec::IntoIter;
 
-/// An embedded session may go to another thread, so a caller with a lock of his own makes each call
+/// An embedded session may go to another thread, so a caller with its own lock may make each call
 /// on any thread.
 pub fn embedded_may_be_sent()
     ensures { IsSend embedded.the_row }

@@ -48,10 +48,10 @@ impl Embedded {
         }
     }
 
-    /// Ends a slot's subscription where it hasn't ended, reads its messages and its mark, and frees
-    /// the slot.
+    /// Ends a slot's subscription where it hasn't ended, reads its messages up to a read that gives
+    /// none (or 2^64 - 1 of them), and finishes the slot.
     ///
-    /// Refused: `NotOpen` where the slot is free.
+    /// Refused as `finish`: `NotOpen` where the slot is free.
     pub fn drop_slot(&mut self, slot: u64) -> u32
         ensures { Drops (holds self.old) (holds self.new) slot result }
     {

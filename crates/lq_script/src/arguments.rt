@@ -15,10 +15,10 @@ use std::thread::Threads;
 /// Does what the program's arguments, `words`, ask for, and answers the exit status.
 ///
 /// `run` carries out the reader's script by one thread, `threads` by `run_threads` with an open
-/// gate. `check FORMULA` writes the formula's canonical text and LF; a formula that begins with
-/// `-` has to follow `--`. Status 0: done. 1: a `RunFault`, a fault of the writer in `check`, or no
-/// memory, with one line on `faults`. 2: a refused formula, with `lq: BadQuery at P` there, or any
-/// other arguments, with `lq: usage`. A fault of `faults` is ignored.
+/// gate (no clause here says what that writes). `check FORMULA` writes its canonical text and LF; a
+/// formula that begins with `-` has to follow `--`. Status 0: done. 1: a `RunFault`, a writer's
+/// fault in `check`, or no memory, with one line on `faults`. 2: a refused formula, with
+/// `lq: BadQuery at P` there, or other arguments, with `lq: usage`. A fault there is ignored.
 pub fn program<T: Threads + Wait + Sync, R: Source, W: Sink, F: Sink>(
     rt: &T,
     alloc: Global,

@@ -1,4 +1,4 @@
-//! Reads of several slots, side by side.
+//! Reads of several slots, side by side. Clauses say only that the replies tell no change.
 ghost use Rattle.std.specs.Prelude.{◌≡◌, [], IfOk, OnOk, OnErr};
 ghost use Rattle.std.specs.Thread.{IsSend};
 ghost use Rattle.lq_script_desk.specs.Answer.{response_of};

@@ -6,9 +6,9 @@
 //! answers to its lines (`specs/Script` of lq_script_desk). `run_threads` makes a server's public
 //! calls, a line at a time, and does a run of `read` lines as a batch, with a thread for each slot.
 //! Contracts say that each of these calls is safe, and that the server made no change but those
-//! that the replies tell (`specs/Changes`); tests, that its output is that of `run`. It may wait.
-//! `thiserror` derives the display texts of `RunFault`. Begin with `arguments`, then `threads`,
-//! `runner`, `server_session`, `batch` and `workers`.
+//! that the replies tell (`specs/Changes`). Tests show that its output is that of `run`. It may
+//! wait. `thiserror` derives the display texts of `RunFault`. Begin with `arguments`, then
+//! `threads`, `runner`, `server_session`, `batch` and `workers`.
 #![tactic(auto)]
 
 mod arguments;

@@ -1,4 +1,4 @@
-//! The whole lines of an input, a piece at a time.
+//! The whole lines of an input, a piece at a time. No clause says which lines are given.
 ghost use Rattle.std.specs.Prelude.{◌≢◌, IfErr};
 
 use lq_script_lines::{

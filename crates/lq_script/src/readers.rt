@@ -1,4 +1,4 @@
-//! The readers of the slots.
+//! The readers of the slots. No clause says what these calls do.
 use crate::tokens::OwnReader;
 use lq_script_desk::SLOTS;
 use lq_server::Named;

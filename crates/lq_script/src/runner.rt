@@ -1,4 +1,4 @@
-//! The runner of a script's lines: it carries out each and gathers the replies.
+//! The runner of a script's lines: it carries out each. No clause ties a reply to its line.
 ghost use Rattle.std.specs.Prelude.{◌≡◌, ◌⊎◌, ◌+◌, ◌<◌, [], ◌++◌, length, IfErr, OnErr, OnOk, true};
 ghost use Rattle.lq_script_desk.specs.Answer.{response_of};
 ghost use Rattle.lq_script_desk.specs.Reply.{reply_text};

@@ -1,4 +1,4 @@
-//! The replies to the lines of a script, by the public calls of a server.
+//! The replies to lines, by a server's public calls. Clauses say only which changes they tell.
 ghost use Rattle.std.specs.Prelude.{◌≡◌, [], IfOk, OnOk, OnErr};
 ghost use Rattle.lq_script_desk.specs.Answer.{response_of};
 ghost use Rattle.lq_script.specs.Changes.{change_told};

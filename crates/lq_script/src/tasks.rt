@@ -1,4 +1,4 @@
-//! The tasks of a batch, from one that is asked for to one that is done.
+//! The tasks of a batch, from asked for to done. No clause says what these calls do.
 use std::alloc::AllocError;
 use std::sync::Wait;
 

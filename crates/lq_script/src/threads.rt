@@ -23,7 +23,7 @@ use std::sync::Wait;
 use std::thread;
 use std::thread::{Scope, Threads};
 
-/// Carries out a script as lq_script_desk's `run` does, its reads in threads.
+/// Carries out a script, its reads in threads. Only tests show that it writes what `run` writes.
 ///
 /// Its server makes no change but those that the replies tell, and at most one that they don't,
 /// where memory is wanting or the writer fails.

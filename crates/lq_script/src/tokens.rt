@@ -1,4 +1,4 @@
-//! The tokens of one server, a seat of no slot and readers, and the answers of calls with them.
+//! A seat of no slot and readers, and what calls with them answer: clauses speak of changes alone.
 ghost use Rattle.std.specs.Prelude.{◌≡◌, [], ◌∷◌, IfOk, OnErr, true};
 ghost use Rattle.lq_board.specs.Author.{leader, with_roll};
 ghost use Rattle.lq_board.specs.Roll.{numbers};
@@ -132,7 +132,7 @@ impl<N: Named> OwnSeat<N> {
         })
     }
 
-    /// The node that has a place. Refused as `Server::find` is.
+    /// The node at a place. Refused as `Server::find` is.
     #[tactic(auto, using(crate::proofs::ChangeLemmas::made_book))]
     pub fn find<R: Wait>(
         &mut self,
@@ -148,7 +148,7 @@ impl<N: Named> OwnSeat<N> {
         Ok(Response::Found { node })
     }
 
-    /// All of the entry of a node. Refused as `Server::listing` is.
+    /// The whole entry of a node. Refused as `Server::listing` is.
     #[tactic(auto, using(crate::proofs::ChangeLemmas::made_book))]
     pub fn listing<R: Wait>(
         &mut self,
@@ -206,7 +206,7 @@ impl<N: Named> Model for OwnReader<N> {
 }
 
 impl<N: Named> OwnReader<N> {
-    /// Its slot, 1 to 64.
+    /// Its slot.
     pub fn slot(&self) -> u64 {
         self.reader.slot()
     }

@@ -1,4 +1,4 @@
-//! The threads of the slots, which stay over batches.
+//! The threads of the slots, which stay over batches. No clause says what these calls do.
 use crate::tasks::{Task, Tasks};
 use lq_script_desk::SLOTS;
 use std::alloc::{AllocError, Global};
