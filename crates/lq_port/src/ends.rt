@@ -141,8 +141,8 @@ impl<T: Follows + Drop> PortIn<T> {
     ///
     /// `Err` gives the item back, only where this end knows of at least as many waiting items as
     /// the port has places; the end is then unchanged. No clause says that the port was full at
-    /// some moment of the call. The call may wait for a step of the other end, but not for a place.
-    /// It takes no memory.
+    /// some moment of the call. As the code says, it may wait for a step of the other end, but not
+    /// for a place. It takes no memory.
     pub fn put<R: Wait>(&mut self, rt: &R, item: T) -> Result<(), T>
         requires follows { T.follows (all_put self.old) self.old.floor item }
         ensures ok { OnOk result (Gains self.old item self.new) }
@@ -172,8 +172,8 @@ impl<T: Follows + Drop> PortOut<T> {
     /// Takes the item at the front.
     ///
     /// `None` only where this end knows of no waiting item; the end is then unchanged. No clause
-    /// says that the port was empty at some moment of the call. The call may wait for a step of the
-    /// other end, but not for an item. It takes no memory.
+    /// says that the port was empty at some moment of the call. As the code says, it may wait for a
+    /// step of the other end, but not for an item. It takes no memory.
     pub fn take<R: Wait>(&mut self, rt: &R) -> Option<T>
         ensures some { IfSome result (λ item. Loses self.old item self.new) }
         ensures follows { IfSome result (λ item. T.follows self.old.taken self.old.floor item) }
