@@ -79,7 +79,7 @@ impl<'a, 'b> Visit<Slot, Told> for Ready<'a, 'b> {
     ghost did = { λ v t i x y. Readies v.planned.now.before v.planned.now.change t i x y };
 
     fn visit(&self, state: &mut Told, slot: SlotIndex, item: &mut Slot) {
-        if state.full || !item.sub.is_live() {
+        if state.full {
             return;
         }
         match item.sub.prepare_if_any(self.planned) {

@@ -1,11 +1,11 @@
 -- Sets of slots, by the bits of a word.
-use Rattle.std.proofs.Common.{◌≡◌, ◌≢◌, ℕ, ◌<◌, ◌^◌, ◌%◌, ◌*◌, true, false, ap, arith, inl, inr}
+use Rattle.std.proofs.Common.{◌≡◌, ◌≢◌, ℕ, zero, suc, ◌<◌, ◌^◌, ◌%◌, ◌*◌, ◌-◌, ◌/◌, true, false, ap, sym, ◌∙◌, arith, inl, inr}
 use Rattle.std.specs.Prelude.{◌==◌, ◌||◌, bit_and, bit_or}
 use Rattle.std.specs.Int.{bit_at, bit_not, trailing_zeros, w64}
 use Rattle.std.proofs.lemmas.Bool.{cases_lt}
 use Rattle.std.proofs.lemmas.Bool.Decides.{nat_tests}
-use Rattle.std.proofs.lemmas.Nat.{and_le_l}
-use Rattle.std.proofs.lemmas.Nat.Bits.{bit_at-lt, bit_at-zero, bit_at_or, bit_at_set_same, bit_at_set_other, bit_at_clear_same, bit_at_clear_other, bit_at-trailing_zeros}
+use Rattle.std.proofs.lemmas.Nat.{and_le_r}
+use Rattle.std.proofs.lemmas.Nat.Bits.{bit_at-lt, bit_at-zero, bit_at-suc, bit_at_lowest, bit_at_and, bit_at_or, bit_at_set_same, bit_at_set_other, bit_at_clear_same, bit_at_clear_other, bit_at-trailing_zeros}
 use Rattle.lq_desk_sub.specs.SlotSet.{has, IsEmpty, IsTakenOut}
 
 -- the word without bits
@@ -54,24 +54,49 @@ has-union v w i =
     let b = bit_at-lt w i in
     grind (arith, nat_tests)
 
+-- above its lowest, the bits of a number are those of its half
+bit_at-half : (n m : ℕ) → n / 2 ≡ m → (i : ℕ) → bit_at n (suc i) ≡ bit_at m i
+bit_at-half n m half i = bit_at-suc n i ∙ ap (λ k. bit_at k i) half
+
+-- one less than a number lacks its lowest bit
+lowest-less_one : (t n : ℕ) → bit_at n t ≡ 1 → ((i : ℕ) → i < t → bit_at n i ≡ 0)
+    → bit_at (n - 1) t ≡ 0
+lowest-less_one zero n set low = omega (arith, bit_at_lowest n, bit_at_lowest (n - 1))
+lowest-less_one (suc t) n set low =
+    let even : n % 2 ≡ 0 = sym (bit_at_lowest n) ∙ low 0 (omega arith) in
+    bit_at-half (n - 1) (n / 2 - 1) (omega arith) t
+    ∙ lowest-less_one t (n / 2) (sym (bit_at-suc n t) ∙ set)
+    (λ i lt. sym (bit_at-suc n i) ∙ low (suc i) (omega arith))
+
+-- and has those above it
+above-less_one : (t n : ℕ) → bit_at n t ≡ 1 → ((i : ℕ) → i < t → bit_at n i ≡ 0)
+    → (i : ℕ) → t < i → bit_at (n - 1) i ≡ bit_at n i
+above-less_one t n set low zero lt = absurd (omega arith)
+above-less_one zero n set low (suc i) lt =
+    let odd = bit_at_lowest n in
+    bit_at-half (n - 1) (n / 2) (omega arith) i ∙ sym (bit_at-suc n i)
+above-less_one (suc t) n set low (suc i) lt =
+    let even : n % 2 ≡ 0 = sym (bit_at_lowest n) ∙ low 0 (omega arith) in
+    bit_at-half (n - 1) (n / 2 - 1) (omega arith) i
+    ∙ above-less_one t (n / 2) (sym (bit_at-suc n t) ∙ set)
+    (λ j lt. sym (bit_at-suc n j) ∙ low (suc j) (omega arith)) i (omega arith)
+    ∙ sym (bit_at-suc n i)
+
 -- the lowest bit is cleared
 pub has-take_one : (w : ℕ) → 0 < w → w < 2 ^ 64
-    → IsTakenOut w (trailing_zeros w64 w)
-    (bit_and w (bit_not w64 (1 * 2 ^ trailing_zeros w64 w % 2 ^ 64)))
+    → IsTakenOut w (trailing_zeros w64 w) (bit_and w (w - 1))
 unfolding has
 has-take_one w pos fits =
     let z = bit_at-trailing_zeros w64 w pos fits in
     let p = trailing_zeros w64 w in
-    let new = bit_and w (bit_not w64 (1 * 2 ^ p % 2 ^ 64)) in
-    let gone : bit_at new p ≡ 0 = bit_at_clear_same w64 w p z.0 in
+    let gone : bit_at (bit_and w (w - 1)) p ≡ 0 =
+    omega (arith, bit_at_and w (w - 1) p, lowest-less_one p w z.1 z.2) in
     record {
       was = let lt = z.0 in let set = z.1 in grind (arith, nat_tests);
-      gone = has-clear w p z.0;
-      others = has-clear_other w p z.0;
-      fewer = elim (cases_lt new w) [
-        | inl lt ↦ lt
-        | inr ge ↦ absurd (let same : new ≡ w = (let le = and_le_l w
-            (bit_not w64 (1 * 2 ^ p % 2 ^ 64)) in omega arith) in
-            let e = ap (λ n. bit_at n p) same in let b = z.1 in omega arith)
-      ];
+      gone = grind (arith, nat_tests);
+      others = λ i ne. has-same _ w i (λ low. elim (cases_lt i p) [
+        | inl lt ↦ omega (arith, bit_at_and w (w - 1) i, z.2 i lt)
+        | inr ge ↦ omega (arith, bit_at_and w (w - 1) i, above-less_one p w z.1 z.2 i (omega (arith, ne)))
+      ]);
+      fewer = omega (arith, and_le_r w (w - 1));
     }

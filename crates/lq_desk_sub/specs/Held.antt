@@ -86,10 +86,10 @@ held_after s c h = after_messages h (messages_due s c h) s.number
 abbrev pub prepared : State → Change → Prepared → Prepared
 prepared s c p = record p { ready = messages_due s c p.held; before = s.number }
 
--- If the change has messages, they are made ready; if it has none, what is held stays, and what was
--- made ready before is of no use.
+-- If a live subscription has messages of the change, they are made ready; else what is held stays,
+-- and what was made ready before is of no use.
 pub record IsReadied (s : State) (c : Change) (told : Bool) (old new : Prepared) : Type 0 where
-  pub any : told ≡ nat_lt 0 (length (messages_due s c old.held))
+  pub any : told ≡ (is_live old.held && nat_lt 0 (length (messages_due s c old.held)))
   pub ready : told ≡ true → new ≡ prepared s c old
   pub held : new.held ≡ old.held
   pub lent : new.lent ≡ old.lent

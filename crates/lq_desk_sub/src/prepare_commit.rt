@@ -53,8 +53,8 @@ impl Sub {
         Ok(told)
     }
 
-    /// Makes the messages of a planned change, if it has some, in place of those made ready before;
-    /// answers whether it has.
+    /// Makes the messages of a planned change, if it has some and the subscription is live, in place
+    /// of those made ready before; answers whether it did.
     ///
     /// Where there is none, held messages stay, and no clause says what is ready: only the messages
     /// of a change that has some may be committed after it. It skips, as the code says, a change
@@ -62,17 +62,17 @@ impl Sub {
     #[inline(always)]
     pub fn prepare_if_any(&mut self, planned: &Planned<'_>) -> Result<bool, AllocError>
         requires few { self.old.held.sent < 2 ^ 63 }
-        requires live { IsTrue (is_live self.old.held) }
         ensures ok { IfOk result (λ told.
             IsReadied planned.now.before planned.now.change told self.old self.new) }
         ensures err { OnErr result (self.new ≡ self.old) }
     {
-        match self.query.matches_around(planned) {
-            None => Ok(false),
-            Some((matched_before, matches_after)) => {
-                self.make_ready(planned, matched_before, matches_after)
-            }
+        let Some((matched_before, matches_after)) = self.query.matches_around(planned) else {
+            return Ok(false);
+        };
+        if !self.is_live() {
+            return Ok(false);
         }
+        self.make_ready(planned, matched_before, matches_after)
     }
 
     // Makes the messages of a change that may have some, by whether the query matches the entry of

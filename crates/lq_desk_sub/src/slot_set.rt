@@ -65,7 +65,7 @@ impl SlotSet {
             return None;
         }
         let place = self.word.trailing_zeros() as usize;
-        self.word &= !(1 << place);
+        self.word &= self.word - 1;
         Some(SlotIndex::at(place))
     }
 }
