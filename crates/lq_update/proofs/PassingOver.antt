@@ -1,6 +1,6 @@
 -- A change under names that a predicate doesn't go by leaves its result as it was.
 use Rattle.std.proofs.Common.{◌≡◌, ◌⊎◌, inl, inr, ℕ, ℤ, pos, List, [], ◌∷◌, ◌++◌, ◌<◌, refl, sym, ap, subst, ◌∙◌, Bool, true, false, arith}
-use Rattle.std.specs.Prelude.{Option, Some, None, map, filter, codes, cond, ◌==◌, nat_eq, option_and_then, if◌then◌else◌}
+use Rattle.std.specs.Prelude.{Option, Some, None, IsSomeAnd, map, filter, codes, cond, ◌==◌, nat_eq, option_and_then, if◌then◌else◌}
 use Rattle.std.specs.List.{AllByRecursion, list_any}
 use Rattle.std.specs.Map.{lookup}
 use Rattle.std.specs.Option.{option_map}
@@ -17,8 +17,10 @@ use Rattle.lq_predicate.specs.Truth.{truth}
 use Rattle.lq_volume.specs.declared.change.Change.{Change}
 use Rattle.lq_volume.specs.declared.change.Change.TheVariants.{Create, Remove, Move, Write, SetAttr, RemoveAttr}
 use Rattle.lq_volume.specs.AttributeLaws.{ValuesAreFound}
+use Rattle.lq_volume.specs.declared.planned.WrittenNumbers.{WrittenNumbers}
+use Rattle.lq_volume.specs.Plan.{AreWritten}
 use Rattle.lq_volume.specs.State.{State, Record, IsVolume, record_at}
-use Rattle.lq_volume.specs.Change.{after, altered, altered_at, rewritten, set_attr, remove_attr}
+use Rattle.lq_volume.specs.Change.{after, node_of, altered, altered_at, rewritten, set_attr, remove_attr}
 use Rattle.lq_volume.specs.Result.{result_of, entry_of, entry_if, match_at, shown}
 use Rattle.lq_update.specs.Diff.{missing, messages_of, diff}
 use Rattle.lq_update.specs.Fold.{EntriesRise}
@@ -184,6 +186,26 @@ match-written law q s r node size time is sizes times =
     ap (option_and_then (λ r. entry_if q (node, r))) there
     ∙ ap (λ b. cond b (Some (entry_of (node, r))) None) (sym same)
     ∙ sym (ap (option_and_then (λ r. entry_if q (node, r))) is)
+
+-- that of a write, by the numbers that it finds and leaves
+pub match-numbers : TruthStaysBesideSpans
+    → (q : Query) (s : State) (c : Change) (w : WrittenNumbers) → AreWritten s c w
+    → is_beside (span_of (codes "size") q) (pos w.old_size) (pos w.new_size) ≡ true
+    → is_beside (span_of (codes "last_modified") q) w.old_time w.new_time ≡ true
+    → match_at q (after s c) (node_of s c) ≡ match_at q s (node_of s c)
+match-numbers law q s c w are sizes times = by (record_at s (node_of s c)) refl are.found
+  where
+    by : (o : Option Record) → record_at s (node_of s c) ≡ o
+        → IsSomeAnd o (λ r. (r.size ≡ w.old_size) × (r.time ≡ w.old_time))
+        → match_at q (after s c) (node_of s c) ≡ match_at q s (node_of s c)
+    by None is found = absurd found
+    by (Some r) is found =
+        ap (λ d. match_at q (after s d) (node_of s c)) are.write
+        ∙ match-written law q s r (node_of s c) w.new_size w.new_time is
+        (subst (λ n. is_beside (span_of (codes "size") q) (pos n) (pos w.new_size) ≡ true)
+        (sym found.0) sizes)
+        (subst (λ t. is_beside (span_of (codes "last_modified") q) t w.new_time ≡ true)
+        (sym found.1) times)
 
 -- ---- a creation, where the query needs an attribute
 

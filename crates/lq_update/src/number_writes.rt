@@ -6,7 +6,7 @@ ghost use Rattle.lq_update.specs.Updates.{step_of};
 
 use crate::difference::changes_touch_few;
 use lq_predicate::{Spans, truth_stays_beside_spans};
-use lq_volume::{Change, Planned};
+use lq_volume::Planned;
 
 /// True only where `step_planned` gives no message of a planned change for a query of these spans.
 ///
@@ -22,11 +22,9 @@ pub fn writes_cross_no_number(spans: &Spans, planned: &Planned<'_>) -> bool
     changes_touch_few();
     // For its clauses `lawful` and `volume`.
     let _ = planned.applied();
-    let Change::Write { size, time, .. } = planned.change() else {
+    let Some(numbers) = planned.written() else {
         return false;
     };
-    let Some(view) = planned.entry_before() else {
-        return false;
-    };
-    spans.is_beside_sizes(view.size(), *size) && spans.is_beside_times(view.time(), *time)
+    spans.is_beside_sizes(numbers.old_size, numbers.new_size)
+        && spans.is_beside_times(numbers.old_time, numbers.new_time)
 }

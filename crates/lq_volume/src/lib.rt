@@ -23,5 +23,5 @@ pub use laws::{
     walks_are_bounded,
 };
 pub use lq_volume_entries::values_are_found;
-pub use planned::Planned;
+pub use planned::{Planned, WrittenNumbers};
 pub use volume::{MAX_CHANGES, Volume};

@@ -3,7 +3,7 @@ ghost use Rattle.std.specs.Prelude.{◌≡◌, ◌+◌, Some, None, IfErr, IfOk,
 ghost use Rattle.std.specs.Option.{option_copied, option_map};
 ghost use Rattle.lq_volume.specs.State.{record_at, IsVolume};
 ghost use Rattle.lq_volume.specs.Change.{after, clobbered, node_of, record_left, refused, IsLawful};
-ghost use Rattle.lq_volume.specs.Plan.{IsLookedUp};
+ghost use Rattle.lq_volume.specs.Plan.{AreWritten, IsLookedUp};
 
 use crate::change::{Applied, Change};
 use crate::checks::{
@@ -14,6 +14,15 @@ use crate::volume::Volume;
 use lq_value::Refusal;
 use lq_volume_entries::{StoredRecord, records_are_kept};
 use std::marker::Model;
+
+/// The sizes, in bytes, and the times, in seconds since 1970, that a write finds and leaves.
+#[derive(Clone, Copy, Drop)]
+pub struct WrittenNumbers {
+    pub old_size: u64,
+    pub new_size: u64,
+    pub old_time: i64,
+    pub new_time: i64,
+}
 
 /// A change that a volume accepts, with the entries that it touches, each looked up once.
 ///
@@ -28,6 +37,7 @@ pub struct Planned<'a> {
     before: Option<EntryView<'a>>,
     after: Option<EntryView<'a>>,
     clobbered: Option<(u64, EntryView<'a>)>,
+    written: Option<WrittenNumbers>,
 }
 
 impl<'a> Model for Planned<'a> {
@@ -41,7 +51,7 @@ impl<'a> Model for Planned<'a> {
     } };
 
     ghost invariant = { λ p.
-        IsPlanned p.volume.now p.change.now p.applied p.before p.after p.clobbered };
+        IsPlanned p.volume.now p.change.now p.applied p.before p.after p.clobbered p.written };
 }
 
 impl Volume {
@@ -66,6 +76,7 @@ impl Volume {
             clobbered: found
                 .other
                 .map(|(node, stored)| (node, EntryView::stored(stored))),
+            written: written_by(self, change, found.stored),
         })
     }
 }
@@ -118,6 +129,13 @@ impl<'a> Planned<'a> {
             None => None,
             Some((node, view)) => Some((*node, view)),
         }
+    }
+
+    /// The numbers that a write finds and leaves, looked up once; `None` where the change is none.
+    pub fn written(&self) -> Option<WrittenNumbers>
+        ensures { IfSome result (AreWritten self.now.before self.now.change) }
+    {
+        self.written
     }
 }
 
@@ -189,4 +207,25 @@ fn view_after<'a>(
             Some(EntryView::changed(record.dir(), record.name(), stored, change))
         }
     }
+}
+
+// The numbers that a write finds and leaves.
+fn written_by(
+    volume: &Volume,
+    change: &Change,
+    stored: Option<&StoredRecord>,
+) -> Option<WrittenNumbers>
+    requires { option_copied stored ≡ record_at volume.now (node_of volume.now change.now) }
+    ensures { IfSome result (AreWritten volume.now change.now) }
+{
+    let Change::Write { size, time, .. } = change else {
+        return None;
+    };
+    let record = stored?;
+    Some(WrittenNumbers {
+        old_size: record.size(),
+        new_size: *size,
+        old_time: record.time(),
+        new_time: *time,
+    })
 }
