@@ -131,7 +131,8 @@ impl<'a> Planned<'a> {
         }
     }
 
-    /// The numbers that a write finds and leaves, looked up once; `None` where the change is none.
+    /// The numbers that a write finds and leaves, looked up once. As the code says, `None` only
+    /// where the change is no write.
     pub fn written(&self) -> Option<WrittenNumbers>
         ensures { IfSome result (AreWritten self.now.before self.now.change) }
     {
