@@ -158,8 +158,8 @@ impl<N: Named> ServerState<N> {
         meet_in(board, &mut self.slots, seat)
     }
 
-    // As `meet`, and the seat notes this moment of the keeper, for contracts alone.
-    fn note(&mut self, board: &Board<Identity>, seat: &mut Seat<Identity>)
+    /// As `meet`, and the seat notes this moment of the keeper, for contracts alone.
+    pub fn note(&mut self, board: &Board<Identity>, seat: &mut Seat<Identity>)
         requires { (board.now ≡ N.board) × (seat.old.board ≡ N.board) }
         ensures same { SameButKnown self.old.slots self.new.slots }
         ensures seat { seat.new ≡ record seat.old {
