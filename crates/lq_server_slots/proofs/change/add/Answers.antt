@@ -12,6 +12,11 @@ returns-in_err-prepare-clause-made c = search (rules, later_same, seat_stays)
 pub returns-in_err-applied-clause-made : goal.returns-in_err-applied-clause-made
 returns-in_err-applied-clause-made c = search (rules, later_same, seat_stays)
 
+pub returns-clause-volume : goal.returns-clause-volume
+returns-clause-volume c =
+    rw (c.add_by.ensures.added.state, c.prepare.ensures.book, ← c.requires.volume)
+    c.in_ok-applied.ensures.ok
+
 pub returns-clause-holding : goal.returns-clause-holding
 returns-clause-holding c =
     let r = c.prepare.ensures in

@@ -31,3 +31,6 @@ returns-in-Err-clause-made g c = search (rules, arith)
 
 pub returns-in-Err-clause-stands : goal.returns-in-Err-clause-stands
 returns-in-Err-clause-stands g c = search (rules, arith)
+
+pub returns-in-Err-clause-served : goal.returns-in-Err-clause-served
+returns-in-Err-clause-served g c = search rules

@@ -27,6 +27,12 @@ returns-clause-begun c =
     m.empty.1 c.requires.full
     (rw (reading, m.ends)) (rw reading) (rw (reading, c.new-2.ensures, entries))
 
+pub new-reading-requires-clause-opening : goal.new-reading-requires-clause-opening
+new-reading-requires-clause-opening c =
+    let m = c.in_ok-input.ensures in
+    let number = (rw c.requires.volume at c.changes-at.ensures.number) ∙ c.requires.full.number in
+    rw (m.ends, m.floor, c.of-2.ensures) number
+
 pub new-reading-requires-clause-full : goal.new-reading-requires-clause-full
 new-reading-requires-clause-full c = search (rules, arith)
 
