@@ -16,8 +16,7 @@ pub returns-then-waiting-slot-clause-between : goal.returns-then-waiting-slot-cl
 returns-then-waiting-slot-clause-between g c = search (rules, arith, looks)
 
 pub returns-then-waiting-slot-clause-drained : goal.returns-then-waiting-slot-clause-drained
-returns-then-waiting-slot-clause-drained g c =
-    first_of (search rules, grind (arith, common_steps))
+returns-then-waiting-slot-clause-drained g c = grind (arith, common_steps)
 
 pub returns-then-not-put_one-clause-between : goal.returns-then-not-put_one-clause-between
 returns-then-not-put_one-clause-between g c =

@@ -4,7 +4,7 @@ use Rattle.lq_server_slots.proofs.TakenLemmas.{free_read, full-none, full-each}
 use Rattle.lq_server_slots.proofs.open.free_place.Goals as goal
 
 pub returns-then-is_none-clause-free : goal.returns-then-is_none-clause-free
-returns-then-is_none-clause-free c = first_of (search rules, grind (arith, common_steps))
+returns-then-is_none-clause-free c = grind (arith, common_steps)
 
 pub returns-then-is_none-clause-lowest : goal.returns-then-is_none-clause-lowest
 returns-then-is_none-clause-lowest c = c.loop-place.invariant

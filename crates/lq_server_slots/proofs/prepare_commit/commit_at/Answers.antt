@@ -1,4 +1,4 @@
-use Rattle.std.proofs.Common.{arith, rules}
+use Rattle.std.proofs.Common.{rules}
 use Rattle.lq_server_slots.specs.Slots.{before_of}
 use Rattle.lq_server_slots.proofs.SlotLemmas.{taken_filled}
 use Rattle.lq_server_slots.proofs.CommitLemmas.{committed, noticed_still, served_filled}
@@ -26,4 +26,4 @@ returns-clause-fits g c =
 pub returns-clause-served : goal.returns-clause-served
 returns-clause-served g c =
     let noticed = rw c.in-Some.is at c.requires.noticed in
-    first_of (search (rules, noticed_still, served_filled), grind (arith, noticed_still))
+    search (rules, noticed_still, served_filled)
