@@ -19,4 +19,4 @@ pub returns-clause-answered : goal.returns-clause-answered
 returns-clause-answered c = search (rules, arith, opening_fits, sizes_fit)
 
 pub returns-then-limit-slots-clause-answered : goal.returns-then-limit-slots-clause-answered
-returns-then-limit-slots-clause-answered c = grind (arith, common_steps)
+returns-then-limit-slots-clause-answered c = grind (arith, common_steps) steps 1000000
