@@ -1,4 +1,4 @@
-use Rattle.std.proofs.Common.{arith, rules}
+use Rattle.std.proofs.Common.{refl, arith, rules}
 use Rattle.lq_server_slots.proofs.SlotLemmas.{all_stand-alike}
 use Rattle.lq_server_slots.proofs.SyncLemmas.{slots_added, later_grown, later_same, seat_stays}
 use Rattle.lq_server_slots.proofs.change.add.Goals as goal
@@ -11,6 +11,24 @@ returns-in_err-prepare-clause-made c = search (rules, later_same, seat_stays)
 
 pub returns-in_err-applied-clause-made : goal.returns-in_err-applied-clause-made
 returns-in_err-applied-clause-made c = search (rules, later_same, seat_stays)
+
+pub returns-in_err-applied-clause-volume : goal.returns-in_err-applied-clause-volume
+returns-in_err-applied-clause-volume c =
+    rw (c.prepare.ensures.book, ← c.requires.volume) c.in_err-applied.ensures.err
+
+pub returns-in_err-applied-clause-holding : goal.returns-in_err-applied-clause-holding
+returns-in_err-applied-clause-holding c =
+    let r = c.prepare.ensures in
+    let slots = c.prepare.new.slots in (
+      all_stand-alike slots.keeper slots.keeper slots.subscriptions.items slots.openings
+          slots.keeper.book c.args.slots.now.keeper.book r.holding.0 refl r.book,
+      r.holding.1,
+    )
+
+pub returns-clause-volume : goal.returns-clause-volume
+returns-clause-volume c =
+    rw (c.add_by.ensures.added.state, c.prepare.ensures.book, ← c.requires.volume)
+    c.in_ok-applied.ensures.ok
 
 pub returns-clause-holding : goal.returns-clause-holding
 returns-clause-holding c =

@@ -1,4 +1,5 @@
 use Rattle.std.proofs.Common.{arith, rules}
+use Rattle.std.proofs.lemmas.Grind.{common_steps}
 use Rattle.lq_server_slots.proofs.PutLemmas.{looks, drains_on, beside_stays, stuck_drained, drains_none}
 use Rattle.lq_server_slots.proofs.fill_port.drain.Goals as goal
 
@@ -13,6 +14,9 @@ loop-slot-preserved g c = search (rules, arith, drains_on)
 
 pub returns-then-waiting-slot-clause-between : goal.returns-then-waiting-slot-clause-between
 returns-then-waiting-slot-clause-between g c = search (rules, arith, looks)
+
+pub returns-then-waiting-slot-clause-drained : goal.returns-then-waiting-slot-clause-drained
+returns-then-waiting-slot-clause-drained g c = grind (arith, common_steps)
 
 pub returns-then-not-put_one-clause-between : goal.returns-then-not-put_one-clause-between
 returns-then-not-put_one-clause-between g c =

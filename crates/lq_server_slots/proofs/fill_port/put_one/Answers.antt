@@ -41,7 +41,7 @@ pub returns-in_default-clause-alike : goal.returns-in_default-clause-alike
 returns-in_default-clause-alike g c = search (rules, arith, alike_held, none_out)
 
 pub returns-in_default-clause-moved : goal.returns-in_default-clause-moved
-returns-in_default-clause-moved g c = search (rules, arith, none_next, none_out)
+returns-in_default-clause-moved g c = search (rules, arith, none_next, none_out) steps 1000000
 
 pub returns-in-Err-clause-stands : goal.returns-in-Err-clause-stands
 returns-in-Err-clause-stands g c = search (rules, arith, back_out)

@@ -1,4 +1,4 @@
-use Rattle.std.proofs.Common.{refl, ap, ◌∙◌, arith, rules}
+use Rattle.std.proofs.Common.{refl, ap, ◌∙◌}
 use Rattle.lq_board.specs.Token.{KeeperToken}
 use Rattle.lq_desk_sub.specs.Held.{Prepared}
 use Rattle.lq_server_slots.specs.declared.identity.Identity.{Identity}
@@ -27,8 +27,18 @@ returns-clause-begun c =
     m.empty.1 c.requires.full
     (rw (reading, m.ends)) (rw reading) (rw (reading, c.new-2.ensures, entries))
 
+pub new-reading-requires-clause-opening : goal.new-reading-requires-clause-opening
+new-reading-requires-clause-opening c =
+    let m = c.in_ok-input.ensures in
+    let number = (rw c.requires.volume at c.changes-at.ensures.number) ∙ c.requires.full.number in
+    rw (m.ends, m.floor, c.of-2.ensures) number
+
 pub new-reading-requires-clause-full : goal.new-reading-requires-clause-full
-new-reading-requires-clause-full c = search (rules, arith)
+new-reading-requires-clause-full c =
+    let m = c.in_ok-input.ensures in
+    rw (m.ends, m.floor, c.of-2.ensures) c.requires.full
 
 pub returns-clause-keeper : goal.returns-clause-keeper
-returns-clause-keeper c = search (rules, arith)
+returns-clause-keeper c =
+    let m = c.in_ok-input.ensures in
+    rw (c.new-reading.ensures, m.ends, m.floor) c.of-2.ensures

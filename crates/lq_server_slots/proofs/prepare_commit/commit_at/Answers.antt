@@ -1,6 +1,7 @@
+use Rattle.std.proofs.Common.{rules}
 use Rattle.lq_server_slots.specs.Slots.{before_of}
 use Rattle.lq_server_slots.proofs.SlotLemmas.{taken_filled}
-use Rattle.lq_server_slots.proofs.CommitLemmas.{committed}
+use Rattle.lq_server_slots.proofs.CommitLemmas.{committed, noticed_still, served_filled}
 use Rattle.lq_server_slots.proofs.prepare_commit.commit_at.Goals as goal
 
 pub fill-requires : goal.fill-requires
@@ -21,3 +22,8 @@ returns-clause-fits g c =
     c.in-Some.is c.requires.grown c.requires.ready c.requires.fits (m.stands (before_of book))
     m.others m.first_close m.hung)
     f.stands f.alike f.taken f.stuck
+
+pub returns-clause-served : goal.returns-clause-served
+returns-clause-served g c =
+    let noticed = rw c.in-Some.is at c.requires.noticed in
+    search (rules, noticed_still, served_filled)
