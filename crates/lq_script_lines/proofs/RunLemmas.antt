@@ -1,11 +1,16 @@
 -- What a whole run has read and written, from what it knows at its end.
-use Rattle.std.proofs.Common.{◌≡◌, ℕ, ◌+◌, ◌-◌, ◌≢◌, ◌≤◌, ◌<◌, ◌⊎◌, ◌++◌, List, [], ◌∷◌, length, take, drop, get_or, false, Option, refl, ap, ◌∙◌, arith, append_assoc, append-nil, length-append, length-take, inl, inr}
+use Rattle.std.proofs.Common.{◌≡◌, ℕ, ◌+◌, ◌-◌, ◌≢◌, ◌≤◌, ◌<◌, ◌⊎◌, ◌++◌, List, [], ◌∷◌, length, take, drop, get_or, true, false, Option, Result, Err, IfErr, OnErr, OnOk, refl, ap, ◌∙◌, arith, append_assoc, append-nil, length-append, length-take, inl, inr}
 use Rattle.std.proofs.lemmas.List.{drop_more}
+use Rattle.std.proofs.lemmas.Result.{on_ok_weaker}
 use Rattle.std.proofs.KnownBytes.{Appends-nil, Consumes-trans}
 use Rattle.std.specs.Io.KnownBytes.{Consumes}
 use Rattle.lq_script_lines.specs.declared.intake.Intake.{Intake}
 use Rattle.lq_script_lines.specs.Lines.{Rules, lines_of}
-use Rattle.lq_script_lines.specs.Output.{Ended, Halted, IsWithinInput, Passed, Stopped}
+use Rattle.lq_script_lines.specs.Outcome.{IsRunOutcome, ReaderLog, WriterLog}
+use Rattle.lq_script_lines.specs.declared.run_fault.RunFault.{RunFault}
+use Rattle.lq_script_lines.specs.declared.run_fault.RunFault.TheVariants.{Memory, Read, Write}
+use Rattle.lq_script_lines.proofs.ResultLemmas.{else_memory, neither, no_other}
+use Rattle.lq_script_lines.specs.Output.{Answered, Ended, Halted, IsWithinInput, Passed, Stopped}
 use Rattle.lq_script_lines.specs.Progress.{Began, Fronts, Halts, Meets, RunStands}
 use Rattle.lq_script_lines.proofs.LineLemmas.{cut_none}
 use Rattle.lq_script_lines.proofs.ProgressLemmas.{given_rest, stands_ended, stands_within}
@@ -118,3 +123,71 @@ pub less_left : (old new n : ℕ) (buf : List ℕ) → n ≢ 0 → n ≤ length 
     → new ≡ old + length (take n buf) → new ≤ 1073741824 → 1073741824 - new < 1073741824 - old
 less_left old new n buf some bound more within =
     omega (arith, some, bound, more, within, length-take n buf)
+
+module _ {State : Type 0} {rules : Rules State} {state : State} {r : ReaderLog} {w : WriterLog}
+    (stopped : Stopped rules state r.left r.left' w.written w.written') where
+  -- a run that a fault of the writer stopped
+  pub write_outcome : (w.failed ≡ true) ⊎ (w.stalled ≡ true)
+      → IsRunOutcome rules state (Err Write) r w
+  write_outcome cause = record {
+    ok = tt;
+    flushed = tt;
+    works = tt;
+    err = stopped;
+    flush = inl refl;
+    read = λ h. no_other h refl;
+    limit = λ h. no_other h refl;
+    memory = λ h. no_other h refl;
+    memory_works = λ h. no_other h refl;
+    read_fails = λ h. no_other h refl;
+    write_fails = λ _. cause;
+    no_thread = λ h. no_other h refl;
+  }
+
+  -- a run that a fault of the reader stopped, with the writer flushed
+  pub read_outcome : Ended rules state r.left r.left' w.written w.written'
+      → (w.flushed ≡ true) ⊎ (w.failed ≡ true) → r.failed ≡ true
+      → IsRunOutcome rules state (Err Read) r w
+  read_outcome ended flushed fails = record {
+    ok = tt;
+    flushed = tt;
+    works = tt;
+    err = stopped;
+    flush = inr flushed;
+    read = λ _. ended;
+    limit = λ h. no_other h refl;
+    memory = λ h. no_other h refl;
+    memory_works = λ h. no_other h refl;
+    read_fails = λ _. fails;
+    write_fails = λ h. no_other h refl;
+    no_thread = λ h. no_other h refl;
+  }
+
+-- a run whose last line was answered, or stopped there
+pub end_outcome : {State : Type 0} {rules : Rules State} {state : State}
+    {result : Result (Unit {0}) RunFault} {r : ReaderLog} {w : WriterLog}
+    → OnOk result (Answered rules state r.left r.left' w.written w.written')
+    → OnErr result (Stopped rules state r.left r.left' w.written w.written')
+    → (result ≡ Err Memory → Halted rules state r.left r.left' w.written w.written')
+    → r.failed ≡ false
+    → OnOk result ((w.failed ≡ false) × (w.stalled ≡ false))
+    → (result ≡ Err Memory → w.stalled ≡ false)
+    → IfErr result (λ e. (e ≡ Write) ⊎ (e ≡ Memory))
+    → (result ≡ Err Write → (w.failed ≡ true) ⊎ (w.stalled ≡ true))
+    → OnOk result (w.flushed ≡ true)
+    → (result ≡ Err Memory → (w.flushed ≡ true) ⊎ (w.failed ≡ true))
+    → IsRunOutcome rules state result r w
+end_outcome {result} ok err memory reads works moves fault cause flushed memory_flushed = record {
+  ok = ok;
+  flushed = flushed;
+  works = on_ok_weaker result (λ same. (reads, same.0, same.1)) works;
+  err = err;
+  flush = else_memory result fault memory_flushed;
+  read = λ h. neither h fault refl refl;
+  limit = λ h. neither h fault refl refl;
+  memory = λ h. inl (memory h);
+  memory_works = λ h. (reads, moves h);
+  read_fails = λ h. neither h fault refl refl;
+  write_fails = cause;
+  no_thread = λ h. neither h fault refl refl;
+}

@@ -1,7 +1,7 @@
-use Rattle.std.proofs.Common.{◌≡◌, Err, rules, sym}
+use Rattle.std.proofs.Common.{◌≡◌, Err, refl, rules, sym}
 use Rattle.std.proofs.KnownBytes.{Appends-kept}
 use Rattle.lq_script_lines.specs.declared.run_fault.RunFault.TheVariants.{Write}
-use Rattle.lq_script_lines.proofs.ResultLemmas.{not_ok, when_err, when_ok}
+use Rattle.lq_script_lines.proofs.ResultLemmas.{no_other, not_ok, when_err, when_ok}
 use Rattle.lq_script_lines.proofs.ProgressLemmas.{fronts_all, fronts_handed, halted_now, halts_handed, stands_last, stands_stops, stands_output}
 use Rattle.lq_script_lines.proofs.input_pieces.finish.Goals as goal
 
@@ -43,3 +43,7 @@ returns-in-Err-clause-err g c = λ began given s.
     let replies = when_ok c.answer.result (sym c.if-is_err.ensures.value) c.answer.ensures.ok in
     fronts_all (stands_last s replies)
     (Appends-kept _ _ _ _ c.in_ok-write_replies.ensures.ok c.flush.ensures.bytes)
+
+-- a fault of the flush isn't one of memory
+pub returns-in-Err-clause-memory : goal.returns-in-Err-clause-memory
+returns-in-Err-clause-memory g c = λ h. no_other h refl

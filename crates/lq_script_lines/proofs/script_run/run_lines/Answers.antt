@@ -1,10 +1,10 @@
-use Rattle.std.proofs.Common.{refl, sym, ◌∙◌, rules, arith, Err, ◌≡◌, [], inl, inr}
+use Rattle.std.proofs.Common.{refl, sym, ◌∙◌, rules, arith, Err, ◌≡◌, [], inl}
 use Rattle.std.proofs.KnownBytes.{Consumes-kept, Consumes-nil, Consumes-trans}
 use Rattle.std.proofs.lemmas.Result.{on_err_weaker, on_ok_weaker}
-use Rattle.lq_script_lines.specs.declared.run_fault.RunFault.TheVariants.{Write}
-use Rattle.lq_script_lines.proofs.ResultLemmas.{else_memory, neither}
+use Rattle.lq_script_lines.specs.declared.run_fault.RunFault.TheVariants.{Memory, Write}
+use Rattle.lq_script_lines.proofs.ResultLemmas.{no_other}
 use Rattle.lq_script_lines.proofs.ProgressLemmas.{fronts_all, fronts_handed, stands_handed, stands_stops, stands_within}
-use Rattle.lq_script_lines.proofs.RunLemmas.{less_left, read_none, run_ended, run_halted, run_passed, run_stopped, stands_none}
+use Rattle.lq_script_lines.proofs.RunLemmas.{end_outcome, less_left, read_none, read_outcome, run_ended, run_halted, run_passed, run_stopped, stands_none, write_outcome}
 use Rattle.lq_script_lines.proofs.script_run.run_lines.Goals as goal
 
 pub loop-out-init : goal.loop-out-init
@@ -33,8 +33,11 @@ returns-in_err-write_replies g c =
     let is : c.from_residual.result ≡ Err Write = search rules in
     let i = c.loop-out.invariant in
     let says = c.in_err-write_replies.ensures in
-    let stopped = run_stopped i.consumed (fronts_handed (stands_stops i.stands) says.err) in
-    rw is (search (arith, inl, stopped, says.cause))
+    let stopped = run_stopped i.consumed
+    (fronts_handed (stands_stops i.stands) says.err) in record {
+      outcome = rw is (write_outcome stopped says.cause);
+      begun = λ h. no_other (sym is ∙ h) refl;
+    }
 
 -- a fault of the writer after a read fault
 pub returns-in_err-write_and_flush : goal.returns-in_err-write_and_flush
@@ -45,8 +48,10 @@ returns-in_err-write_and_flush g c =
     let stood = stands_handed i.stands c.in_ok-write_replies.ensures.ok
     c.write_replies.ensures.empty in
     let stopped = run_stopped (Consumes-kept _ _ _ _ i.consumed c.in_default.ensures.bytes)
-    (fronts_handed (stands_stops stood) says.err) in
-    rw is (search (arith, inl, stopped, says.cause))
+    (fronts_handed (stands_stops stood) says.err) in record {
+      outcome = rw is (write_outcome stopped says.cause);
+      begun = λ h. no_other (sym is ∙ h) refl;
+    }
 
 -- a read fault
 pub returns-in_default : goal.returns-in_default
@@ -58,8 +63,10 @@ returns-in_default g c =
     let says = c.in_ok-write_and_flush.ensures in
     let none = c.write_and_flush.ensures.empty in
     let stopped = run_stopped read (fronts_all (stands_stops stood) says.ok) in
-    let ended = run_ended (stands_handed stood says.ok none) read none in
-    search (arith, inr, stopped, ended, says.flushed, c.in_default.ensures.fails)
+    let ended = run_ended (stands_handed stood says.ok none) read none in record {
+      outcome = read_outcome stopped ended says.flushed c.in_default.ensures.fails;
+      begun = λ h. no_other h refl;
+    }
 
 -- the end of the input
 pub returns-then-count-eq0 : goal.returns-then-count-eq0
@@ -72,32 +79,20 @@ returns-then-count-eq0 g c =
     read_none _ _ _ i.given _ c.in-Ok.count c.if-count-eq0.true i.consumed bytes.0 in
     let says = c.finish.ensures in
     let r = c.finish.result in
-    let reader_works = c.in-Ok.ensures.works ∙ i.reader_works in record {
-      outcome = record {
-        ok = on_ok_weaker r (λ all. record {
-          given = i.given;
-          consumed = read;
-          at_end = bytes.1 c.if-count-eq0.true (omega arith);
-          within = stands_within stood;
-          appended = all _ i.given stood;
-        }) says.ok;
-        flushed = says.flushed;
-        works = on_ok_weaker r (λ same. (
-          reader_works,
-          same.0 ∙ wrote.works.0 ∙ i.writer_works,
-          same.1 ∙ wrote.works.1 ∙ i.writer_moves,
-        )) says.works;
-        err = on_err_weaker r (λ part. run_stopped read (part _ i.given stood)) says.err;
-        flush = else_memory r says.fault says.memory_flushed;
-        read = λ h. neither h says.fault refl refl;
-        limit = λ h. neither h says.fault refl refl;
-        memory = λ h. inl (run_halted read (says.memory h _ i.given stood));
-        memory_works = λ h. (reader_works, says.memory_works h ∙ wrote.works.1 ∙ i.writer_moves);
-        read_fails = λ h. neither h says.fault refl refl;
-        write_fails = says.cause;
-        no_thread = λ h. neither h says.fault refl refl;
-      };
-      begun = λ h. run_halted read (says.memory h _ i.given stood);
+    let halted = λ (h : r ≡ Err Memory). run_halted read (says.memory h _ i.given stood) in record {
+      outcome = end_outcome (on_ok_weaker r (λ all. record {
+        given = i.given;
+        consumed = read;
+        at_end = bytes.1 c.if-count-eq0.true (omega arith);
+        within = stands_within stood;
+        appended = all _ i.given stood;
+      }) says.ok) (on_err_weaker r (λ part. run_stopped read (part _ i.given stood)) says.err)
+          halted (c.in-Ok.ensures.works ∙ i.reader_works) (on_ok_weaker r (λ same. (
+            same.0 ∙ wrote.works.0 ∙ i.writer_works,
+            same.1 ∙ wrote.works.1 ∙ i.writer_moves,
+          )) says.works) (λ h. says.memory_works h ∙ wrote.works.1 ∙ i.writer_moves) says.fault
+          says.cause says.flushed says.memory_flushed;
+      begun = halted;
     }
 
 pub loop-out-smaller : goal.loop-out-smaller
