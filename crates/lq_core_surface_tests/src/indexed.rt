@@ -1,19 +1,19 @@
 //! Of lq_update: a result that is kept in a map by node.
+use crate::changes::{is_entry, is_refused};
 use lq_update::{IndexedRebuild, Message, Opcode};
-use lq_value::{Entry, Name, Refusal};
+use lq_value::{Name, Refusal};
 use std::alloc::Global;
 use std::test::Fail;
 
-// A message of a file in the root, the last one of its change.
-fn message(
+// Folds a message of a file in the root: its number, its change, what it says, and of which file.
+fn fold(
     alloc: Global,
-    seq: u64,
-    change: u64,
+    rebuild: &mut IndexedRebuild,
+    (seq, change): (u64, u64),
     op: Opcode,
-    name: &str,
-    node: u64,
-) -> Result<Message, Refusal> {
-    Ok(Message {
+    (name, node): (&str, u64),
+) -> Result<(), Refusal> {
+    rebuild.apply(&Message {
         seq,
         change,
         last: true,
@@ -24,16 +24,11 @@ fn message(
     })
 }
 
-// Whether this is the entry of the root.
-fn is_entry(entry: &Entry, name: &str, node: u64) -> bool {
-    entry.dir == 1 && entry.name.as_str() == name && entry.node == node
-}
-
 // The empty result after change 3, with `b` at node 3 and then `a` at node 2.
 fn rebuilt(alloc: Global) -> Result<IndexedRebuild, Refusal> {
     let mut rebuild = IndexedRebuild::new(alloc, 3, &[])?;
-    rebuild.apply(&message(alloc, 1, 4, Opcode::Created, "b", 3)?)?;
-    rebuild.apply(&message(alloc, 2, 5, Opcode::Created, "a", 2)?)?;
+    fold(alloc, &mut rebuild, (1, 4), Opcode::Created, ("b", 3))?;
+    fold(alloc, &mut rebuild, (2, 5), Opcode::Created, ("a", 2))?;
     Ok(rebuild)
 }
 
@@ -60,12 +55,11 @@ fn an_indexed_rebuild_keeps_its_entries_by_node(rt: HostRuntime) -> Result<(), F
 #[test]
 fn an_indexed_rebuild_refuses_as_a_rebuild(rt: HostRuntime) -> Result<(), Fail> {
     let mut rebuild = rebuilt(rt.alloc())?;
-    let early = message(rt.alloc(), 2, 5, Opcode::Removed, "a", 2)?;
-    assert!(rt; rebuild.apply(&early).err() == Some(Refusal::OutOfStep));
-    let absent = message(rt.alloc(), 3, 6, Opcode::Removed, "a", 4)?;
-    assert!(rt; rebuild.apply(&absent).err() == Some(Refusal::Mismatch));
-    let present = message(rt.alloc(), 3, 6, Opcode::Removed, "a", 2)?;
-    rebuild.apply(&present)?;
+    let early = fold(rt.alloc(), &mut rebuild, (2, 5), Opcode::Removed, ("a", 2));
+    assert!(rt; is_refused(early, Refusal::OutOfStep));
+    let absent = fold(rt.alloc(), &mut rebuild, (3, 6), Opcode::Removed, ("a", 4));
+    assert!(rt; is_refused(absent, Refusal::Mismatch));
+    fold(rt.alloc(), &mut rebuild, (3, 6), Opcode::Removed, ("a", 2))?;
     assert!(rt; rebuild.entries()?.len() == 1 && rebuild.last_change() == 6);
     Ok(())
 }

@@ -1,6 +1,6 @@
 //! Of lq_volume: a change that was checked is made.
-use crate::changes::lawful;
-use lq_value::{Name, Refusal};
+use crate::changes::{find, lawful};
+use lq_value::Refusal;
 use lq_volume::{Applied, Volume};
 use std::alloc::Global;
 use std::test::Fail;
@@ -11,8 +11,7 @@ fn made(alloc: Global) -> Result<(Applied, u64), Refusal> {
     let mut volume = Volume::new(alloc, 9);
     let change = lawful(alloc, &volume, "a")?;
     let applied = volume.make(&change)?;
-    let found = volume.find(1, &Name::read(alloc, "a")?)?;
-    Ok((applied, found))
+    Ok((applied, find(alloc, &volume, 1, "a")?))
 }
 
 #[test]

@@ -2,16 +2,22 @@
 ghost use Rattle.std.specs.Prelude.{Some};
 ghost use Rattle.lq_value.specs.PlainValue.{Number};
 
+use crate::changes::is_refused;
 use lq_predicate::{Predicate, Row, Stack, StackOp, holds, names, read, write};
 use lq_value::{AttrName, Literal, Op, Pattern, Refusal, Text, View};
 use std::alloc::Global;
 use std::test::Fail;
 
+// The canonical text of a copy of a formula's predicate.
+fn rewritten(alloc: Global, formula: &str) -> Result<String, Refusal> {
+    let predicate: Predicate = read(alloc, formula)?;
+    let copy = predicate.copy()?;
+    write(alloc, &copy)
+}
+
 #[test]
 fn a_formula_is_read_copied_and_written(rt: HostRuntime) -> Result<(), Fail> {
-    let predicate: Predicate = read(rt.alloc(), "b=1&&!(a>2||b=3)")?;
-    let copy = predicate.copy()?;
-    let text = write(rt.alloc(), &copy)?;
+    let text = rewritten(rt.alloc(), "b=1&&!(a>2||b=3)")?;
     assert!(rt; text.as_str() == "((b==\"1\")&&!((a>\"2\")||(b==\"3\")))");
     Ok(())
 }
@@ -19,28 +25,35 @@ fn a_formula_is_read_copied_and_written(rt: HostRuntime) -> Result<(), Fail> {
 // Of the scenario `formula-texts`, the last one.
 #[test]
 fn scenario_formula_texts(rt: HostRuntime) -> Result<(), Fail> {
-    let copy = read(rt.alloc(), "a=1||b=2&&!c=3")?.copy()?;
-    let text = write(rt.alloc(), &copy)?;
+    let text = rewritten(rt.alloc(), "a=1||b=2&&!c=3")?;
     assert!(rt; text.as_str() == "((a==\"1\")||((b==\"2\")&&!(c==\"3\")))");
     Ok(())
 }
 
+// Whether an answer is the refusal of a formula, at this place.
+fn is_refused_at<T: Drop>(answer: Result<T, Refusal>, place: u64) -> bool {
+    is_refused(answer, Refusal::BadQuery { place })
+}
+
 #[test]
 fn a_formula_is_refused_at_its_fault(rt: HostRuntime) -> Result<(), Fail> {
-    let refused = read(rt.alloc(), "size>").err();
-    assert!(rt; refused == Some(Refusal::BadQuery { place: 5 }));
+    assert!(rt; is_refused_at(read(rt.alloc(), "size>"), 5));
     Ok(())
+}
+
+// Whether these are the names `b` and `a`.
+fn are_b_and_a(attrs: &[AttrName]) -> bool {
+    match attrs {
+        [one, two] => one.as_str() == "b" && two.as_str() == "a",
+        _ => false,
+    }
 }
 
 #[test]
 fn each_attribute_is_named_once(rt: HostRuntime) -> Result<(), Fail> {
     let predicate = read(rt.alloc(), "b=1&&!(a>2||b=3)")?;
     let attrs = names(rt.alloc(), &predicate)?;
-    let is_right = match attrs.as_slice() {
-        [one, two] => one.as_str() == "b" && two.as_str() == "a",
-        _ => false,
-    };
-    assert!(rt; is_right);
+    assert!(rt; are_b_and_a(&attrs));
     Ok(())
 }
 
@@ -79,20 +92,19 @@ fn matched(alloc: Global, op: Op, source: &str) -> Result<Option<Predicate>, Ref
 }
 
 // Whether there is a predicate with this canonical text.
-fn is_written(alloc: Global, made: Option<&Predicate>, text: &str) -> Result<bool, Refusal> {
+fn is_written(alloc: Global, made: Option<Predicate>, text: &str) -> Result<bool, Refusal> {
     match made {
         None => Ok(false),
-        Some(predicate) => Ok(write(alloc, predicate)?.as_str() == text),
+        Some(predicate) => Ok(write(alloc, &predicate)?.as_str() == text),
     }
 }
 
 #[test]
 fn a_comparison_is_made_of_its_parts(rt: HostRuntime) -> Result<(), Fail> {
     let alloc = rt.alloc();
-    let least = ordered(alloc, Op::Ge, "-2")?;
-    assert!(rt; is_written(alloc, least.as_ref(), "(a>=\"-2\")")?);
+    assert!(rt; is_written(alloc, ordered(alloc, Op::Ge, "-2")?, "(a>=\"-2\")")?);
     let set = matched(alloc, Op::Ne, "x[^a-c]*")?;
-    assert!(rt; is_written(alloc, set.as_ref(), "(b!=\"x[^a-c]*\")")?);
+    assert!(rt; is_written(alloc, set, "(b!=\"x[^a-c]*\")")?);
     assert!(rt; ordered(alloc, Op::Eq, "x")?.is_none());
     assert!(rt; matched(alloc, Op::Le, "x")?.is_none());
     Ok(())
@@ -112,13 +124,10 @@ fn a_comparison_has_at_most_4096_bytes(rt: HostRuntime) -> Result<(), Fail> {
 
 // Whether `Not`, `And` and `Or` of two predicates have the texts of the specification.
 fn are_joined(alloc: Global, one: &Predicate, two: &Predicate) -> Result<bool, Refusal> {
-    let not = one.not()?;
-    let both = one.both(two)?;
-    let either = two.either(one)?;
     Ok(
-        is_written(alloc, not.as_ref(), "!(a<\"2\")")?
-            && is_written(alloc, both.as_ref(), "((a<\"2\")&&(b==\"x*\"))")?
-            && is_written(alloc, either.as_ref(), "((b==\"x*\")||(a<\"2\"))")?,
+        is_written(alloc, one.not()?, "!(a<\"2\")")?
+            && is_written(alloc, one.both(two)?, "((a<\"2\")&&(b==\"x*\"))")?
+            && is_written(alloc, two.either(one)?, "((b==\"x*\")||(a<\"2\"))")?,
     )
 }
 
@@ -181,9 +190,9 @@ fn each_value_is_pushed(rt: HostRuntime) -> Result<(), Fail> {
 #[test]
 fn a_push_that_does_not_fit_is_refused(rt: HostRuntime) -> Result<(), Fail> {
     let mut stack = Stack::new(rt.alloc());
-    assert!(rt; stack.finish().err() == Some(Refusal::BadQuery { place: 0 }));
-    assert!(rt; stack.push_attr("").err() == Some(Refusal::BadQuery { place: 0 }));
+    assert!(rt; is_refused_at(stack.finish(), 0));
+    assert!(rt; is_refused_at(stack.push_attr(""), 0));
     stack.push_attr("a")?;
-    assert!(rt; stack.push_op(StackOp::Not).err() == Some(Refusal::BadQuery { place: 1 }));
+    assert!(rt; is_refused_at(stack.push_op(StackOp::Not), 1));
     Ok(())
 }

@@ -2,7 +2,7 @@
 ghost use Rattle.std.specs.Prelude.{IfOk};
 ghost use Rattle.lq_volume.specs.Change.{IsLawful};
 
-use crate::changes::{lawful, rename};
+use crate::changes::{is_file_alone, is_refused, lawful, rename};
 use lq_predicate::read;
 use lq_update::{Cause, Mark, Message, Opcode, Parcel, Rebuild, step};
 use lq_value::{Name, Refusal};
@@ -109,11 +109,8 @@ fn a_rebuild_keeps_a_result(rt: HostRuntime) -> Result<(), Fail> {
     let mut rebuild = Rebuild::new(alloc, 3, Vec::new(alloc));
     assert!(rt; rebuild.is_settled() && rebuild.last_change() == 3);
     fold(alloc, &mut rebuild, 1, 4, Opcode::Created)?;
-    let is_right = match rebuild.result() {
-        [entry] => entry.dir == 1 && entry.name.as_str() == "a" && entry.node == 2,
-        _ => false,
-    };
-    assert!(rt; is_right && rebuild.is_settled() && rebuild.last_change() == 4);
+    assert!(rt; is_file_alone(rebuild.result()));
+    assert!(rt; rebuild.is_settled() && rebuild.last_change() == 4);
     Ok(())
 }
 
@@ -121,10 +118,10 @@ fn a_rebuild_keeps_a_result(rt: HostRuntime) -> Result<(), Fail> {
 fn a_message_that_does_not_fit_is_refused(rt: HostRuntime) -> Result<(), Fail> {
     let alloc = rt.alloc();
     let mut rebuild = Rebuild::new(alloc, 3, Vec::new(alloc));
-    let refused = fold(alloc, &mut rebuild, 1, 3, Opcode::Created).err();
-    assert!(rt; refused == Some(Refusal::OutOfStep));
-    let refused = fold(alloc, &mut rebuild, 1, 4, Opcode::Removed).err();
-    assert!(rt; refused == Some(Refusal::Mismatch));
+    let refused = fold(alloc, &mut rebuild, 1, 3, Opcode::Created);
+    assert!(rt; is_refused(refused, Refusal::OutOfStep));
+    let refused = fold(alloc, &mut rebuild, 1, 4, Opcode::Removed);
+    assert!(rt; is_refused(refused, Refusal::Mismatch));
     assert!(rt; rebuild.result().is_empty() && rebuild.last_change() == 3);
     Ok(())
 }

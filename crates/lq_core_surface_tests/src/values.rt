@@ -1,4 +1,5 @@
 //! Of lq_value: names, values, patterns and refusals.
+use crate::changes::{is_refused, is_same};
 use lq_value::{
     AttrName, Element, Entry, Kind, Literal, Name, Op, Pattern, Refusal, Text, Value, View, compare,
 };
@@ -17,7 +18,7 @@ fn is_named(alloc: Global) -> Result<bool, Refusal> {
 fn names_are_read_and_copied(rt: HostRuntime) -> Result<(), Fail> {
     assert!(rt; is_named(rt.alloc())?);
     for text in ["", "a/b", "a\0", ".", ".."] {
-        if Name::read(rt.alloc(), text).err() != Some(Refusal::BadName) {
+        if !is_refused(Name::read(rt.alloc(), text), Refusal::BadName) {
             return Err(Fail::from(text));
         }
     }
@@ -35,7 +36,7 @@ fn is_attr_named(alloc: Global) -> Result<bool, Refusal> {
 fn names_of_attributes_are_read_and_copied(rt: HostRuntime) -> Result<(), Fail> {
     assert!(rt; is_attr_named(rt.alloc())?);
     for text in ["", "a\0"] {
-        if AttrName::read(rt.alloc(), text).err() != Some(Refusal::BadName) {
+        if !is_refused(AttrName::read(rt.alloc(), text), Refusal::BadName) {
             return Err(Fail::from(text));
         }
     }
@@ -45,21 +46,19 @@ fn names_of_attributes_are_read_and_copied(rt: HostRuntime) -> Result<(), Fail> 
 // Whether a copy of a value shows this.
 fn is_shown(alloc: Global, value: &Value, shown: View<'_>) -> Result<bool, Refusal> {
     let copy = value.copy(alloc)?;
-    Ok(match (copy.view(), shown) {
-        (View::Text(one), View::Text(two)) => one == two,
-        (View::Int32(one), View::Int32(two)) => one == two,
-        (View::Int64(one), View::Int64(two)) => one == two,
-        (View::UInt32(one), View::UInt32(two)) => one == two,
-        (View::UInt64(one), View::UInt64(two)) => one == two,
-        _ => false,
-    })
+    Ok(is_same(copy.view(), shown))
+}
+
+// Whether a text that is a value shows itself.
+fn is_text_shown(alloc: Global, text: &str) -> Result<bool, Refusal> {
+    let value = Value::text(alloc, text)?;
+    is_shown(alloc, &value, View::Text(text))
 }
 
 #[test]
 fn values_are_copied_and_shown(rt: HostRuntime) -> Result<(), Fail> {
     let alloc = rt.alloc();
-    let text = Value::text(alloc, "q")?;
-    assert!(rt; is_shown(alloc, &text, View::Text("q"))?);
+    assert!(rt; is_text_shown(alloc, "q")?);
     assert!(rt; is_shown(alloc, &Value::Int32(-7), View::Int32(-7))?);
     assert!(rt; is_shown(alloc, &Value::Int64(-9), View::Int64(-9))?);
     assert!(rt; is_shown(alloc, &Value::UInt32(7), View::UInt32(7))?);
@@ -71,7 +70,7 @@ fn values_are_copied_and_shown(rt: HostRuntime) -> Result<(), Fail> {
 fn a_text_over_4096_bytes_is_no_value(rt: HostRuntime) -> Result<(), Fail> {
     let bytes = [b'x'; 4_097];
     let long = str::from_utf8(&bytes)?;
-    assert!(rt; Value::text(rt.alloc(), long).err() == Some(Refusal::TooLong));
+    assert!(rt; is_refused(Value::text(rt.alloc(), long), Refusal::TooLong));
     Ok(())
 }
 
@@ -79,8 +78,8 @@ fn a_text_over_4096_bytes_is_no_value(rt: HostRuntime) -> Result<(), Fail> {
 fn patterns_are_read_and_match(rt: HostRuntime) -> Result<(), Fail> {
     let pattern = Pattern::read(rt.alloc(), "a[b-c]*")?;
     assert!(rt; pattern.matches("ab") && !pattern.matches("ad"));
-    let refused = Pattern::read(rt.alloc(), "a[").err();
-    assert!(rt; refused == Some(Refusal::BadQuery { place: 1 }));
+    let refused = Pattern::read(rt.alloc(), "a[");
+    assert!(rt; is_refused(refused, Refusal::BadQuery { place: 1 }));
     Ok(())
 }
 
@@ -100,14 +99,23 @@ fn a_pattern_is_made_of_its_elements(rt: HostRuntime) -> Result<(), Fail> {
     Ok(())
 }
 
+// Whether the literal suits the operators of a pattern alone.
+fn suits_as_pattern(literal: &Literal) -> bool {
+    literal.suits(Op::Eq) && literal.suits(Op::Ne) && !literal.suits(Op::Lt)
+}
+
+// Whether the literal suits the operators of a plain text alone.
+fn suits_as_plain(literal: &Literal) -> bool {
+    literal.suits(Op::Gt) && literal.suits(Op::Le) && !literal.suits(Op::Eq)
+}
+
 #[test]
 fn a_literal_suits_operators_and_is_compared_with(rt: HostRuntime) -> Result<(), Fail> {
-    let alloc = rt.alloc();
-    let pattern = Literal::Pattern(Pattern::read(alloc, "1*")?);
-    assert!(rt; pattern.suits(Op::Eq) && pattern.suits(Op::Ne) && !pattern.suits(Op::Lt));
+    let pattern = Literal::Pattern(Pattern::read(rt.alloc(), "1*")?);
+    assert!(rt; suits_as_pattern(&pattern));
     assert!(rt; compare(View::Text("10"), Op::Eq, &pattern));
-    let plain = Literal::Plain(Text::new(String::from_str(alloc, "9")?));
-    assert!(rt; plain.suits(Op::Gt) && plain.suits(Op::Le) && !plain.suits(Op::Eq));
+    let plain = Literal::Plain(Text::new(String::from_str(rt.alloc(), "9")?));
+    assert!(rt; suits_as_plain(&plain));
     assert!(rt; compare(View::Int32(10), Op::Gt, &plain));
     assert!(rt; !compare(View::Text("10"), Op::Ge, &plain));
     Ok(())

@@ -1,5 +1,5 @@
 //! Of lq_volume: the tree, its changes and the static query.
-use crate::changes::{create, rename, set, unset};
+use crate::changes::{create, find, is_file_alone, is_refused, is_same, rename, set, unset};
 use lq_predicate::read;
 use lq_value::{AttrName, Entry, Kind, Name, Refusal, Value, View};
 use lq_volume::{Applied, Change, EntryRef, Listing, Volume};
@@ -10,8 +10,14 @@ use std::test::Fail;
 fn volume(alloc: Global) -> Result<Volume, Refusal> {
     let mut volume = Volume::new(alloc, 9);
     volume.apply(&create(alloc, "a")?)?;
-    volume.apply(&set(alloc, 2, Value::Int32(7))?)?;
+    volume.apply(&set(alloc, 2, "x", Value::Int32(7))?)?;
     Ok(volume)
+}
+
+// Node 2 gets this text as an attribute.
+fn set_text(alloc: Global, attr: &str, text: &str) -> Result<Change, Refusal> {
+    let value = Value::text(alloc, text)?;
+    set(alloc, 2, attr, value)
 }
 
 // A change of each kind, all accepted by that volume in turn.
@@ -24,25 +30,33 @@ fn change(alloc: Global, place: u64) -> Result<Change, Refusal> {
         }),
         1 => unset(alloc, 2),
         2 => rename(alloc, 2, "b"),
-        3 => set(alloc, 2, Value::text(alloc, "q")?),
+        3 => set_text(alloc, "x", "q"),
         _ => Ok(Change::Remove { node: 2 }),
     }
 }
 
-// Whether a change is checked and then applied, under this number.
-fn is_applied(volume: &mut Volume, change: &Change, number: u64) -> Result<bool, Refusal> {
-    let checked: Applied = volume.check(change)?;
-    let applied = volume.apply(change)?;
-    let is_checked = checked.change == number && checked.node == 2;
-    Ok(is_checked && applied.change == number && applied.node == 2)
+// Whether the change is this one, of node 2.
+fn is_change(applied: Applied, number: u64) -> bool {
+    applied.change == number && applied.node == 2
+}
+
+// Whether that change is checked and then applied, under this number.
+fn is_applied(
+    alloc: Global,
+    volume: &mut Volume,
+    place: u64,
+    number: u64,
+) -> Result<bool, Refusal> {
+    let change = change(alloc, place)?;
+    let is_checked = is_change(volume.check(&change)?, number);
+    Ok(is_checked && is_change(volume.apply(&change)?, number))
 }
 
 #[test]
 fn changes_are_checked_and_applied(rt: HostRuntime) -> Result<(), Fail> {
     let mut volume = volume(rt.alloc())?;
     for place in 0..5 {
-        let change = change(rt.alloc(), place)?;
-        if !is_applied(&mut volume, &change, place + 3)? {
+        if !is_applied(rt.alloc(), &mut volume, place, place + 3)? {
             return Err(Fail::from(place));
         }
     }
@@ -54,60 +68,81 @@ fn changes_are_checked_and_applied(rt: HostRuntime) -> Result<(), Fail> {
 fn a_refused_change_is_none(rt: HostRuntime) -> Result<(), Fail> {
     let mut volume = volume(rt.alloc())?;
     let again = create(rt.alloc(), "a")?;
-    assert!(rt; volume.check(&again).err() == Some(Refusal::Exists));
-    assert!(rt; volume.apply(&again).err() == Some(Refusal::Exists));
+    assert!(rt; is_refused(volume.check(&again), Refusal::Exists));
+    assert!(rt; is_refused(volume.apply(&again), Refusal::Exists));
     assert!(rt; volume.copy()?.changes() == 2);
     Ok(())
 }
 
-// Whether this is the file.
-fn is_file(alloc: Global, entry: EntryRef<'_>) -> Result<bool, Refusal> {
-    let attr = AttrName::read(alloc, "x")?;
-    let is_set = matches!(entry.attr(&attr), Some(View::Int32(7)));
-    let is_first = match entry.attr_at(0) {
-        Some((name, View::Int32(7))) => *name == attr,
+// Whether this is a file of the root, of this size and of time 5.
+fn is_file(entry: &EntryRef<'_>, name: &str, size: u64) -> bool {
+    entry.dir() == 1
+        && entry.name().as_str() == name
+        && entry.kind() == Kind::File
+        && entry.size() == size
+        && entry.time() == 5
+}
+
+// Whether an entry has this attribute, by its place and by its name.
+fn has_attr(entry: &EntryRef<'_>, place: usize, attr: &AttrName, view: View<'_>) -> bool {
+    match (entry.attr_at(place), entry.attr(attr)) {
+        (Some((name, placed)), Some(named)) => {
+            *name == *attr && is_same(placed, view) && is_same(named, view)
+        }
         _ => false,
-    };
-    let has_all = is_set && is_first && entry.attr_count() == 1;
-    Ok(has_all && entry.attr_at(1).is_none())
+    }
+}
+
+// The same, of the text of its name.
+fn shows(
+    alloc: Global,
+    entry: &EntryRef<'_>,
+    place: usize,
+    attr: &str,
+    view: View<'_>,
+) -> Result<bool, Refusal> {
+    let attr = AttrName::read(alloc, attr)?;
+    Ok(has_attr(entry, place, &attr, view))
 }
 
 #[test]
 fn an_entry_is_shown(rt: HostRuntime) -> Result<(), Fail> {
     let volume = volume(rt.alloc())?;
     let entry = volume.entry(2)?;
-    assert!(rt; entry.dir() == 1 && entry.name().as_str() == "a");
-    assert!(rt; entry.kind() == Kind::File && entry.size() == 7 && entry.time() == 5);
-    assert!(rt; is_file(rt.alloc(), entry)?);
-    assert!(rt; volume.entry(9).err() == Some(Refusal::NoNode));
-    assert!(rt; volume.entry(1).err() == Some(Refusal::NoEntry));
+    assert!(rt; is_file(&entry, "a", 7) && entry.attr_count() == 1);
+    assert!(rt; shows(rt.alloc(), &entry, 0, "x", View::Int32(7))?);
+    assert!(rt; entry.attr_at(1).is_none());
+    assert!(rt; is_refused(volume.entry(9), Refusal::NoNode));
+    assert!(rt; is_refused(volume.entry(1), Refusal::NoEntry));
     Ok(())
+}
+
+// Whether that file is listed.
+fn is_listed(listing: &Listing) -> bool {
+    listing.dir == 1
+        && listing.name.as_str() == "a"
+        && listing.kind == Kind::File
+        && listing.size == 7
+        && listing.time == 5
+        && listing.attrs.len() == 1
 }
 
 #[test]
 fn an_entry_is_found_and_listed(rt: HostRuntime) -> Result<(), Fail> {
     let volume = volume(rt.alloc())?;
-    assert!(rt; volume.find(1, &Name::read(rt.alloc(), "a")?)? == 2);
-    let listing: Listing = volume.listing(2)?;
-    assert!(rt; listing.dir == 1 && listing.name.as_str() == "a" && listing.kind == Kind::File);
-    assert!(rt; listing.size == 7 && listing.time == 5 && listing.attrs.len() == 1);
-    assert!(rt; volume.listing(9).err() == Some(Refusal::NoNode));
+    assert!(rt; find(rt.alloc(), &volume, 1, "a")? == 2);
+    let listing = volume.listing(2)?;
+    assert!(rt; is_listed(&listing));
+    assert!(rt; is_refused(volume.listing(9), Refusal::NoNode));
     Ok(())
 }
 
 #[test]
 fn what_is_not_there_is_not_found(rt: HostRuntime) -> Result<(), Fail> {
     let volume = volume(rt.alloc())?;
-    let name = Name::read(rt.alloc(), "b")?;
-    for (dir, refusal) in [
-        (9, Refusal::NoNode),
-        (2, Refusal::NotFolder),
-        (1, Refusal::NoEntry),
-    ] {
-        if volume.find(dir, &name).err() != Some(refusal) {
-            return Err(Fail::from(dir));
-        }
-    }
+    assert!(rt; is_refused(find(rt.alloc(), &volume, 9, "b"), Refusal::NoNode));
+    assert!(rt; is_refused(find(rt.alloc(), &volume, 2, "b"), Refusal::NotFolder));
+    assert!(rt; is_refused(find(rt.alloc(), &volume, 1, "b"), Refusal::NoEntry));
     Ok(())
 }
 
@@ -120,13 +155,8 @@ fn fetched(alloc: Global, volume: &Volume, formula: &str) -> Result<Vec<Entry>, 
 #[test]
 fn entries_are_fetched_by_a_predicate(rt: HostRuntime) -> Result<(), Fail> {
     let volume = volume(rt.alloc())?;
-    let entries = fetched(rt.alloc(), &volume, "x=7&&name=a")?;
-    let is_right = match entries.as_slice() {
-        [entry] => entry.dir == 1 && entry.name.as_str() == "a" && entry.node == 2,
-        _ => false,
-    };
-    let none = fetched(rt.alloc(), &volume, "x>7")?;
-    assert!(rt; is_right && none.is_empty());
+    assert!(rt; is_file_alone(&fetched(rt.alloc(), &volume, "x=7&&name=a")?));
+    assert!(rt; fetched(rt.alloc(), &volume, "x>7")?.is_empty());
     Ok(())
 }
 
@@ -135,12 +165,8 @@ fn a_copy_is_fetched_from(rt: HostRuntime) -> Result<(), Fail> {
     let mut volume = volume(rt.alloc())?;
     let copy = volume.copy()?;
     volume.apply(&Change::Remove { node: 2 })?;
-    let entries = fetched(rt.alloc(), &copy, "x=7")?;
-    let is_right = match entries.as_slice() {
-        [entry] => entry.dir == 1 && entry.name.as_str() == "a" && entry.node == 2,
-        _ => false,
-    };
-    assert!(rt; is_right && fetched(rt.alloc(), &volume, "x=7")?.is_empty());
+    assert!(rt; is_file_alone(&fetched(rt.alloc(), &copy, "x=7")?));
+    assert!(rt; fetched(rt.alloc(), &volume, "x=7")?.is_empty());
     Ok(())
 }
 
@@ -155,46 +181,38 @@ fn attributes(alloc: Global) -> Result<Volume, Refusal> {
         size: 3,
         time: 5,
     })?;
-    for (attr, value) in [
-        ("x", Value::Int32(7)),
-        ("y", Value::text(alloc, "q")?),
-        ("x", Value::text(alloc, "z")?),
-    ] {
-        let attr = AttrName::read(alloc, attr)?;
-        volume.apply(&Change::SetAttr {
-            node: 2,
-            attr,
-            value,
-        })?;
-    }
+    set_all(alloc, &mut volume)?;
     Ok(volume)
 }
 
-// Whether this attribute of an entry is this text, by its place and by its name.
-fn is_text(
-    alloc: Global,
-    entry: &EntryRef<'_>,
-    place: usize,
-    attr: &str,
-    text: &str,
-) -> Result<bool, Refusal> {
-    let name = AttrName::read(alloc, attr)?;
-    let is_named = matches!(entry.attr(&name), Some(View::Text(is)) if is == text);
-    Ok(match entry.attr_at(place) {
-        Some((at, View::Text(is))) => is_named && *at == name && is == text,
-        _ => false,
-    })
+// Sets those attributes.
+fn set_all(alloc: Global, volume: &mut Volume) -> Result<(), Refusal> {
+    volume.apply(&set(alloc, 2, "x", Value::Int32(7))?)?;
+    volume.apply(&set_text(alloc, "y", "q")?)?;
+    volume.apply(&set_text(alloc, "x", "z")?)?;
+    Ok(())
+}
+
+// Whether an entry has those attributes at the first two places.
+fn has_both(alloc: Global, entry: &EntryRef<'_>) -> Result<bool, Refusal> {
+    Ok(
+        shows(alloc, entry, 0, "x", View::Text("z"))?
+            && shows(alloc, entry, 1, "y", View::Text("q"))?,
+    )
+}
+
+// Whether an entry has no attribute at this place, and none of this name.
+fn lacks(alloc: Global, entry: &EntryRef<'_>, place: usize, attr: &str) -> Result<bool, Refusal> {
+    let attr = AttrName::read(alloc, attr)?;
+    Ok(entry.attr_at(place).is_none() && entry.attr(&attr).is_none())
 }
 
 #[test]
 fn scenario_attributes(rt: HostRuntime) -> Result<(), Fail> {
     let volume = attributes(rt.alloc())?;
     let entry = volume.entry(2)?;
-    assert!(rt; entry.dir() == 1 && entry.name().as_str() == "f" && entry.kind() == Kind::File);
-    assert!(rt; entry.size() == 3 && entry.time() == 5 && entry.attr_count() == 2);
-    assert!(rt; is_text(rt.alloc(), &entry, 0, "x", "z")?);
-    assert!(rt; is_text(rt.alloc(), &entry, 1, "y", "q")?);
-    assert!(rt; entry.attr_at(2).is_none());
-    assert!(rt; entry.attr(&AttrName::read(rt.alloc(), "w")?).is_none());
+    assert!(rt; is_file(&entry, "f", 3) && entry.attr_count() == 2);
+    assert!(rt; has_both(rt.alloc(), &entry)?);
+    assert!(rt; lacks(rt.alloc(), &entry, 2, "w")?);
     Ok(())
 }
