@@ -37,15 +37,18 @@ returns-in_err-part-in-Ors g c = λ s h.
 
 pub returns-in_err-push-in-Ors : goal.returns-in_err-push-in-Ors
 returns-in_err-push-in-Ors g c = λ s h.
-    let p = err_from_is_err_and c.from_residual-in_err-push-in-Ors.result c.from_residual-in_err-push-in-Ors.ensures.1 in
+    let r = c.from_residual-in_err-push-in-Ors in
+    let p = err_from_is_err_and r.result r.ensures.1 in
     rw (p.1, p.2) tt
 
 pub returns-in_err-part-in-Closes : goal.returns-in_err-part-in-Closes
 returns-in_err-part-in-Closes g c = λ s h.
-    let p = err_from_is_err_and c.from_residual-in_err-part-in-Closes.result c.from_residual-in_err-part-in-Closes.ensures.1 in
+    let r = c.from_residual-in_err-part-in-Closes in
+    let p = err_from_is_err_and r.result r.ensures.1 in
     rw (p.1, p.2) tt
 
 pub returns-in_err-complete-in-Closes : goal.returns-in_err-complete-in-Closes
 returns-in_err-complete-in-Closes g c = λ s h.
-    let p = err_from_is_err_and c.from_residual-in_err-complete-in-Closes.result c.from_residual-in_err-complete-in-Closes.ensures.1 in
+    let r = c.from_residual-in_err-complete-in-Closes in
+    let p = err_from_is_err_and r.result r.ensures.1 in
     rw (p.1, p.2) tt
