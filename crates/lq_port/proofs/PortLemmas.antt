@@ -7,7 +7,7 @@ use Rattle.std.proofs.Math.Seq.{drop-append_seam}
 use Rattle.crossbeam_channel.specs.Fifo.{Pushes, Pops, Forks, Merges, Learns}
 use Rattle.atomic_table.proofs.Lists.{at_set, at_snoc}
 use Rattle.lq_port.specs.declared.step_types.Known.{Known}
-use Rattle.lq_port.specs.Port.{known_alone, putter, taker, idle, together, put_of, AddsItem, Totals, IsLegal, Removes, PassFits, PortRule}
+use Rattle.lq_port.specs.Port.{known_alone, putter, taker, idle, together, put_of, AddsItem, Totals, IsLegal, Removes, PassFits, PortRule, Shares}
 use Rattle.lq_port.proofs.ListLemmas.{nil_has_no_place, split_at_back, front_of, IsPrefix-snoc, IsPrefix-equal, place_at_back, AllAt, AllAt-set}
 
 module _ {T F : Type 0} (follows : List T → F → T → Type 0) where
@@ -315,3 +315,27 @@ module _ {T F : Type 0} (follows : List T → F → T → Type 0) where
         j.2 ∙ sym m.1,
         let less = h.within in omega (arith, m.4),
       )
+
+module _ {T F : Type 0} where
+  -- What two ends know after they were joined and split again.
+  pub shares :
+      (v w v' w' : Known T F) (items : List T) → Totals (together v w) items
+      → v' ≡ putter v.room v.floor (together v w) → w' ≡ taker v.room v.floor (together v w)
+      → Shares v w v' w'
+  shares v w v' w' items t a b = rw (a, b) (record {
+    floor = refl;
+    floor_in = refl;
+    floor_out = sym t.3;
+    taken = refl;
+    taken_in = refl;
+    put = t.1;
+    put_in = t.1;
+    ahead = refl;
+    later = (
+      t.2.0,
+      append_cancel_left w.taken (w.ahead ++ t.2.0) (together v w).ahead
+          (cc (t.2.1, append_assoc w.taken w.ahead t.2.0)),
+    );
+    room = refl;
+    within = rw t.0 t.4;
+  })

@@ -1,11 +1,12 @@
 -- Read in this order. Stacks: FitLemmas, StarredLemmas (a comparison's size, and a pattern that
--- finds a text's characters), StackLemmas. Reading: QuerySizeLemmas, MachineLemmas, PlaceLemmas,
--- SoFarLemmas, LimitLemmas, ReadLemmas.
+-- finds a text's characters), StackLemmas. Reading: QuerySizeLemmas, MachineLemmas, EndLemmas,
+-- PlaceLemmas, SoFarLemmas, LimitLemmas, ReadLemmas.
 pub mod FitLemmas
 pub mod StarredLemmas
 pub mod StackLemmas
 pub mod QuerySizeLemmas
 pub mod MachineLemmas
+pub mod EndLemmas
 pub mod PlaceLemmas
 pub mod SoFarLemmas
 pub mod LimitLemmas

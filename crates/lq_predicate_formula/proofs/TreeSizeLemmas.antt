@@ -1,9 +1,12 @@
 -- The lengths of canonical texts, a piece at a time.
-use Rattle.std.proofs.Common.{◌≡◌, ◌+◌, ℕ, List, [], ◌∷◌, length, refl, ap, ◌∙◌, arith}
+use Rattle.std.proofs.Common.{◌≡◌, ◌+◌, ◌≤◌, ℕ, suc, true, false, List, [], ◌∷◌, length, refl, ap, ◌∙◌, arith}
 use Rattle.std.proofs.lemmas.List.{length-append}
-use Rattle.std.specs.Prelude.{codes}
-use Rattle.lq_predicate_formula.specs.Query.{Query, And, Or, Queries, no_more, and_then, queries}
-use Rattle.lq_predicate_formula.specs.Canonical.{written, parts_written, others_written, canonical}
+use Rattle.std.proofs.lemmas.Bool.Decides.{nat_tests}
+use Rattle.std.specs.Prelude.{codes, nat_le, nat_lt, ◌&&◌}
+use Rattle.lq_predicate_formula.specs.Capped.{capped}
+use Rattle.lq_predicate_formula.specs.PredicateLimits.{is_within}
+use Rattle.lq_predicate_formula.specs.Query.{Query, And, Not, Or, Queries, no_more, and_then, queries}
+use Rattle.lq_predicate_formula.specs.Canonical.{written, parts_written, others_written, canonical, comparisons, depth}
 use Rattle.lq_predicate_formula.specs.Laws.{JoinedTextsAdd}
 use Rattle.lq_predicate_formula.specs.Size.{parts_size}
 use Rattle.lq_predicate_formula.proofs.TreeTextLemmas.{written-append}
@@ -50,3 +53,23 @@ or_two_size lower upper = omega (arith, (joined-add lower (queries (upper ∷ []
 
 -- two predicates joined, by an And or by an Or
 pub ruleset two_sizes = (and_two_size, or_two_size)
+
+-- the limits of a `!`, by numbers, where what it negates is shallow enough
+shallow_tests : (d n l : ℕ) → nat_le d 63 ≡ true → n ≤ 256 → nat_lt (capped l) 4096
+    ≡ (nat_le (suc d) 64 && nat_le n 256 && nat_le (suc l) 4096)
+shallow_tests d n l shallow few = grind (arith, nat_tests)
+
+-- and where it isn't
+deep_tests : (d n l : ℕ) → nat_le d 63 ≡ false
+    → false ≡ (nat_le (suc d) 64 && nat_le n 256 && nat_le (suc l) 4096)
+deep_tests d n l deep = grind (arith, nat_tests)
+
+-- a `!` adds a level and a byte
+pub not_within : (q : Query) → nat_le (depth q) 63 ≡ true → comparisons q ≤ 256
+    → nat_lt (capped (length (canonical q))) 4096 ≡ is_within (Not q)
+not_within q shallow few =
+    shallow_tests (depth q) (comparisons q) (length (canonical q)) shallow few
+
+-- a `!` of what has the greatest depth is too deep
+pub not_too_deep : (q : Query) → nat_le (depth q) 63 ≡ false → false ≡ is_within (Not q)
+not_too_deep q deep = deep_tests (depth q) (comparisons q) (length (canonical q)) deep

@@ -73,13 +73,13 @@ first-gone false None None is = refl
 first-gone false (Some e) None is = refl
 
 -- where no entry came, what left is told as removed, and nothing after it
-left-told : (moved : Bool) (o : Option Entry)
+pub left-told : (moved : Bool) (o : Option Entry)
     → (told_first moved o None ≡ o) × (told_last moved o None ≡ None)
 left-told true o = (refl, refl)
 left-told false o = (refl, refl)
 
 -- where one came and none left, it is told as created
-came-alone : (moved : Bool) (f : Entry) → (told_first moved None (Some f) ≡ None)
+pub came-alone : (moved : Bool) (f : Entry) → (told_first moved None (Some f) ≡ None)
     × (told_last moved None (Some f) ≡ Some (Created, f))
 came-alone true f = (refl, refl)
 came-alone false f = (refl, refl)

@@ -1,5 +1,7 @@
 use Rattle.std.proofs.Common.{◌++◌, ◌∷◌, [], ap, sym, ◌∙◌}
+use Rattle.std.proofs.lemmas.Result.{err_from_is_err_and}
 use Rattle.lq_predicate_formula.specs.Query.{both_of}
+use Rattle.lq_predicate.proofs.EndLemmas.{end_bars}
 use Rattle.lq_predicate.proofs.MachineLemmas.{ands_read, closed, ors_read}
 use Rattle.lq_predicate.proofs.machine.after_operand.Goals as goal
 
@@ -23,3 +25,30 @@ returns-in_ok-complete-in-Closes g c = λ s h. rw c.in-Closes.is
     ∙ ap (λ f. c.pop.new.self.items ++ f ∷ []) (sym c.replace-inner.ensures.after))
     (c.in_ok-part-in-Closes.ensures s.top (c.replace-inner.ensures.value ∙ h.top))
     c.saturating_add-frames.ensures c.in_ok-complete-in-Closes.ensures)
+
+pub returns-in_default : goal.returns-in_default
+returns-in_default g c = λ s h. end_bars s c.args.token.now c.in_default.not-Ands
+    c.in_default.not-Ors c.in_default.not-Closes
+
+pub returns-in_err-part-in-Ors : goal.returns-in_err-part-in-Ors
+returns-in_err-part-in-Ors g c = λ s h.
+    let p = err_from_is_err_and c.from_residual.result c.from_residual.ensures.1 in
+    rw (p.1, p.2) tt
+
+pub returns-in_err-push-in-Ors : goal.returns-in_err-push-in-Ors
+returns-in_err-push-in-Ors g c = λ s h.
+    let r = c.from_residual-in_err-push-in-Ors in
+    let p = err_from_is_err_and r.result r.ensures.1 in
+    rw (p.1, p.2) tt
+
+pub returns-in_err-part-in-Closes : goal.returns-in_err-part-in-Closes
+returns-in_err-part-in-Closes g c = λ s h.
+    let r = c.from_residual-in_err-part-in-Closes in
+    let p = err_from_is_err_and r.result r.ensures.1 in
+    rw (p.1, p.2) tt
+
+pub returns-in_err-complete-in-Closes : goal.returns-in_err-complete-in-Closes
+returns-in_err-complete-in-Closes g c = λ s h.
+    let r = c.from_residual-in_err-complete-in-Closes in
+    let p = err_from_is_err_and r.result r.ensures.1 in
+    rw (p.1, p.2) tt

@@ -1,4 +1,5 @@
 use Rattle.std.proofs.Common.{◌∙◌}
+use Rattle.lq_predicate.proofs.EndLemmas.{start_bars}
 use Rattle.lq_predicate.proofs.MachineLemmas.{banged, name_read, never_full, opened}
 use Rattle.lq_predicate.proofs.machine.at_operand.Goals as goal
 
@@ -23,3 +24,7 @@ pub returns-else-frames-eq0-2 : goal.returns-else-frames-eq0-2
 returns-else-frames-eq0-2 g c = λ s h. rw c.in-Bang.is
     (banged g.B.Builder.named g.B.Builder.parts c.args.frames.now s _ h
     c.if-frames-eq0-2.false c.saturating_add-frames.ensures)
+
+pub returns-in_default : goal.returns-in_default
+returns-in_default g c = λ s h. start_bars s c.args.token.now c.in_default.not-Word
+    c.in_default.not-Opens c.in_default.not-Bang
