@@ -1,5 +1,4 @@
-use Rattle.std.proofs.Common.{rules, ◌≡◌, ◌∙◌, ap, Err, Ok}
-use Rattle.lq_script_request.specs.Request.{question_for}
+use Rattle.std.proofs.Common.{rules, ◌≡◌, Err}
 use Rattle.lq_script_request.proofs.NameLemmas.{named_refused, named_value}
 use Rattle.lq_script_request.proofs.parse_line.unsetting.Goals as goal
 
