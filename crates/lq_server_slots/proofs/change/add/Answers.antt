@@ -1,4 +1,5 @@
 use Rattle.std.proofs.Common.{refl, arith, rules}
+use Rattle.std.proofs.lemmas.Grind.{common_steps}
 use Rattle.lq_server_slots.proofs.SlotLemmas.{all_stand-alike}
 use Rattle.lq_server_slots.proofs.SyncLemmas.{slots_added, later_grown, later_same, seat_stays}
 use Rattle.lq_server_slots.proofs.change.add.Goals as goal
@@ -14,7 +15,7 @@ returns-in_err-applied-clause-made c = search (rules, later_same, seat_stays)
 
 pub returns-in_err-applied-clause-volume : goal.returns-in_err-applied-clause-volume
 returns-in_err-applied-clause-volume c =
-    rw (c.prepare.ensures.book, ← c.requires.volume) c.in_err-applied.ensures.err
+    first_of (search rules, grind (arith, common_steps), grind (arith, seat_stays))
 
 pub returns-in_err-applied-clause-holding : goal.returns-in_err-applied-clause-holding
 returns-in_err-applied-clause-holding c =
