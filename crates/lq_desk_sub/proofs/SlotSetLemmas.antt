@@ -91,12 +91,13 @@ has-take_one w pos fits =
     let p = trailing_zeros w64 w in
     let gone : bit_at (bit_and w (w - 1)) p ≡ 0 =
     omega (arith, bit_at_and w (w - 1) p, lowest-less_one p w z.1 z.2) in
+    let above = above-less_one p w z.1 z.2 in
     record {
       was = let lt = z.0 in let set = z.1 in grind (arith, nat_tests);
       gone = grind (arith, nat_tests);
       others = λ i ne. has-same _ w i (λ low. elim (cases_lt i p) [
         | inl lt ↦ omega (arith, bit_at_and w (w - 1) i, z.2 i lt)
-        | inr ge ↦ omega (arith, bit_at_and w (w - 1) i, above-less_one p w z.1 z.2 i (omega (arith, ne)))
+        | inr ge ↦ omega (arith, bit_at_and w (w - 1) i, above i (omega (arith, ne)))
       ]);
       fewer = omega (arith, and_le_r w (w - 1));
     }

@@ -53,8 +53,8 @@ impl Sub {
         Ok(told)
     }
 
-    /// Makes the messages of a planned change, if it has some and the subscription is live, in place
-    /// of those made ready before; answers whether it did.
+    /// Makes the messages of a planned change, if it has some and the subscription is live, in
+    /// place of those made ready before; answers whether it did.
     ///
     /// Where there is none, held messages stay, and no clause says what is ready: only the messages
     /// of a change that has some may be committed after it. It skips, as the code says, a change

@@ -26,8 +26,8 @@ returns-clause-over g c =
           c.open_in.ensures.answered,
       c.open_in.ensures.keeper,
     ) in
-    let keeps =
-    c.note.ensures.same.book ∙ sym (ap (λ (s : SeatToken Identity). s.book) c.note.ensures.seat) in (
+    let kept = c.note.ensures.same.book in
+    let keeps = kept ∙ sym (ap (λ (s : SeatToken Identity). s.book) c.note.ensures.seat) in (
       c.note.new.self.slots,
       c.note.ensures.same,
       record {
