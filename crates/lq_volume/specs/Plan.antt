@@ -1,5 +1,5 @@
 -- A lawful change to a state, with what it touches.
-use Rattle.std.specs.Prelude.{◌≡◌, ℕ, ◌+◌, Option, Some, IfSome, IsSomeAnd}
+use Rattle.std.specs.Prelude.{◌≡◌, ◌≢◌, ℕ, ℤ, ◌+◌, Option, Some, IfSome, IsSomeAnd, MatchOption}
 use Rattle.std.specs.Option.{option_copied, option_map}
 use Rattle.lq_volume.specs.declared.change.Applied.{Applied}
 use Rattle.lq_volume.specs.declared.change.Change.{Change}
@@ -30,6 +30,10 @@ pub record AreWritten (s : State) (c : Change) (w : WrittenNumbers) : Type 0 whe
   pub found : IsSomeAnd (record_at s (node_of s c))
       (λ r. (r.size ≡ w.old_size) × (r.time ≡ w.old_time))
 
+-- the change is no write
+abbrev pub IsNoWrite : Change → Type 0
+IsNoWrite c = (node size : ℕ) (time : ℤ) → c ≢ Write node size time
+
 -- the change is lawful, and this is what it answers and what it touches
 pub record IsPlanned (s : State) (c : Change) (made : Applied)
     (entry_before entry_after : Option Record) (other : Option (ℕ × Record))
@@ -45,4 +49,4 @@ pub record IsPlanned (s : State) (c : Change) (made : Applied)
   pub clobbered : option_map (λ e. e.0) other ≡ clobbered s c
   pub gone : IfSome other (λ e. record_at s e.0 ≡ Some e.1)
   -- the numbers of a write
-  pub written : IfSome numbers (AreWritten s c)
+  pub written : MatchOption numbers (IsNoWrite c) (AreWritten s c)

@@ -1,9 +1,9 @@
 //! A change that a volume accepts, with what it touches.
-ghost use Rattle.std.specs.Prelude.{◌≡◌, ◌+◌, Some, None, IfErr, IfOk, IfSome, OnOk};
+ghost use Rattle.std.specs.Prelude.{◌≡◌, ◌+◌, Some, None, IfErr, IfOk, IfSome, MatchOption, OnOk};
 ghost use Rattle.std.specs.Option.{option_copied, option_map};
 ghost use Rattle.lq_volume.specs.State.{record_at, IsVolume};
 ghost use Rattle.lq_volume.specs.Change.{after, clobbered, node_of, record_left, refused, IsLawful};
-ghost use Rattle.lq_volume.specs.Plan.{AreWritten, IsLookedUp};
+ghost use Rattle.lq_volume.specs.Plan.{AreWritten, IsLookedUp, IsNoWrite};
 
 use crate::change::{Applied, Change};
 use crate::checks::{
@@ -131,10 +131,11 @@ impl<'a> Planned<'a> {
         }
     }
 
-    /// The numbers that a write finds and leaves, looked up once. As the code says, `None` only
-    /// where the change is no write.
+    /// The numbers that a write finds and leaves, looked up once; `None` where the change is no
+    /// write.
     pub fn written(&self) -> Option<WrittenNumbers>
-        ensures { IfSome result (AreWritten self.now.before self.now.change) }
+        ensures { MatchOption result (IsNoWrite self.now.change)
+            (AreWritten self.now.before self.now.change) }
     {
         self.written
     }
@@ -210,14 +211,16 @@ fn view_after<'a>(
     }
 }
 
-// The numbers that a write finds and leaves.
+// The numbers that a write finds and leaves; `None` where the change is no write.
 fn written_by(
     volume: &Volume,
     change: &Change,
     stored: Option<&StoredRecord>,
 ) -> Option<WrittenNumbers>
-    requires { option_copied stored ≡ record_at volume.now (node_of volume.now change.now) }
-    ensures { IfSome result (AreWritten volume.now change.now) }
+    requires lawful { IsLawful volume.now change.now }
+    requires stored { option_copied stored
+        ≡ record_at volume.now (node_of volume.now change.now) }
+    ensures { MatchOption result (IsNoWrite change.now) (AreWritten volume.now change.now) }
 {
     let Change::Write { size, time, .. } = change else {
         return None;
