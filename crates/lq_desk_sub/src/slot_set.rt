@@ -1,5 +1,5 @@
 //! A set of slots.
-ghost use Rattle.std.specs.Prelude.{◌≡◌, ◌≢◌, ◌<◌, ◌==◌, ◌||◌, ℕ, MatchOption};
+ghost use Rattle.std.specs.Prelude.{◌≡◌, ◌≢◌, ◌<◌, ◌==◌, ◌||◌, ℕ, true, false, MatchOption};
 ghost use Rattle.std.specs.Int.{bit_at};
 ghost use Rattle.lq_desk_sub.specs.SlotSet.{has, IsEmpty, IsTakenOut};
 
@@ -19,6 +19,14 @@ impl SlotSet {
         ensures { IsEmpty (has result.word) }
     {
         SlotSet { word: 0 }
+    }
+
+    /// Whether no slot is in the set.
+    pub fn is_empty(self) -> bool
+        ensures empty { result ≡ true → IsEmpty (has self.word) }
+        ensures some { result ≡ false → (i : ℕ) × (has self.word i ≡ true) }
+    {
+        self.word == 0
     }
 
     /// The slots whose bits are set in a word, for the slot at a place the bit with this index.

@@ -1,6 +1,6 @@
 -- A change, committed in one slot after another.
-use Rattle.std.proofs.Common.{◌≡◌, ◌≢◌, ⊎_elim, ℕ, ◌+◌, ◌<◌, ◌≤◌, true, false, true≢false, List, [], ◌∷◌, length, Option, Some, None, sym, ◌∙◌, subst, arith, length-set, slice_set}
-use Rattle.std.specs.Prelude.{IsSome, is_some}
+use Rattle.std.proofs.Common.{◌≡◌, ◌≢◌, ℕ, ◌+◌, ◌-◌, ◌<◌, ◌≤◌, true≢false, List, [], ◌∷◌, length, Option, Some, None, sym, ap, ◌∙◌, subst, arith, length-set, slice_set}
+use Rattle.std.specs.Prelude.{IsSome}
 use Rattle.lq_volume.specs.declared.change.Change.{Change}
 use Rattle.lq_volume.specs.Book.{Book, state_of, grown}
 use Rattle.lq_volume.specs.Change.{IsLawful}
@@ -8,100 +8,108 @@ use Rattle.lq_board.specs.declared.token_views.KnownSlot.{KnownSlot}
 use Rattle.lq_board.specs.Book.{IsFullBook}
 use Rattle.lq_board.specs.Slot.{slot_at, counted}
 use Rattle.lq_board.specs.Token.{KeeperToken}
+use Rattle.lq_desk_sub.specs.SlotSet.{has, IsEmpty, IsTakenOut}
 use Rattle.lq_server_slots.specs.declared.identity.Identity.{Identity}
 use Rattle.lq_server_slots.specs.declared.subscription.Subscription.{Subscription}
 use Rattle.lq_server_slots.specs.Marking.{hung_mark}
 use Rattle.lq_server_slots.specs.Standing.{IsConsistentAt, IsReady, SameButHeld, SameButPuts, CannotPut}
-use Rattle.lq_server_slots.specs.Slots.{SlotStands, asks_of, slot_in, taken_slot, AllStand, IsListed, IsReadyAt, AllReady, before_of, PartlyCommitted, OnlyAt, SlotIs, SlotsAre, IsNoticed, IsServed, IsGrown, IsToFill}
-use Rattle.lq_server_slots.proofs.SlotLemmas.{in_else, set_cases, place_cases, only_self, counted_here, to_fill_then}
-use Rattle.lq_server_slots.proofs.TakenLemmas.{free_or_taken, listed-set}
+use Rattle.lq_server_slots.specs.Slots.{SlotStands, asks_of, slot_in, AllStand, MarksTaken, Outside, Inside, IsReadyAt, AllReady, before_of, PartlyCommitted, OnlyAt, IsNoticed, IsServed, IsGrown, IsToFill}
+use Rattle.lq_server_slots.proofs.SlotLemmas.{in_else, place_cases, only_self, counted_here, to_fill_then}
+use Rattle.lq_server_slots.proofs.TakenLemmas.{is_free}
 
--- ---- a fact of each listed slot
+-- ---- a fact of each slot, while one slot after another is taken out of a set
 
-module _ (P : Option Subscription → KnownSlot Identity → Type 0) (taken : List ℕ)
-    (slots : List (Option Subscription)) (l : IsListed taken slots) (index : ℕ) where
-  -- the fact at an index of the list
-  abbrev pub AtIndex : List (Option Subscription) → List (KnownSlot Identity) → ℕ → Type 0
-  AtIndex zs ps j = P (slot_in zs (taken_slot taken j)) (slot_at ps (taken_slot taken j))
+module _ (P : Option Subscription → KnownSlot Identity → Type 0)
+    (slots : List (Option Subscription)) where
+  -- at first the slots outside are free
+  pub outside-first : (word : ℕ) (ps : List (KnownSlot Identity)) → MarksTaken word slots
+      → ((i : ℕ) → i < 64 → slot_in slots (i + 1) ≡ None → P None (slot_at ps (i + 1)))
+      → Outside P word slots ps
+  outside-first word ps marks free i lt out =
+      let none = is_free (slot_in slots (i + 1)) (sym (marks i lt) ∙ out) in
+      rw none (free i lt none)
 
-  module _ (place : ℕ) (o : Option Subscription) (lt : index < length taken)
-      (is : place ≡ taken_slot taken index) where
-    -- one slot was set, and what the keeper knows of it: one more of the listed slots has the fact
-    pub slots_are-more : (ps qs : List (KnownSlot Identity)) → length slots ≡ 65
-        → OnlyAt ps qs place → P o (slot_at qs place)
-        → ((j : ℕ) → j < index → j < length taken → AtIndex slots ps j)
-        → (j : ℕ) → j < index + 1 → j < length taken → AtIndex (slice_set slots place o) qs j
-    slots_are-more ps qs wide only here before j under within =
-        let high = l.high index lt in
-        place_cases P slots ps qs place (taken_slot taken j) o (omega arith) only here
-        (λ ne.
-        let off : j ≢ index = λ e. ne (rw e (sym is)) in before j (omega (arith, off)) within)
+  -- at last each slot is outside
+  pub outside-all : (word : ℕ) (ps : List (KnownSlot Identity)) → IsEmpty (has word)
+      → Outside P word slots ps → (k : ℕ) → 0 < k → k < 65 → P (slot_in slots k) (slot_at ps k)
+  outside-all word ps empty all k pos within =
+      let same : (k - 1) + 1 ≡ k = omega arith in
+      rw same at (all (k - 1) (omega arith) (empty (k - 1)))
 
-    -- and those behind it keep it
-    pub slots_are-left : (ps : List (KnownSlot Identity))
-        → ((j : ℕ) → index ≤ j → j < length taken → AtIndex slots ps j)
-        → (j : ℕ) → index + 1 ≤ j → j < length taken → AtIndex (slice_set slots place o) ps j
-    slots_are-left ps before j over within =
-        let apart : taken_slot taken j ≢ place =
-        λ q. let e = l.once j index within lt (q ∙ is) in absurd (omega arith) in
-        rw (in_else slots place (taken_slot taken j) o apart) (before j (omega arith) within)
+  module _ (old new i k : ℕ) (o : Option Subscription) (is : i + 1 ≡ k)
+      (out : IsTakenOut old i new) where
+    -- the slot that is taken out was set, and what the keeper knows of it: the slots outside have
+    -- the fact, and so has this one
+    pub outside-more : (ps qs : List (KnownSlot Identity)) → length slots ≡ 65 → i < 64
+        → OnlyAt ps qs k → P o (slot_at qs k) → Outside P old slots ps
+        → Outside P new (slice_set slots k o) qs
+    outside-more ps qs wide lt only here before j within left =
+        place_cases P slots ps qs k (j + 1) o (omega arith) only here
+        (λ (ne : j + 1 ≢ k). before j within
+        (sym (out.others j (λ (e : j ≡ i). ne (ap (λ n. n + 1) e ∙ is))) ∙ left))
 
--- what all listed slots have, each slot has
-pub slots_are-all : (P : Subscription → KnownSlot Identity → Type 0) (taken : List ℕ)
-    (slots : List (Option Subscription)) (ps : List (KnownSlot Identity)) (index : ℕ)
-    → IsListed taken slots → length taken ≤ index
-    → ((j : ℕ) → j < index → j < length taken
-    → SlotIs P (slot_in slots (taken_slot taken j)) (slot_at ps (taken_slot taken j)))
-    → SlotsAre P slots ps
-slots_are-all P taken slots ps index l most h k pos within =
-    ⊎_elim (λ (none : slot_in slots k ≡ None). rw none tt)
-    (λ (some : IsSome (slot_in slots k)).
-    let i = l.each k pos within some in
-    let lt = i.1 in
-    rw (← i.2) (h i.0 (omega arith) lt))
-    (free_or_taken (slot_in slots k))
+    -- and those that are still in the set keep theirs
+    pub inside-still : (ps : List (KnownSlot Identity)) → Inside P old slots ps
+        → Inside P new (slice_set slots k o) ps
+    inside-still ps before j within left =
+        let apart : j ≢ i = λ (e : j ≡ i). true≢false (sym left ∙ rw e out.gone) in
+        let off : j + 1 ≢ k = omega (arith, apart) in
+        rw (in_else slots k (j + 1) o off) (before j within (sym (out.others j apart) ∙ left))
 
 -- ---- a change
 
 -- it is committed in none yet
 pub partly_committed-first : (keeper : KeeperToken Identity) (slots : List (Option Subscription))
-    (taken : List ℕ) (openings : ℕ) (c : Change)
-    → AllStand keeper slots openings (before_of keeper.book) → IsListed taken slots
-    → AllReady slots (state_of (before_of keeper.book)) c
-    → PartlyCommitted keeper slots taken openings c 0
-partly_committed-first keeper slots taken openings c h l ready =
-    grind arith
+    (taken openings : ℕ) (c : Change) → AllStand keeper slots openings (before_of keeper.book)
+    → MarksTaken taken slots → AllReady slots (state_of (before_of keeper.book)) c
+    → PartlyCommitted keeper slots taken openings c
+partly_committed-first keeper slots taken openings c h marks ready =
+    record {
+      known = h.known;
+      wide = h.wide;
+      outside = outside-first (λ o p. SlotStands o p keeper.book) slots taken keeper.slots marks
+          (λ i lt none. rw none at (h.each (i + 1) (omega arith) (omega arith)));
+      inside = λ i lt _. (
+        h.each (i + 1) (omega arith) (omega arith),
+        ready (i + 1) (omega arith) (omega arith),
+      );
+      asks = h.asks;
+    }
 
 -- it is committed in one slot more
 pub partly_committed-step : (keeper : KeeperToken Identity) (slots : List (Option Subscription))
-    (taken : List ℕ) (openings : ℕ) (c : Change) (committed place : ℕ) (o : Option Subscription)
-    → PartlyCommitted keeper slots taken openings c committed → committed < length taken
-    → place ≡ taken_slot taken committed → SlotStands o (slot_at keeper.slots place) keeper.book
-    → asks_of o (slot_at keeper.slots place)
-    ≤ asks_of (slot_in slots place) (slot_at keeper.slots place)
-    → is_some o ≡ is_some (slot_in slots place)
-    → PartlyCommitted keeper (slice_set slots place o) taken openings c (committed + 1)
-partly_committed-step keeper slots taken openings c committed place o m lt is fits asks kept =
-    let l = m.listed in
-    let low : 0 < place = rw is (l.low committed lt) in
-    let high : place < 65 = rw is (l.high committed lt) in
-    let wide : place < length slots = omega (arith, m.wide) in
-    let some : is_some o ≡ true = kept ∙ rw is (l.some committed lt) in
+    (old new i k openings : ℕ) (c : Change) (o : Option Subscription)
+    → PartlyCommitted keeper slots old openings c → i < 64 → i + 1 ≡ k → IsTakenOut old i new
+    → SlotStands o (slot_at keeper.slots k) keeper.book
+    → asks_of o (slot_at keeper.slots k) ≤ asks_of (slot_in slots k) (slot_at keeper.slots k)
+    → PartlyCommitted keeper (slice_set slots k o) new openings c
+partly_committed-step keeper slots old new i k openings c o m lt is out fits asks =
+    let only = only_self keeper.slots k in
     record {
       known = m.known;
-      wide = length-set slots place o ∙ m.wide;
-      listed = listed-set taken slots place o l m.wide high kept;
-      below = slots_are-more (λ z p. SlotStands z p keeper.book) taken slots l committed place o lt
-          is keeper.slots keeper.slots m.wide (only_self keeper.slots place) fits m.below;
-      from = slots_are-left (λ z p. SlotStands z p (before_of keeper.book)
-          × IsReadyAt z (state_of (before_of keeper.book)) c) taken slots l committed place o lt is
-          keeper.slots m.from;
-      free = λ k pos within. set_cases (λ z. z ≡ None → (slot_at keeper.slots k).out ≡ false) slots
-          place k o wide (λ _ gone. absurd (true≢false (sym some ∙ rw gone)))
-          (λ _. m.free k pos within);
+      wide = length-set slots k o ∙ m.wide;
+      outside = outside-more (λ z p. SlotStands z p keeper.book) slots old new i k o is out
+          keeper.slots keeper.slots m.wide lt only fits m.outside;
+      inside = inside-still (λ z p. SlotStands z p (before_of keeper.book)
+          × IsReadyAt z (state_of (before_of keeper.book)) c) slots old new i k o is out
+          keeper.slots m.inside;
       asks = λ j pos within. place_cases (λ z p. asks_of z p ≤ openings) slots keeper.slots
-          keeper.slots place j o wide (only_self keeper.slots place)
-          (let was = m.asks place low high in omega arith) (λ _. m.asks j pos within);
+          keeper.slots k j o (let wide = m.wide in omega arith) only
+          (let was = m.asks k (omega arith) (omega arith) in omega arith)
+          (λ _. m.asks j pos within);
+    }
+
+-- it is committed in all
+pub partly_committed-last : (keeper : KeeperToken Identity) (slots : List (Option Subscription))
+    (left openings : ℕ) (c : Change) → PartlyCommitted keeper slots left openings c
+    → IsEmpty (has left) → AllStand keeper slots openings keeper.book
+partly_committed-last keeper slots left openings c m empty =
+    record {
+      known = m.known;
+      wide = m.wide;
+      each = outside-all (λ o p. SlotStands o p keeper.book) slots left keeper.slots empty
+          m.outside;
+      asks = m.asks;
     }
 
 -- one that has its mark where its reader asked has it after a commit or puts

@@ -1,6 +1,5 @@
 -- What the lock has of the slots, beside what the keeper knows of them.
-use Rattle.std.specs.Prelude.{◌≡◌, ◌≢◌, ℕ, ◌+◌, ◌<◌, ◌≤◌, ◌-◌, true, false, List, ◌∷◌, [], length, take, drop, Bool, Option, Some, None, IsSome, slice_index, slice_index_or}
-use Rattle.std.specs.List.{remove}
+use Rattle.std.specs.Prelude.{◌≡◌, ◌≢◌, ℕ, ◌+◌, ◌<◌, ◌≤◌, ◌-◌, true, false, List, ◌∷◌, [], length, take, drop, Bool, Option, Some, None, IsSome, is_some, slice_index_or}
 use Rattle.lq_volume.specs.State.{State}
 use Rattle.lq_volume.specs.declared.change.Change.{Change}
 use Rattle.lq_volume.specs.Change.{IsLawful}
@@ -9,6 +8,7 @@ use Rattle.lq_board.specs.declared.token_views.KnownSlot.{KnownSlot}
 use Rattle.lq_board.specs.Book.{IsFullBook}
 use Rattle.lq_board.specs.Slot.{slot_at}
 use Rattle.lq_board.specs.Token.{KeeperToken, SeatToken}
+use Rattle.lq_desk_sub.specs.SlotSet.{has}
 use Rattle.lq_server_slots.specs.declared.identity.Identity.{Identity}
 use Rattle.lq_server_slots.specs.declared.subscription.Subscription.{Subscription}
 use Rattle.lq_server_slots.specs.Marking.{hung_mark}
@@ -56,35 +56,15 @@ pub record AllStand (keeper : KeeperToken Identity) (slots : List (Option Subscr
   pub asks : (k : ℕ) → 0 < k → k < 65
       → asks_of (slot_in slots k) (slot_at keeper.slots k) ≤ openings
 
--- the slot at an index of the list of taken slots
-abbrev pub taken_slot : List ℕ → ℕ → ℕ
-taken_slot taken i = slice_index taken i
+-- the set with this word has just the taken slots; slot k is at its place k - 1
+abbrev pub MarksTaken : ℕ → List (Option Subscription) → Type 0
+MarksTaken word slots = (i : ℕ) → i < 64 → has word i ≡ is_some (slot_in slots (i + 1))
 
--- the list has this slot
-abbrev pub IsSlotIn : List ℕ → ℕ → Type 0
-IsSlotIn taken k = (i : ℕ) × (i < length taken) × (taken_slot taken i ≡ k)
-
--- the list has the taken slots, each once, and no others
-pub record IsListed (taken : List ℕ) (slots : List (Option Subscription)) : Type 0 where
-  pub low : (i : ℕ) → i < length taken → 0 < taken_slot taken i
-  pub high : (i : ℕ) → i < length taken → taken_slot taken i < 65
-  pub once : (i j : ℕ) → i < length taken → j < length taken
-      → taken_slot taken i ≡ taken_slot taken j → i ≡ j
-  pub some : (i : ℕ) → i < length taken → IsSome (slot_in slots (taken_slot taken i))
-  pub each : (k : ℕ) → 0 < k → k < 65 → IsSome (slot_in slots k) → IsSlotIn taken k
-
--- the slot was removed from the list, and the rest keeps its order
-pub record IsDropped (old new : List ℕ) (k : ℕ) : Type 0 where
-  pub index : ℕ
-  pub within : index < length old
-  pub place : taken_slot old index ≡ k
-  pub rest : new ≡ remove old index
-
--- all slots stand over a book, and the list has exactly the taken ones
+-- all slots stand over a book, and the set has just the taken ones
 abbrev pub AreConsistent : ServerSlots → Book → Type 0
 AreConsistent s book =
     AllStand s.keeper s.subscriptions.items s.openings book
-    × IsListed s.taken.items s.subscriptions.items
+    × MarksTaken s.taken.word s.subscriptions.items
 
 -- the keeper's book is lawful, the volume is the state after it, and all slots stand over it
 pub record IsConsistentWith (slots : ServerSlots) (volume : State) : Type 0 where
@@ -114,11 +94,11 @@ abbrev pub SlotsAre :
 SlotsAre P slots known =
     (k : ℕ) → 0 < k → k < 65 → SlotIs P (slot_in slots k) (slot_at known k)
 
--- the keeper, the subscriptions, the taken places and the number of openings stay
+-- the keeper, the subscriptions, the set of the taken slots and the number of openings stay
 pub record AreUnchanged (old new : ServerSlots) : Type 0 where
   pub keeper : new.keeper ≡ old.keeper
   pub subscriptions : new.subscriptions ≡ old.subscriptions
-  pub taken : new.taken.items ≡ old.taken.items
+  pub taken : new.taken ≡ old.taken
   pub openings : new.openings ≡ old.openings
 
 -- only what the keeper knows of the slots may differ, and how many seats have a number
@@ -127,7 +107,7 @@ pub record SameButKnown (old new : ServerSlots) : Type 0 where
   pub counted : new.keeper.register.openings ≡ old.keeper.register.openings
   pub book : new.keeper.book ≡ old.keeper.book
   pub subscriptions : new.subscriptions ≡ old.subscriptions
-  pub taken : new.taken.items ≡ old.taken.items
+  pub taken : new.taken ≡ old.taken
   pub openings : new.openings ≡ old.openings
 
 -- what is known of the other slots stays
@@ -163,6 +143,21 @@ all_taken (Some s ∷ slots) = all_taken slots
 abbrev pub has_no_free : List (Option Subscription) → Bool
 has_no_free slots = all_taken (drop 1 slots)
 
+-- a fact of each slot that isn't in a set, and of each that is
+abbrev pub Outside :
+    (Option Subscription → KnownSlot Identity → Type 0) → ℕ → List (Option Subscription)
+    → List (KnownSlot Identity)
+    → Type 0
+Outside P word slots known =
+    (i : ℕ) → i < 64 → has word i ≡ false → P (slot_in slots (i + 1)) (slot_at known (i + 1))
+
+abbrev pub Inside :
+    (Option Subscription → KnownSlot Identity → Type 0) → ℕ → List (Option Subscription)
+    → List (KnownSlot Identity)
+    → Type 0
+Inside P word slots known =
+    (i : ℕ) → i < 64 → has word i ≡ true → P (slot_in slots (i + 1)) (slot_at known (i + 1))
+
 -- the messages of a change are prepared for the slot
 abbrev pub IsReadyAt : Option Subscription → State → Change → Type 0
 IsReadyAt None s c = Unit {0}
@@ -182,21 +177,14 @@ pub record IsGrown (b : Book) (c : Change) : Type 0 where
   pub lawful : IsLawful (state_of (before_of b)) c
   pub full : IsFullBook b
 
--- the first `committed` of the listed slots stand over the keeper's book, and the others over that
--- book without its last change
+-- the slots of a set, which are taken, stand over the keeper's book without its last change, and
+-- the others over that book
 pub record PartlyCommitted (keeper : KeeperToken Identity) (slots : List (Option Subscription))
-    (taken : List ℕ) (openings : ℕ) (c : Change) (committed : ℕ) : Type 0 where
+    (left : ℕ) (openings : ℕ) (c : Change) : Type 0 where
   pub known : length keeper.slots ≡ 65
   pub wide : length slots ≡ 65
-  pub listed : IsListed taken slots
-  pub below : (j : ℕ) → j < committed → j < length taken
-      → SlotStands (slot_in slots (taken_slot taken j)) (slot_at keeper.slots (taken_slot taken j))
-      keeper.book
-  pub from : (j : ℕ) → committed ≤ j → j < length taken
-      → SlotStands (slot_in slots (taken_slot taken j)) (slot_at keeper.slots (taken_slot taken j))
-      (before_of keeper.book)
-      × IsReadyAt (slot_in slots (taken_slot taken j)) (state_of (before_of keeper.book)) c
-  pub free : (k : ℕ) → 0 < k → k < 65 → slot_in slots k ≡ None
-      → (slot_at keeper.slots k).out ≡ false
+  pub outside : Outside (λ o p. SlotStands o p keeper.book) left slots keeper.slots
+  pub inside : Inside (λ o p. SlotStands o p (before_of keeper.book)
+      × IsReadyAt o (state_of (before_of keeper.book)) c) left slots keeper.slots
   pub asks : (k : ℕ) → 0 < k → k < 65
       → asks_of (slot_in slots k) (slot_at keeper.slots k) ≤ openings

@@ -5,7 +5,7 @@ ghost use Rattle.lq_board.specs.Slot.{slot_at};
 ghost use Rattle.lq_server_slots.specs.declared.identity.FirstClose.TheVariants.{Never};
 ghost use Rattle.lq_server_slots.specs.Marking.{after_close};
 ghost use Rattle.lq_server_slots.specs.Closing.{IsClosed};
-ghost use Rattle.lq_server_slots.specs.Slots.{IsTakenSlot, SlotStands, AreConsistent, IsSlotIn, IsDropped, taken_slot, OnlyAt, asks_of, slot_in};
+ghost use Rattle.lq_server_slots.specs.Slots.{IsTakenSlot, SlotStands, AreConsistent, OnlyAt, asks_of, slot_in};
 ghost use Rattle.lq_server_slots.specs.Opening.{asks_after, name_or};
 
 use crate::identity::Identity;
@@ -13,6 +13,7 @@ use crate::slots::ServerSlots;
 use crate::subscription::{Subscription, close};
 use crate::sync::{meet_slot_at, meet_under, notice_by};
 use lq_board::{Board, Keeper, Seat};
+use lq_desk_sub::SlotIndex;
 
 // Closes a subscription, once the keeper and its seat have met, and gives its seat the name that
 // says so. The notice comes first.
@@ -135,30 +136,6 @@ fn free_at(
     *slot = None;
 }
 
-// The index of a place in the list.
-fn index_of(taken: &[usize], place: usize) -> Option<usize>
-    ensures found { IfSome result (λ i. (i < length taken.now) × (taken_slot taken.now i ≡ place)) }
-    ensures none { IfNone result ((i : ℕ) → i < length taken.now → taken_slot taken.now i ≢ place) }
-{
-    for index in 0..taken.len() {
-        if taken[index] == place {
-            return Some(index);
-        }
-    }
-    None
-}
-
-// Removes a place from the list.
-fn take_out(taken: &mut Vec<usize>, place: usize)
-    requires { IsSlotIn taken.old.items place }
-    ensures { IsDropped taken.old.items taken.new.items place }
-{
-    let Some(index) = index_of(taken, place) else {
-        unreachable!()
-    };
-    taken.remove(index);
-}
-
 /// Takes a slot's seat back and frees the slot. The other slots keep their subscriptions.
 pub fn free_in(
     board: &Board<Identity>,
@@ -191,5 +168,5 @@ pub fn free_in(
         seat,
         hang_up_asked,
     );
-    take_out(&mut slots.taken, place);
+    slots.taken.put(SlotIndex::at(place - 1), false);
 }

@@ -5,7 +5,7 @@
 //! which parcel may follow. A subscription under the lock stands over a book (`IsConsistentAt` of
 //! `specs/Standing`), and the reading end is a `ReadingHold` (`specs/Reading`). Contracts see
 //! `ServerSlots` by its fields: `AreConsistent` (`specs/Slots`) says how far each taken slot has
-//! followed a book, and that the list of the taken places is right. Puts and takes may wait for a
+//! followed a book, and that the set of the taken slots is right. Puts and takes may wait for a
 //! step of a port's other end. Begin with `delivery`, `subscription`, `fill_port` and `reading`,
 //! then `slots` and `change`.
 #![tactic(auto)]

@@ -18,7 +18,7 @@ use crate::reading::Reading;
 use crate::slots::{PLACES, ServerSlots};
 use crate::subscription::Subscription;
 use lq_board::{Board, Keeper, Seat};
-use lq_desk_sub::{MAX_BACKLOG, Sub};
+use lq_desk_sub::{MAX_BACKLOG, SlotIndex, Sub};
 use lq_port::{MAX_PLACES, make};
 use lq_predicate::Predicate;
 use lq_update::{Rebuild, results_rise};
@@ -136,15 +136,14 @@ fn sit(
     board.slot_seat(keeper, place)
 }
 
-// Puts a subscription into a free place, and gives out the seat of the place. Everything that takes
-// memory comes first, so that the slots stay as they were where memory runs out.
+// Puts a subscription into a free place, and gives out the seat of the place.
 fn settle(
     board: &Board<Identity>,
     slots: &mut ServerSlots,
     place: usize,
     mut slot: Subscription,
     reading: Reading,
-) -> Result<Opened, Refusal>
+) -> Opened
     requires board { slots.old.keeper.board ≡ board.now }
     requires place { (0 < place) × (place < 65) }
     requires free { slot_in slots.old.subscriptions.items place ≡ None }
@@ -152,32 +151,28 @@ fn settle(
     requires begun { IsNewSubscription slot reading slots.old.keeper.book slot.sub.held.query
         slot.sub.held.moved slot.places slot.sub.held.backlog }
     requires holding { AreConsistent slots.old slots.old.keeper.book }
-    ensures refused { FailsOnlyForMemory result }
-    ensures err { OnErr result (AreUnchanged slots.old slots.new) }
     ensures board { slots.new.keeper.board ≡ slots.old.keeper.board }
-    ensures counted { OnOk result (slots.new.keeper.register.openings
-        ≡ slots.old.keeper.register.openings + 1) }
+    ensures counted { slots.new.keeper.register.openings
+        ≡ slots.old.keeper.register.openings + 1 }
     ensures book { slots.new.keeper.book ≡ slots.old.keeper.book }
-    ensures openings { OnOk result (slots.new.openings ≡ slots.old.openings + 1) }
+    ensures openings { slots.new.openings ≡ slots.old.openings + 1 }
     ensures holding { AreConsistent slots.new slots.new.keeper.book }
-    ensures slot { IfOk result (λ o. o.slot ≡ place) }
-    ensures reading { IfOk result (λ o. o.reading ≡ reading) }
-    ensures opened { IfOk result (λ o. IsOpened o slots.old.keeper.board slots.old.keeper.book
-        slot.sub.held.query slot.sub.held.moved slot.places slot.sub.held.backlog) }
+    ensures slot { result.slot ≡ place }
+    ensures reading { result.reading ≡ reading }
+    ensures opened { IsOpened result slots.old.keeper.board slots.old.keeper.book
+        slot.sub.held.query slot.sub.held.moved slot.places slot.sub.held.backlog }
 {
-    // There has been room for all places since the start, so this takes no memory.
-    slots.taken.reserve(1)?;
-    slots.taken.push_reserved(place);
+    slots.taken.put(SlotIndex::at(place - 1), true);
     let asks = board.asks(&mut slots.keeper, place as u64);
     slot.asks = asks;
     let seat = sit(board, &mut slots.keeper, &slot, place as u64);
     slots.subscriptions[place] = Some(slot);
     slots.openings += 1;
-    Ok(Opened {
+    Opened {
         reading,
         seat,
         slot: place as u64,
-    })
+    }
 }
 
 /// Opens a live query in the lowest free slot.
@@ -226,5 +221,5 @@ pub fn open_in(
         return Err(Refusal::Exhausted);
     }
     let (slot, reading) = begin(alloc, &slots.keeper, volume, request)?;
-    settle(board, slots, place, slot, reading)
+    Ok(settle(board, slots, place, slot, reading))
 }

@@ -73,8 +73,9 @@ pub(crate) fn ready_all(
     ensures noticed { OnOk result
         (SlotsAre IsNoticed slots.new.subscriptions.items slots.new.keeper.slots) }
 {
-    for index in 0..slots.taken.len() {
-        let place = slots.taken[index];
+    let mut rest = slots.taken;
+    while let Some(index) = rest.take_one() {
+        let place = index.place() + 1;
         let keeper = &mut slots.keeper;
         ready_at(
             board,
@@ -128,8 +129,9 @@ pub(crate) fn commit_all<R: Wait>(rt: &R, slots: &mut ServerSlots, change: &Chan
     ensures holding { AreConsistent slots.new slots.new.keeper.book }
     ensures served { SlotsAre IsServed slots.new.subscriptions.items slots.new.keeper.slots }
 {
-    for index in 0..slots.taken.len() {
-        let place = slots.taken[index];
+    let mut rest = slots.taken;
+    while let Some(index) = rest.take_one() {
+        let place = index.place() + 1;
         commit_at(
             rt,
             &slots.keeper,

@@ -9,6 +9,7 @@ use crate::fill_port::fill;
 use crate::identity::Identity;
 use crate::subscription::{Subscription, notice};
 use lq_board::{Board, Keeper};
+use lq_desk_sub::SlotSet;
 use lq_value::Refusal;
 use std::alloc::Global;
 use std::sync::Wait;
@@ -16,13 +17,13 @@ use std::sync::Wait;
 /// The number of places: 64 slots, and an unused place before them.
 pub(crate) const PLACES: usize = 65;
 
-/// The subscriptions in the slots, what the keeper knows of the slots, the places of the taken
-/// ones, and the number of openings so far.
+/// The subscriptions in the slots, what the keeper knows of the slots, the set of the taken ones,
+/// and the number of openings so far.
 #[derive(Drop)]
 pub struct ServerSlots {
     pub keeper: Keeper<Identity>,
     pub subscriptions: Vec<Option<Subscription>>,
-    pub taken: Vec<usize>,
+    pub taken: SlotSet,
     pub openings: u64,
 }
 
@@ -38,11 +39,10 @@ impl ServerSlots {
         ensures holding { IfOk result (λ slots. AreConsistent slots keeper.book) }
     {
         let subscriptions = free(alloc)?;
-        let taken = Vec::with_capacity(alloc, PLACES)?;
         Ok(ServerSlots {
             keeper,
             subscriptions,
-            taken,
+            taken: SlotSet::empty(),
             openings: 0,
         })
     }
@@ -142,8 +142,9 @@ pub(crate) fn serve_all<R: Wait>(
     ensures holding { AreConsistent slots.new slots.new.keeper.book }
     ensures served { SlotsAre IsServed slots.new.subscriptions.items slots.new.keeper.slots }
 {
-    for index in 0..slots.taken.len() {
-        let place = slots.taken[index];
+    let mut rest = slots.taken;
+    while let Some(index) = rest.take_one() {
+        let place = index.place() + 1;
         let keeper = &mut slots.keeper;
         serve_at(
             rt,

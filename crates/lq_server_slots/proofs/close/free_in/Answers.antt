@@ -1,7 +1,7 @@
 use Rattle.std.proofs.Common.{None, sym, arith, rules}
 use Rattle.std.proofs.lemmas.List.{get_or_read}
 use Rattle.lq_server_slots.proofs.SlotLemmas.{all_stand-step, in_here, in_else}
-use Rattle.lq_server_slots.proofs.TakenLemmas.{listed-drop}
+use Rattle.lq_server_slots.proofs.TakenLemmas.{marks-put}
 use Rattle.lq_server_slots.proofs.close.free_in.Goals as goal
 
 pub returns-clause-holding : goal.returns-clause-holding
@@ -21,8 +21,9 @@ returns-clause-holding c =
           (omega (arith, low, value)) within (sym value) f.book f.only (rw f.free f.back)
           (rw f.free (rw read at f.asks)),
       rw f.free
-          (listed-drop was.taken.items c.take_out.new.taken.items items place c.requires.holding.1
-          wide c.take_out.ensures),
+          (marks-put was.taken.word c.put.new.self.word items c.at.result.place place None
+          c.requires.holding.1 wide c.at.result.within (omega (arith, c.at.ensures, low, value))
+          c.put.ensures.here c.put.ensures.others),
     )
 
 pub returns-clause-freed : goal.returns-clause-freed

@@ -1,9 +1,9 @@
-use Rattle.std.proofs.Common.{◌+◌, refl, sym, ap, ◌∙◌, subst, slice_set, Some}
+use Rattle.std.proofs.Common.{◌+◌, refl, sym, ap, ◌∙◌, subst, arith, slice_set, Some}
 use Rattle.lq_board.specs.Token.{KeeperToken}
 use Rattle.lq_server_slots.specs.declared.identity.Identity.{Identity}
 use Rattle.lq_server_slots.specs.declared.subscription.Subscription.{Subscription}
 use Rattle.lq_server_slots.specs.Slots.{AllStand}
-use Rattle.lq_server_slots.proofs.TakenLemmas.{listed-add}
+use Rattle.lq_server_slots.proofs.TakenLemmas.{marks-put}
 use Rattle.lq_server_slots.proofs.OpenLemmas.{settled, begun_seen}
 use Rattle.lq_server_slots.proofs.open.settle.Goals as goal
 
@@ -31,7 +31,7 @@ returns-clause-holding c =
           (ap (λ (k : KeeperToken Identity). k.slots) keeper) c.asks-asks.ensures.idle
           c.sit-seat.ensures.slots refl b.stands
           (begun_seen c.args.slot c.args.reading was.keeper.book _ _ _ _ b) b.messages b.live),
-      rw (c.push_reserved.ensures.items, c.in_ok-reserve.ensures.items)
-          (listed-add was.taken.items was.subscriptions.items place s c.requires.holding.1 h.wide
-          c.requires.place.0 c.requires.place.1 c.requires.free),
+      marks-put was.taken.word c.put.new.self.word was.subscriptions.items c.at.result.place place
+          (Some s) c.requires.holding.1 h.wide c.at.result.within
+          (omega (arith, c.at.ensures, c.requires.place.0)) c.put.ensures.here c.put.ensures.others,
     )

@@ -1,16 +1,16 @@
-use Rattle.std.proofs.Common.{◌≡◌, ℕ, ◌<◌, length}
-use Rattle.lq_board.specs.Slot.{slot_at}
-use Rattle.lq_server_slots.specs.Slots.{AreConsistent, SlotIs, IsServed, slot_in, taken_slot}
+use Rattle.std.proofs.Common.{◌≡◌}
+use Rattle.lq_server_slots.specs.Slots.{AreConsistent, Outside, SlotIs, IsServed}
 use Rattle.lq_server_slots.proofs.slots.serve_all.Given as goal
 
 abbrev pub invariant-loop-index : goal.invariant-loop-index
-invariant-loop-index g l =
-    (l.slots.keeper.board ≡ l.fn.slots.keeper.board)
-    × (l.slots.keeper.book ≡ l.fn.slots.keeper.book)
-    × (l.slots.openings ≡ l.fn.slots.openings)
-    × (length l.slots.taken.items ≡ l.index-end)
-    × AreConsistent l.slots l.slots.keeper.book
-    × ((j : ℕ) → j < l.index → j < length l.slots.taken.items
-    → SlotIs IsServed (slot_in l.slots.subscriptions.items (taken_slot l.slots.taken.items j))
-    (slot_at l.slots.keeper.slots (taken_slot l.slots.taken.items j)))
-    × (l.slots.keeper.register.openings ≡ l.fn.slots.keeper.register.openings)
+invariant-loop-index g l = record {
+  board : l.slots.keeper.board ≡ l.fn.slots.keeper.board;
+  counted : l.slots.keeper.register.openings ≡ l.fn.slots.keeper.register.openings;
+  book : l.slots.keeper.book ≡ l.fn.slots.keeper.book;
+  openings : l.slots.openings ≡ l.fn.slots.openings;
+  holding : AreConsistent l.slots l.slots.keeper.book;
+  served : Outside (SlotIs IsServed) l.rest.word l.slots.subscriptions.items l.slots.keeper.slots;
+}
+
+abbrev pub decreases-loop-index : goal.decreases-loop-index
+decreases-loop-index g l = l.rest.word

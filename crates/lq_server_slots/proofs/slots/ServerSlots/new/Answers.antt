@@ -1,5 +1,5 @@
 use Rattle.lq_server_slots.proofs.SlotLemmas.{all_stand-none}
-use Rattle.lq_server_slots.proofs.TakenLemmas.{listed-none}
+use Rattle.lq_server_slots.proofs.TakenLemmas.{marks-none}
 use Rattle.lq_server_slots.proofs.slots.ServerSlots.new.Goals as goal
 
 -- src/slots.rt:33:5
@@ -8,6 +8,6 @@ returns-clause-holding c =
     let f = c.in_ok-subscriptions.ensures in (
       all_stand-none c.args.keeper c.in_ok-subscriptions.subscriptions.items c.args.keeper.book
           c.requires.unused f.wide f.none,
-      listed-none c.in_ok-taken.taken.items c.in_ok-subscriptions.subscriptions.items
-          c.in_ok-taken.ensures.items f.none,
+      marks-none c.empty.result.word c.in_ok-subscriptions.subscriptions.items c.empty.ensures
+          f.none,
     )
