@@ -1,14 +1,29 @@
 //! Of lq_desk: the core, event by event and by a list of them.
-use crate::changes::create;
+use crate::changes::{FILE, change};
 use lq_desk::{Desk, Event, Read, Reply};
 use lq_predicate::read;
 use lq_update::Cause;
 use lq_value::Refusal;
 use lq_volume::Volume;
 use std::alloc::Global;
-use std::test::Fail;
 
-// `name=*` is opened, with one place and a backlog of 1.
+/// An event by plain values.
+enum Ask {
+    /// A port. `name=*` is opened, with a backlog of 1.
+    Open(u64),
+    /// A file `a` comes into the root.
+    Create,
+    /// A slot, as each of the others.
+    Put(u64),
+    Take(u64),
+    Close(u64),
+    Finish(u64),
+}
+
+/// An event and its reply, with the reply's numbers.
+type Row = (Ask, &'static str, (u64, u64));
+
+// `name=*` is opened, with this port and a backlog of 1.
 fn open(alloc: Global, port: u64) -> Result<Event, Refusal> {
     Ok(Event::Open {
         predicate: read(alloc, "name=*")?,
@@ -16,6 +31,18 @@ fn open(alloc: Global, port: u64) -> Result<Event, Refusal> {
         backlog: 1,
         moved: false,
     })
+}
+
+// The event itself.
+fn event(alloc: Global, ask: &Ask) -> Result<Event, Refusal> {
+    match ask {
+        Ask::Open(port) => open(alloc, *port),
+        Ask::Create => Ok(Event::Change(change(alloc, &FILE)?)),
+        Ask::Put(slot) => Ok(Event::Put(*slot)),
+        Ask::Take(slot) => Ok(Event::Take(*slot)),
+        Ask::Close(slot) => Ok(Event::Close(*slot)),
+        Ask::Finish(slot) => Ok(Event::Finish(*slot)),
+    }
 }
 
 // Whether this is the reply, with its numbers.
@@ -42,67 +69,73 @@ fn is_reply(reply: &Reply, wanted: &str, numbers: (u64, u64)) -> bool {
 }
 
 // Whether a desk answers an event with this reply.
-fn does(desk: &mut Desk, event: Event, wanted: &str, numbers: (u64, u64)) -> bool {
-    let reply = desk.event(&event);
-    is_reply(&reply, wanted, numbers)
+fn does(alloc: Global, desk: &mut Desk, (ask, wanted, numbers): &Row) -> bool {
+    let Ok(event) = event(alloc, ask) else {
+        return false;
+    };
+    is_reply(&desk.event(&event), wanted, *numbers)
 }
 
-// A desk where `name=*` is opened in slot 1.
-fn opened(alloc: Global) -> Result<Desk, Refusal> {
-    let mut desk = Desk::new(alloc, Volume::new(alloc, 9))?;
-    if does(&mut desk, open(alloc, 1)?, "Opened", (1, 0)) {
-        Ok(desk)
-    } else {
-        Err(Refusal::Mismatch)
+// Whether it does so for each of these events, in turn.
+fn does_all(alloc: Global, desk: &mut Desk, rows: &[Row]) -> bool {
+    for row in rows {
+        if !does(alloc, desk, row) {
+            return false;
+        }
     }
+    true
 }
 
+// A desk whose volume has the root alone.
+fn new_desk(alloc: Global) -> Result<Desk, Refusal> {
+    Desk::new(alloc, Volume::new(alloc, 9))
+}
+
+static OPENED: [Row; 2] = [
+    (Ask::Open(1025), "BadPort", (0, 0)),
+    (Ask::Open(1), "Opened", (1, 0)),
+];
+
 #[test]
-fn a_query_is_opened(rt: HostRuntime) -> Result<(), Fail> {
-    let mut desk = Desk::new(rt.alloc(), Volume::new(rt.alloc(), 9))?;
-    assert!(rt; does(&mut desk, open(rt.alloc(), 1025)?, "BadPort", (0, 0)));
-    assert!(rt; does(&mut desk, open(rt.alloc(), 1)?, "Opened", (1, 0)));
+fn a_query_is_opened(rt: HostRuntime) {
+    let mut desk = new_desk(rt.alloc()).expect(&rt, "a desk");
+    assert!(rt; does_all(rt.alloc(), &mut desk, &OPENED));
     assert!(rt; desk.volume().changes() == 0);
-    Ok(())
 }
 
-#[test]
-fn a_change_is_put_and_taken(rt: HostRuntime) -> Result<(), Fail> {
-    let mut desk = opened(rt.alloc())?;
-    let change = Event::Change(create(rt.alloc(), "a")?);
-    let is_made = does(&mut desk, change, "Changed", (1, 2));
-    let is_empty = does(&mut desk, Event::Take(1), "Empty", (0, 0));
-    let is_put = does(&mut desk, Event::Put(1), "Moved", (0, 0));
-    let is_taken = does(&mut desk, Event::Take(1), "Update", (1, 1));
-    assert!(rt; is_made && is_empty && is_put && is_taken);
-    Ok(())
-}
+static PUT_AND_TAKEN: [Row; 5] = [
+    (Ask::Open(1), "Opened", (1, 0)),
+    (Ask::Create, "Changed", (1, 2)),
+    (Ask::Take(1), "Empty", (0, 0)),
+    (Ask::Put(1), "Moved", (0, 0)),
+    (Ask::Take(1), "Update", (1, 1)),
+];
 
 #[test]
-fn a_subscription_is_closed_and_finished(rt: HostRuntime) -> Result<(), Fail> {
-    let mut desk = opened(rt.alloc())?;
-    let is_shut = does(&mut desk, Event::Close(1), "Shut", (0, 0));
-    let is_open = does(&mut desk, Event::Finish(1), "StillOpen", (0, 0));
-    let is_put = does(&mut desk, Event::Put(1), "Moved", (0, 0));
-    assert!(rt; is_shut && is_open && is_put);
-    let is_closed = does(&mut desk, Event::Take(1), "Closed", (1, 0));
-    let has_ended = does(&mut desk, Event::Take(1), "Ended", (0, 0));
-    let is_finished = does(&mut desk, Event::Finish(1), "Finished", (0, 0));
-    assert!(rt; is_closed && has_ended && is_finished);
-    Ok(())
+fn a_change_is_put_and_taken(rt: HostRuntime) {
+    let mut desk = new_desk(rt.alloc()).expect(&rt, "a desk");
+    assert!(rt; does_all(rt.alloc(), &mut desk, &PUT_AND_TAKEN));
 }
 
+static CLOSED_AND_FINISHED: [Row; 7] = [
+    (Ask::Open(1), "Opened", (1, 0)),
+    (Ask::Close(1), "Shut", (0, 0)),
+    (Ask::Finish(1), "StillOpen", (0, 0)),
+    (Ask::Put(1), "Moved", (0, 0)),
+    (Ask::Take(1), "Closed", (1, 0)),
+    (Ask::Take(1), "Ended", (0, 0)),
+    (Ask::Finish(1), "Finished", (0, 0)),
+];
+
 #[test]
-fn events_are_run_as_a_list(rt: HostRuntime) -> Result<(), Fail> {
-    let mut desk = opened(rt.alloc())?;
-    let events = [
-        Event::Notice(1),
-        Event::HangUp(1),
-        Event::Notice(1),
-        Event::Put(2),
-    ];
-    let replies = desk.run(&events)?;
-    let is_right = match replies.as_slice() {
+fn a_subscription_is_closed_and_finished(rt: HostRuntime) {
+    let mut desk = new_desk(rt.alloc()).expect(&rt, "a desk");
+    assert!(rt; does_all(rt.alloc(), &mut desk, &CLOSED_AND_FINISHED));
+}
+
+// Whether these are the replies to the events below.
+fn are_replies(replies: &[Reply]) -> bool {
+    match replies {
         [one, two, three, four] => {
             is_reply(one, "Unasked", (0, 0))
                 && is_reply(two, "Asked", (0, 0))
@@ -110,7 +143,26 @@ fn events_are_run_as_a_list(rt: HostRuntime) -> Result<(), Fail> {
                 && is_reply(four, "NotOpen", (0, 0))
         }
         _ => false,
-    };
-    assert!(rt; is_right);
-    Ok(())
+    }
+}
+
+// Whether a desk runs four events as a list: slot 1 is open, and slot 2 isn't.
+fn runs_all(desk: &mut Desk) -> bool {
+    let events = [
+        Event::Notice(1),
+        Event::HangUp(1),
+        Event::Notice(1),
+        Event::Put(2),
+    ];
+    match desk.run(&events) {
+        Ok(replies) => are_replies(&replies),
+        Err(_) => false,
+    }
+}
+
+#[test]
+fn events_are_run_as_a_list(rt: HostRuntime) {
+    let mut desk = new_desk(rt.alloc()).expect(&rt, "a desk");
+    assert!(rt; does_all(rt.alloc(), &mut desk, &OPENED));
+    assert!(rt; runs_all(&mut desk));
 }

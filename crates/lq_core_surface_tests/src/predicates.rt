@@ -15,19 +15,25 @@ fn rewritten(alloc: Global, formula: &str) -> Result<String, Refusal> {
     write(alloc, &copy)
 }
 
+// Whether that is this text.
+fn is_rewritten(alloc: Global, formula: &str, text: &str) -> bool {
+    match rewritten(alloc, formula) {
+        Ok(written) => written.as_str() == text,
+        Err(_) => false,
+    }
+}
+
 #[test]
-fn a_formula_is_read_copied_and_written(rt: HostRuntime) -> Result<(), Fail> {
-    let text = rewritten(rt.alloc(), "b=1&&!(a>2||b=3)")?;
-    assert!(rt; text.as_str() == "((b==\"1\")&&!((a>\"2\")||(b==\"3\")))");
-    Ok(())
+fn a_formula_is_read_copied_and_written(rt: HostRuntime) {
+    let text = "((b==\"1\")&&!((a>\"2\")||(b==\"3\")))";
+    assert!(rt; is_rewritten(rt.alloc(), "b=1&&!(a>2||b=3)", text));
 }
 
 // Of the scenario `formula-texts`, the last one.
 #[test]
-fn scenario_formula_texts(rt: HostRuntime) -> Result<(), Fail> {
-    let text = rewritten(rt.alloc(), "a=1||b=2&&!c=3")?;
-    assert!(rt; text.as_str() == "((a==\"1\")||((b==\"2\")&&!(c==\"3\")))");
-    Ok(())
+fn scenario_formula_texts(rt: HostRuntime) {
+    let text = "((a==\"1\")||((b==\"2\")&&!(c==\"3\")))";
+    assert!(rt; is_rewritten(rt.alloc(), "a=1||b=2&&!c=3", text));
 }
 
 // Whether an answer is the refusal of a formula, at this place.
@@ -36,9 +42,8 @@ fn is_refused_at<T: Drop>(answer: Result<T, Refusal>, place: u64) -> bool {
 }
 
 #[test]
-fn a_formula_is_refused_at_its_fault(rt: HostRuntime) -> Result<(), Fail> {
+fn a_formula_is_refused_at_its_fault(rt: HostRuntime) {
     assert!(rt; is_refused_at(read(rt.alloc(), "size>"), 5));
-    Ok(())
 }
 
 // Whether these are the names `b` and `a`.
@@ -49,12 +54,16 @@ fn are_b_and_a(attrs: &[AttrName]) -> bool {
     }
 }
 
+// The names of a formula.
+fn named(alloc: Global, formula: &str) -> Result<Vec<AttrName>, Refusal> {
+    let predicate = read(alloc, formula)?;
+    names(alloc, &predicate)
+}
+
 #[test]
-fn each_attribute_is_named_once(rt: HostRuntime) -> Result<(), Fail> {
-    let predicate = read(rt.alloc(), "b=1&&!(a>2||b=3)")?;
-    let attrs = names(rt.alloc(), &predicate)?;
+fn each_attribute_is_named_once(rt: HostRuntime) {
+    let attrs = named(rt.alloc(), "b=1&&!(a>2||b=3)").expect(&rt, "names");
     assert!(rt; are_b_and_a(&attrs));
-    Ok(())
 }
 
 // A row that shows one number under every name.
@@ -70,11 +79,10 @@ impl Row for Same {
 }
 
 #[test]
-fn a_predicate_holds_of_a_row(rt: HostRuntime) -> Result<(), Fail> {
-    let predicate = read(rt.alloc(), "a>9&&b=1*||c!=10")?;
+fn a_predicate_holds_of_a_row(rt: HostRuntime) {
+    let predicate = read(rt.alloc(), "a>9&&b=1*||c!=10").expect(&rt, "a predicate");
     assert!(rt; holds(&predicate, &Same(11)));
     assert!(rt; !holds(&predicate, &Same(10)));
-    Ok(())
 }
 
 // `a` compared with a text as it stands.
@@ -91,52 +99,68 @@ fn matched(alloc: Global, op: Op, source: &str) -> Result<Option<Predicate>, Ref
     Ok(Predicate::compare(alloc, attr, op, literal))
 }
 
+// Whether a predicate has this canonical text.
+fn is_text_of(alloc: Global, predicate: &Predicate, text: &str) -> bool {
+    match write(alloc, predicate) {
+        Ok(written) => written.as_str() == text,
+        Err(_) => false,
+    }
+}
+
 // Whether there is a predicate with this canonical text.
-fn is_written(alloc: Global, made: Option<Predicate>, text: &str) -> Result<bool, Refusal> {
+fn is_written(alloc: Global, made: Result<Option<Predicate>, Refusal>, text: &str) -> bool {
     match made {
-        None => Ok(false),
-        Some(predicate) => Ok(write(alloc, &predicate)?.as_str() == text),
+        Ok(Some(predicate)) => is_text_of(alloc, &predicate, text),
+        _ => false,
+    }
+}
+
+// Whether there is no predicate, and no refusal either.
+fn is_none(made: Result<Option<Predicate>, Refusal>) -> bool {
+    matches!(&made, Ok(None))
+}
+
+#[test]
+fn a_comparison_is_made_of_its_parts(rt: HostRuntime) {
+    let alloc = rt.alloc();
+    assert!(rt; is_written(alloc, ordered(alloc, Op::Ge, "-2"), "(a>=\"-2\")"));
+    let set = matched(alloc, Op::Ne, "x[^a-c]*");
+    assert!(rt; is_written(alloc, set, "(b!=\"x[^a-c]*\")"));
+    assert!(rt; is_none(ordered(alloc, Op::Eq, "x")));
+    assert!(rt; is_none(matched(alloc, Op::Le, "x")));
+}
+
+// Whether `a` compared with these bytes is a predicate, or none where it isn't wanted.
+fn is_compared(alloc: Global, bytes: &[u8], is_wanted: bool) -> bool {
+    let Ok(text) = str::from_utf8(bytes) else {
+        return false;
+    };
+    match ordered(alloc, Op::Lt, text) {
+        Ok(made) => made.is_some() == is_wanted,
+        Err(_) => false,
     }
 }
 
 #[test]
-fn a_comparison_is_made_of_its_parts(rt: HostRuntime) -> Result<(), Fail> {
-    let alloc = rt.alloc();
-    assert!(rt; is_written(alloc, ordered(alloc, Op::Ge, "-2")?, "(a>=\"-2\")")?);
-    let set = matched(alloc, Op::Ne, "x[^a-c]*")?;
-    assert!(rt; is_written(alloc, set, "(b!=\"x[^a-c]*\")")?);
-    assert!(rt; ordered(alloc, Op::Eq, "x")?.is_none());
-    assert!(rt; matched(alloc, Op::Le, "x")?.is_none());
-    Ok(())
-}
-
-#[test]
-fn a_comparison_has_at_most_4096_bytes(rt: HostRuntime) -> Result<(), Fail> {
+fn a_comparison_has_at_most_4096_bytes(rt: HostRuntime) {
     // The canonical text has six bytes beside these: (a<"..")
-    let bytes = [b'x'; 4_091];
-    let long = str::from_utf8(&bytes)?;
-    assert!(rt; ordered(rt.alloc(), Op::Lt, long)?.is_none());
-    let bytes = [b'x'; 4_090];
-    let fits = str::from_utf8(&bytes)?;
-    assert!(rt; ordered(rt.alloc(), Op::Lt, fits)?.is_some());
-    Ok(())
+    assert!(rt; is_compared(rt.alloc(), &[b'x'; 4_091], false));
+    assert!(rt; is_compared(rt.alloc(), &[b'x'; 4_090], true));
 }
 
 // Whether `Not`, `And` and `Or` of two predicates have the texts of the specification.
-fn are_joined(alloc: Global, one: &Predicate, two: &Predicate) -> Result<bool, Refusal> {
-    Ok(
-        is_written(alloc, one.not()?, "!(a<\"2\")")?
-            && is_written(alloc, one.both(two)?, "((a<\"2\")&&(b==\"x*\"))")?
-            && is_written(alloc, two.either(one)?, "((b==\"x*\")||(a<\"2\"))")?,
-    )
+fn are_joined(alloc: Global, one: &Predicate, two: &Predicate) -> bool {
+    is_written(alloc, one.not(), "!(a<\"2\")")
+        && is_written(alloc, one.both(two), "((a<\"2\")&&(b==\"x*\"))")
+        && is_written(alloc, two.either(one), "((b==\"x*\")||(a<\"2\"))")
 }
 
 #[test]
 fn predicates_are_made_of_others(rt: HostRuntime) -> Result<(), Fail> {
     let alloc = rt.alloc();
-    match (ordered(alloc, Op::Lt, "2")?, matched(alloc, Op::Eq, "x*")?) {
-        (Some(one), Some(two)) => {
-            assert!(rt; are_joined(alloc, &one, &two)?);
+    match (ordered(alloc, Op::Lt, "2"), matched(alloc, Op::Eq, "x*")) {
+        (Ok(Some(one)), Ok(Some(two))) => {
+            assert!(rt; are_joined(alloc, &one, &two));
             Ok(())
         }
         _ => Err(Fail::from("a comparison")),
@@ -177,22 +201,34 @@ const COMPARISONS: [(u64, StackOp, &str); 9] = [
     (5, StackOp::Ge, "(a>=\"5\")"),
 ];
 
+// Whether that comparison has this text.
+fn is_pushed(alloc: Global, number: u64, op: StackOp, text: &str) -> bool {
+    match compared(alloc, number, op) {
+        Ok(written) => written.as_str() == text,
+        Err(_) => false,
+    }
+}
+
 #[test]
 fn each_value_is_pushed(rt: HostRuntime) -> Result<(), Fail> {
     for (number, op, text) in &COMPARISONS {
-        if compared(rt.alloc(), *number, *op)?.as_str() != *text {
+        if !is_pushed(rt.alloc(), *number, *op, text) {
             return Err(Fail::from(*text));
         }
     }
     Ok(())
 }
 
+// Whether a new stack refuses what does not fit.
+fn is_refusing(stack: &mut Stack) -> bool {
+    is_refused_at(stack.finish(), 0)
+        && is_refused_at(stack.push_attr(""), 0)
+        && stack.push_attr("a").is_ok()
+        && is_refused_at(stack.push_op(StackOp::Not), 1)
+}
+
 #[test]
-fn a_push_that_does_not_fit_is_refused(rt: HostRuntime) -> Result<(), Fail> {
+fn a_push_that_does_not_fit_is_refused(rt: HostRuntime) {
     let mut stack = Stack::new(rt.alloc());
-    assert!(rt; is_refused_at(stack.finish(), 0));
-    assert!(rt; is_refused_at(stack.push_attr(""), 0));
-    stack.push_attr("a")?;
-    assert!(rt; is_refused_at(stack.push_op(StackOp::Not), 1));
-    Ok(())
+    assert!(rt; is_refusing(&mut stack));
 }
