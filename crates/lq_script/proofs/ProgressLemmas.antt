@@ -473,11 +473,6 @@ tells_fault Memory answer a b written first h closed =
     tells_memory answer a b written first h closed
 tells_fault Thread answer a b written first h closed = absurd h.stops
 
--- the seat stayed after that
-pub told_by : (r : Result (Unit {0}) RunFault) (old b seat : OwnToken) (w w' : Option (List ℕ))
-    → seat ≡ b → TellsMade r old b w w' → TellsMade r old seat w w'
-told_by r old b seat w w' is h = subst (λ (s : OwnToken). TellsMade r old s w w') (sym is) h
-
 -- a run that never began, for want of memory
 pub tells_never : (s : OwnToken) (e : RunFault) (written written' : Option (List ℕ)) → e ≡ Memory
     → Keeps written written' → TellsMade (Err e) s s written written'

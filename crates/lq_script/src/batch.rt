@@ -97,10 +97,15 @@ pub fn read_beside<
     sends::<Read>();
     let mut batch = workers.do_all(batch)?;
     let told = put_replies(&mut batch, slots, out);
+    put_back(batch, readers);
+    told
+}
+
+// Puts the readers of a batch back in their places.
+fn put_back<N: Named, G>(batch: Vec<SlotReads<'_, N, G>>, readers: &mut Readers<N>) {
     for reads in batch {
         readers.put(reads.reader);
     }
-    told
 }
 
 // The bound, as a fact.

@@ -17,6 +17,7 @@ mod canonical_text;
 mod commands;
 mod gate;
 mod lines;
+mod output;
 mod readers;
 mod runner;
 mod server_session;

@@ -60,8 +60,8 @@ impl<
         }
     }
 
-    /// Its seat.
-    pub fn into_seat(self) -> OwnSeat<N>
+    /// Ends the threads of all slots; its seat.
+    pub fn end(self) -> OwnSeat<N>
         ensures seat { result ≡ self.entry.seat }
     {
         let ServerSession {
@@ -71,8 +71,9 @@ impl<
             gate: _,
             seat,
             readers: _,
-            workers: _,
+            mut workers,
         } = self;
+        workers.end_all();
         seat
     }
 
@@ -99,13 +100,6 @@ impl<
             return Err(Refusal::NoMemory);
         }
         Ok(())
-    }
-
-    /// Ends the threads of all slots; the session is then of no more use.
-    pub fn end_threads(&mut self)
-        ensures seat { self.new.seat ≡ self.old.seat }
-    {
-        self.workers.end_all();
     }
 
     /// The answer to a question that is no read. Refused as the question is; after `NoMemory` the

@@ -183,8 +183,7 @@ fn serve_in<
     let session = ServerSession::new(rt, alloc, seat, server, gate, readers, workers);
     let mut runner = Runner::new(alloc, session, writer);
     let ran = carry_all(rt, alloc, reader, &mut runner);
-    runner.end_threads();
-    let (seat, writer) = runner.into_parts();
+    let (seat, writer) = runner.end();
     EndedRun { ran, seat, writer }
 }
 
@@ -214,23 +213,24 @@ fn carry_all<
     reader: &mut R,
     runner: &mut Runner<'s, 'w, E, N, T, G, W>,
 ) -> Result<(), RunFault>
-    requires empty { runner.old.replies.items ≡ [] }
-    ensures same { runner.new.writer.ghost_name ≡ runner.old.writer.ghost_name }
+    requires empty { runner.old.output.replies.items ≡ [] }
+    ensures same { runner.new.output.writer.ghost_name ≡ runner.old.output.writer.ghost_name }
     ensures made { TellsMade result runner.old.session.seat runner.new.session.seat
-        (W.written runner.old.writer.now) (W.written runner.new.writer.now) }
+        (W.written runner.old.output.writer.now) (W.written runner.new.output.writer.now) }
     ensures cause { IfErr result (λ e. e ≡ RunFault.Write →
-        (W.failed runner.new.writer.now ≡ true) ⊎ (W.stalled runner.new.writer.now ≡ true)) }
+        (W.failed runner.new.output.writer.now ≡ true)
+        ⊎ (W.stalled runner.new.output.writer.now ≡ true)) }
 {
     let mut lines = Lines::new(alloc);
     for _ in rt.forever() {
         let goes = lines.read(reader);
         if let Err(fault) = runner.answer_lines(lines.given()) {
-            return Err(runner.close(fault));
+            return Err(runner.output.close(fault));
         }
         match goes {
             Ok(true) => {}
-            Ok(false) => return runner.flush(),
-            Err(fault) => return Err(runner.close(fault)),
+            Ok(false) => return runner.output.flush(),
+            Err(fault) => return Err(runner.output.close(fault)),
         }
     }
     unreachable!()

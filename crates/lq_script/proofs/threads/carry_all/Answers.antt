@@ -1,6 +1,6 @@
 -- The lines of each read are carried out. At the end all that waited is written, but for a fault.
 use Rattle.std.proofs.Common.{rules, ◌∙◌, Ok, Err, refl}
-use Rattle.lq_script.proofs.ProgressLemmas.{carries_none, carries_ok, carries_then, tells_closed, tells_fault, tells_flush, told_by}
+use Rattle.lq_script.proofs.ProgressLemmas.{carries_none, carries_ok, carries_then, tells_closed, tells_fault, tells_flush}
 use Rattle.lq_script.proofs.threads.carry_all.Goals as goal
 
 pub loop-init : goal.loop-init
@@ -29,10 +29,9 @@ returns-in-Err-clause-same g c =
 
 pub returns-in-Err-clause-made : goal.returns-in-Err-clause-made
 returns-in-Err-clause-made g c =
-    told_by (Err c.close.result) _ _ _ _ _ c.close.ensures.seat
-    (tells_fault c.in-Err.fault c.close.result _ _ _ c.requires.empty
+    tells_fault c.in-Err.fault c.close.result _ _ _ c.requires.empty
     (carries_then (Err c.in-Err.fault) _ _ _ _ c.loop.invariant.carried c.in-Err.ensures.carried)
-    c.close.ensures.closed)
+    c.close.ensures.closed
 
 pub returns-in-Ok-false-clause-same : goal.returns-in-Ok-false-clause-same
 returns-in-Ok-false-clause-same g c =
@@ -40,11 +39,10 @@ returns-in-Ok-false-clause-same g c =
 
 pub returns-in-Ok-false-clause-made : goal.returns-in-Ok-false-clause-made
 returns-in-Ok-false-clause-made g c =
-    told_by c.flush.result _ _ _ _ _ c.flush.ensures.seat
-    (tells_flush c.flush.result _ _ _ _ c.requires.empty c.in_default.ensures.empty
+    tells_flush c.flush.result _ _ _ _ c.requires.empty c.in_default.ensures.empty
     (carries_then (Ok c.in_default.field-0) _ _ _ _ c.loop.invariant.carried
     c.in_default.ensures.carried)
-    c.flush.ensures.bytes c.flush.ensures.fault)
+    c.flush.ensures.bytes c.flush.ensures.fault
 
 pub returns-in-Err-goes-clause-same : goal.returns-in-Err-goes-clause-same
 returns-in-Err-goes-clause-same g c =
@@ -52,9 +50,8 @@ returns-in-Err-goes-clause-same g c =
 
 pub returns-in-Err-goes-clause-made : goal.returns-in-Err-goes-clause-made
 returns-in-Err-goes-clause-made g c =
-    told_by (Err c.close-in-Err-goes.result) _ _ _ _ _ c.close-in-Err-goes.ensures.seat
-    (tells_closed c.in-Err-goes.fault c.close-in-Err-goes.result _ _ _ _ c.requires.empty
+    tells_closed c.in-Err-goes.fault c.close-in-Err-goes.result _ _ _ _ c.requires.empty
     c.in_default.ensures.empty
     (carries_then (Ok c.in_default.field-0) _ _ _ _ c.loop.invariant.carried
     c.in_default.ensures.carried)
-    c.close-in-Err-goes.ensures.closed)
+    c.close-in-Err-goes.ensures.closed

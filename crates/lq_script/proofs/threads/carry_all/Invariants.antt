@@ -6,11 +6,11 @@ abbrev pub invariant-loop : goal.invariant-loop
 invariant-loop g l = record {
   next : (goal.iterator-loop g).can_next l.iterator';
   finite : (goal.iterator-loop g).is_finite l.iterator';
-  same : l.runner.writer.ghost_name ≡ l.fn.runner.writer.ghost_name;
-  empty : l.runner.replies.items ≡ [];
+  same : l.runner.output.writer.ghost_name ≡ l.fn.runner.output.writer.ghost_name;
+  empty : l.runner.output.replies.items ≡ [];
   carried : Carries (Ok tt)
-      (seat_standing l.fn.runner.session.seat (g.W.Sink.written l.fn.runner.writer.now)
-      l.fn.runner.replies.items)
-      (seat_standing l.runner.session.seat (g.W.Sink.written l.runner.writer.now)
-      l.runner.replies.items);
+      (seat_standing l.fn.runner.session.seat (g.W.Sink.written l.fn.runner.output.writer.now)
+      l.fn.runner.output.replies.items)
+      (seat_standing l.runner.session.seat (g.W.Sink.written l.runner.output.writer.now)
+      l.runner.output.replies.items);
 }

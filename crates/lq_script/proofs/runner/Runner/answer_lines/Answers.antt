@@ -38,5 +38,4 @@ pub returns-clause-carried : goal.returns-clause-carried
 returns-clause-carried g c =
     carries_then c.write_replies.result _ _ _ _ c.loop-count.invariant.carried
     (carries_then c.write_replies.result _ _ _ _ c.in_ok-end_batch.ensures.carried
-    (carries_written c.write_replies.result _ _ c.write_replies.ensures.seat
-    c.write_replies.ensures.put))
+    (carries_written c.write_replies.result _ _ refl c.write_replies.ensures.put))

@@ -5,11 +5,12 @@ use Rattle.lq_script.proofs.runner.Runner.answer_lines.Given as goal
 abbrev pub invariant-loop-count : goal.invariant-loop-count
 invariant-loop-count g l = record {
   within : length l.rest ≤ length l.lines;
-  same : l.self.writer.ghost_name ≡ l.fn.self.writer.ghost_name;
+  same : l.self.output.writer.ghost_name ≡ l.fn.self.output.writer.ghost_name;
   carried : Carries (Ok tt)
-      (seat_standing l.fn.self.session.seat (g.W.Sink.written l.fn.self.writer.now)
-      l.fn.self.replies.items)
-      (seat_standing l.self.session.seat (g.W.Sink.written l.self.writer.now) l.self.replies.items);
+      (seat_standing l.fn.self.session.seat (g.W.Sink.written l.fn.self.output.writer.now)
+      l.fn.self.output.replies.items)
+      (seat_standing l.self.session.seat (g.W.Sink.written l.self.output.writer.now)
+      l.self.output.replies.items);
 }
 
 abbrev pub decreases-loop-count : goal.decreases-loop-count

@@ -15,7 +15,7 @@ returns-then-is_err-clause-carried g c =
 pub returns-clause-carried : goal.returns-clause-carried
 returns-clause-carried g c =
     carries_reads c.write_replies.result _ _ c.read-told.new.out.items
-    (c.write_replies.ensures.seat ∙ c.read-told.ensures.seat)
+    c.read-told.ensures.seat
     (when_ok c.read-told.result (sym c.is_err.ensures.value ∙ c.if-is_err.false)
     c.read-told.ensures.ok)
     c.write_replies.ensures.put

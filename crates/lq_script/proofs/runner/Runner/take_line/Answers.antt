@@ -1,7 +1,6 @@
 -- The batch, and then the line's refusal.
-use Rattle.std.proofs.Common.{◌∙◌, [], sym, subst}
+use Rattle.std.proofs.Common.{◌∙◌}
 use Rattle.lq_script_desk.specs.Response.{Refuses}
-use Rattle.lq_script.specs.Progress.{MakesMore, OwnToken}
 use Rattle.lq_script.proofs.ChangeLemmas.{made_same}
 use Rattle.lq_script.proofs.ProgressLemmas.{carries_memory, carries_put, carries_then}
 use Rattle.lq_script.proofs.runner.Runner.take_line.Goals as goal
@@ -17,7 +16,5 @@ returns-in_ok-end_batch-in-Err g c =
       cause = c.put.ensures.cause;
       carried = carries_then c.put.result _ _ _ _ batch.carried
           (carries_put c.put.result _ _ (Refuses c.in-Err.refusal)
-          (subst (λ (s : OwnToken). MakesMore c.end_batch.new.self.session.seat s [])
-          (sym c.put.ensures.seat) (made_same c.end_batch.new.self.session.seat))
-          c.put.ensures.put);
+          (made_same c.end_batch.new.self.session.seat) c.put.ensures.put);
     }
