@@ -13,8 +13,8 @@ returns-in_err-ready_at-clause-holding c =
     slots_stand-step was.keeper c.ready_at.new.keeper was.subscriptions.items was.taken.word k k
     was.openings c.index_mut.result.now c.ready_at.new.slot was.keeper.book
     c.ready_at.new.keeper.book c.loop-index.invariant.holding (omega arith)
-    (omega (arith, c.place-place.ensures.within)) refl f.book c.index_mut.ensures.value f.only f.fits
-    f.asks f.kept
+    (omega (arith, c.place-place.ensures.within)) refl f.book c.index_mut.ensures.value f.only
+    f.fits f.asks f.kept
 
 pub returns-in_err-ready_at-clause-rises : goal.returns-in_err-ready_at-clause-rises
 returns-in_err-ready_at-clause-rises c =
@@ -43,8 +43,8 @@ loop-index-preserved c =
       holding = slots_stand-step was.keeper c.ready_at.new.keeper items was.taken.word k k
           was.openings c.index_mut.result.now c.ready_at.new.slot was.keeper.book
           c.ready_at.new.keeper.book i.holding (omega arith)
-          (omega (arith, c.place-place.ensures.within)) refl f.book c.index_mut.ensures.value f.only
-          f.fits f.asks f.kept;
+          (omega (arith, c.place-place.ensures.within)) refl f.book c.index_mut.ensures.value
+          f.only f.fits f.asks f.kept;
       ready = outside-more
           (λ z _. IsReadyAt z c.args.planned.now.before c.args.planned.now.change) items old new
           index.place k c.ready_at.new.slot is out was.keeper.slots was.keeper.slots

@@ -19,13 +19,13 @@ loop-index-preserved g c =
       holding = slots_stand-step was.keeper c.serve_at.new.keeper items was.taken.word k k
           was.openings c.index_mut.result.now c.serve_at.new.slot was.keeper.book
           c.serve_at.new.keeper.book i.holding (omega arith)
-          (omega (arith, c.place-place.ensures.within)) refl f.book c.index_mut.ensures.value f.only
-          f.fits f.asks f.kept;
+          (omega (arith, c.place-place.ensures.within)) refl f.book c.index_mut.ensures.value
+          f.only f.fits f.asks f.kept;
       served = outside-more (SlotIs IsServed) items c.loop-index.rest.word c.take_one.new.self.word
           c.in-Some.index.place k c.serve_at.new.slot
           (ap (λ n. n + 1) (sym c.place-place.ensures.value)) c.in-Some.ensures
-          was.keeper.slots c.serve_at.new.keeper.slots i.holding.0.wide c.in-Some.index.within f.only
-          f.served i.served;
+          was.keeper.slots c.serve_at.new.keeper.slots i.holding.0.wide c.in-Some.index.within
+          f.only f.served i.served;
     }
 
 pub returns-clause-served : goal.returns-clause-served
