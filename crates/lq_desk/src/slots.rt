@@ -173,16 +173,15 @@ impl Slots {
         reply
     }
 
-    // The slot with a number, if it is 1 to 64.
+    // The index of a slot's place, if the slot's number is 1 to 64.
     fn index_of(&self, slot: u64) -> Option<SlotIndex>
         ensures index { MatchOption result ((slot ≡ 0) ⊎ (64 < slot))
             (λ index. index.place + 1 ≡ slot) }
         ensures wide { length self.now ≡ 64 }
     {
-        if slot == 0 || slot > self.places.len() as u64 {
-            return None;
-        }
-        Some(SlotIndex::at((slot - 1) as usize))
+        // For the invariant: there are 64 places.
+        let _ = &self.places;
+        SlotIndex::of(slot)
     }
 
     /// Ends a slot's subscription, after a notice of the slot; then fills its port.

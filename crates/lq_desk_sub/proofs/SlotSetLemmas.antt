@@ -1,11 +1,11 @@
 -- Sets of slots, by the bits of a word.
-use Rattle.std.proofs.Common.{◌≡◌, ◌≢◌, ℕ, zero, suc, ◌<◌, ◌^◌, ◌%◌, ◌*◌, ◌-◌, ◌/◌, true, false, ap, sym, ◌∙◌, arith, inl, inr}
+use Rattle.std.proofs.Common.{◌≡◌, ◌≢◌, ℕ, zero, suc, ◌<◌, ◌+◌, ◌^◌, ◌%◌, ◌*◌, ◌-◌, ◌/◌, true, false, ap, sym, ◌∙◌, arith, inl, inr}
 use Rattle.std.specs.Prelude.{◌==◌, ◌||◌, bit_and, bit_or}
-use Rattle.std.specs.Int.{bit_at, bit_not, trailing_zeros, w64}
+use Rattle.std.specs.Int.{bit_at, bit_not, trailing_ones, trailing_zeros, w64}
 use Rattle.std.proofs.lemmas.Bool.{cases_lt}
 use Rattle.std.proofs.lemmas.Bool.Decides.{nat_tests}
 use Rattle.std.proofs.lemmas.Nat.{and_le_r}
-use Rattle.std.proofs.lemmas.Nat.Bits.{bit_at-lt, bit_at-zero, bit_at-suc, bit_at_lowest, bit_at_and, bit_at_or, bit_at_set_same, bit_at_set_other, bit_at_clear_same, bit_at_clear_other, bit_at-trailing_zeros}
+use Rattle.std.proofs.lemmas.Nat.Bits.{bit_at-lt, bit_at-zero, bit_at-suc, bit_at_lowest, bit_at_and, bit_at_or, bit_at_set_same, bit_at_set_other, bit_at_clear_same, bit_at_clear_other, bit_at_not, bit_at-trailing_ones, bit_at-trailing_zeros}
 use Rattle.lq_desk_sub.specs.SlotSet.{has, IsEmpty, IsTakenOut}
 
 -- the word without bits
@@ -53,6 +53,28 @@ has-union v w i =
     let a = bit_at-lt v i in
     let b = bit_at-lt w i in
     grind (arith, nat_tests)
+
+-- the word with all bits
+pub has-all : (i : ℕ) → i < 64 → has 18446744073709551615 i ≡ true
+unfolding has
+has-all i lt =
+    let one : bit_at 18446744073709551615 i ≡ 1 - bit_at 0 i =
+    bit_at_not w64 0 i (omega arith) lt in
+    let z = bit_at-zero i in
+    grind (arith, nat_tests)
+
+-- the lowest place that any other word lacks, and those below it
+pub has-outside : (w : ℕ) → w + 1 < 2 ^ 64
+    → (has w (trailing_ones w64 w) ≡ false)
+    × ((i : ℕ) → i < trailing_ones w64 w → has w i ≡ true)
+unfolding has
+has-outside w below =
+    let z = bit_at-trailing_ones w64 w below in
+    let lt = z.0 in
+    let clear = z.1 in (
+      grind (arith, nat_tests),
+      λ i low. let set = z.2 i low in grind (arith, nat_tests),
+    )
 
 -- above its lowest, the bits of a number are those of its half
 bit_at-half : (n m : ℕ) → n / 2 ≡ m → (i : ℕ) → bit_at n (suc i) ≡ bit_at m i

@@ -1,5 +1,5 @@
 //! A set of slots.
-ghost use Rattle.std.specs.Prelude.{◌≡◌, ◌≢◌, ◌<◌, ◌==◌, ◌||◌, ℕ, true, false, MatchOption};
+ghost use Rattle.std.specs.Prelude.{◌≡◌, ◌≢◌, ◌<◌, ◌==◌, ◌||◌, ℕ, true, false, MatchOption, IfNone, IfSome};
 ghost use Rattle.std.specs.Int.{bit_at};
 ghost use Rattle.lq_desk_sub.specs.SlotSet.{has, IsEmpty, IsTakenOut};
 
@@ -62,6 +62,19 @@ impl SlotSet {
         } else {
             self.word &= !(1 << slot.place());
         }
+    }
+
+    /// The lowest slot that is not in the set. `None`: each of the 64 is.
+    pub fn lowest_outside(self) -> Option<SlotIndex>
+        ensures outside { IfSome result (λ slot. has self.word slot.place ≡ false) }
+        ensures lowest { IfSome result (λ slot.
+            (i : ℕ) → i < slot.place → has self.word i ≡ true) }
+        ensures full { IfNone result ((i : ℕ) → i < 64 → has self.word i ≡ true) }
+    {
+        if self.word == u64::MAX {
+            return None;
+        }
+        Some(SlotIndex::at(self.word.trailing_ones() as usize))
     }
 
     /// Takes a slot out of the set. `None`: the set is empty.

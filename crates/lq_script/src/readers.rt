@@ -1,5 +1,6 @@
 //! The readers of the slots. No clause says what these calls do.
 use crate::tokens::OwnReader;
+use lq_desk_sub::SlotIndex;
 use lq_script_desk::SLOTS;
 use lq_server::Named;
 use lq_value::Refusal;
@@ -46,10 +47,10 @@ impl<N: Named> Readers<N> {
 
     // The place of a slot. Refused: `NotOpen` where there is no such slot.
     fn place(&mut self, slot: u64) -> Result<&mut Option<OwnReader<N>>, Refusal> {
-        if slot == 0 || slot > SLOTS as u64 {
+        let Some(index) = SlotIndex::of(slot) else {
             return Err(Refusal::NotOpen);
-        }
-        match self.slots.get_mut((slot - 1) as usize) {
+        };
+        match self.slots.get_mut(index.place()) {
             Some(place) => Ok(place),
             None => Err(Refusal::NotOpen),
         }

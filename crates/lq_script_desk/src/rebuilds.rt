@@ -1,5 +1,5 @@
 //! The result of each slot, rebuilt from what was read from it.
-ghost use Rattle.std.specs.Prelude.{◌≡◌, IfOk, IfErr, OnOk, OnErr};
+ghost use Rattle.std.specs.Prelude.{◌≡◌, ◌⊎◌, ◌<◌, ◌+◌, length, MatchOption, IfOk, IfErr, OnOk, OnErr};
 ghost use Rattle.std.specs.Option.{option_map};
 ghost use Rattle.lq_value.specs.declared.refusal.Refusal.TheVariants.{NoMemory};
 ghost use Rattle.lq_value.specs.Refusal.{FailsOnlyForMemory};
@@ -86,14 +86,24 @@ fn folded_slot(slot: u64, reply: &Reply) -> u64
     }
 }
 
+// The index of a slot's result. `None`: there is no such slot.
+fn index_of(rebuilds: &[Option<IndexedRebuild>], slot: u64) -> Option<usize>
+    ensures { MatchOption result ((slot ≡ 0) ⊎ (length rebuilds.now < slot))
+        (λ index. (index + 1 ≡ slot) × (index < length rebuilds.now)) }
+{
+    if slot == 0 || slot > rebuilds.len() as u64 {
+        return None;
+    }
+    Some((slot - 1) as usize)
+}
+
 /// Puts a slot's result at its index, or removes it.
 pub fn put(rebuilds: &mut Vec<Option<IndexedRebuild>>, slot: u64, rebuild: Option<IndexedRebuild>)
     ensures { rebuilds.new.items ≡ with_fold rebuilds.old.items slot rebuild }
 {
-    if slot == 0 || slot > rebuilds.len() as u64 {
-        return;
+    if let Some(index) = index_of(rebuilds, slot) {
+        rebuilds[index] = rebuild;
     }
-    rebuilds[(slot - 1) as usize] = rebuild;
 }
 
 // Folds a message into the rebuilt result of a slot.
@@ -107,10 +117,10 @@ fn fold_message_at(
     ensures err { OnErr result (rebuilds.new.items ≡ rebuilds.old.items) }
     ensures memory { IfErr result (λ e. e ≡ NoMemory) }
 {
-    if slot == 0 || slot > rebuilds.len() as u64 {
-        return Ok(());
+    match index_of(rebuilds, slot) {
+        Some(index) => fold_message(&mut rebuilds[index], message),
+        None => Ok(()),
     }
-    fold_message(&mut rebuilds[(slot - 1) as usize], message)
 }
 
 // Folds a message into a result. One that isn't the next or doesn't fit is ignored.
@@ -132,8 +142,8 @@ fn fold_message(rebuild: &mut Option<IndexedRebuild>, message: &Message) -> Resu
 pub fn rebuild_at(rebuilds: &[Option<IndexedRebuild>], slot: u64) -> Option<&IndexedRebuild>
     ensures { option_map (λ r. r.now) result ≡ fold_at rebuilds.now slot }
 {
-    if slot == 0 || slot > rebuilds.len() as u64 {
-        return None;
+    match index_of(rebuilds, slot) {
+        Some(index) => rebuilds[index].as_ref(),
+        None => None,
     }
-    rebuilds[(slot - 1) as usize].as_ref()
 }

@@ -1,6 +1,6 @@
 -- The set of the taken slots.
-use Rattle.std.proofs.Common.{◌≡◌, ◌≢◌, ℕ, zero, suc, ◌+◌, ◌<◌, ◌≤◌, true, false, true≢false, List, [], ◌∷◌, length, Option, Some, None, refl, sym, ap, ◌∙◌, arith, slice_set}
-use Rattle.std.specs.Prelude.{IsSome, is_some, slice_index_or}
+use Rattle.std.proofs.Common.{◌≡◌, ◌≢◌, ℕ, zero, suc, ◌+◌, ◌-◌, ◌<◌, ◌≤◌, true, false, true≢false, List, [], ◌∷◌, length, Option, Some, None, refl, sym, ap, ◌∙◌, arith, slice_set}
+use Rattle.std.specs.Prelude.{IfNone, IfSome, IsSome, is_none, is_some, slice_index_or}
 use Rattle.std.proofs.lemmas.List.{get_or_read}
 use mathlib.Core.Logic.{dite}
 use native.Mathlib.Decide.{ℕ_discrete}
@@ -9,6 +9,7 @@ use Rattle.lq_volume.specs.Book.{Book}
 use Rattle.lq_board.specs.Slot.{slot_at}
 use Rattle.lq_board.specs.Token.{KeeperToken}
 use Rattle.lq_desk_sub.specs.SlotSet.{has, IsEmpty}
+use Rattle.lq_desk_sub.specs.declared.slot_index.SlotIndex.{SlotIndex}
 use Rattle.lq_server_slots.specs.declared.identity.Identity.{Identity}
 use Rattle.lq_server_slots.specs.declared.subscription.Subscription.{Subscription}
 use Rattle.lq_server_slots.specs.Slots.{AllStand, MarksTaken, OnlyAt, SlotStands, asks_of, slot_in, all_taken, has_no_free}
@@ -18,10 +19,18 @@ use Rattle.lq_server_slots.proofs.SlotLemmas.{all_stand-step, set_cases}
 pub is_free : (o : Option Subscription) → is_some o ≡ false → o ≡ None
 is_free o none = grind arith
 
--- what was read of a slot that is free
-pub free_read : (slots : List (Option Subscription)) (k : ℕ) (o : Option Subscription)
-    → o ≡ slice_index_or slots k o → is_some o ≡ false → slot_in slots k ≡ None
-free_read slots k o e none = grind arith
+-- a slot outside the set of the taken ones is free
+pub outside_free : (word : ℕ) (slots : List (Option Subscription)) (i : ℕ)
+    → MarksTaken word slots → i < 64 → has word i ≡ false → slot_in slots (i + 1) ≡ None
+outside_free word slots i marks lt out = is_free (slot_in slots (i + 1)) (sym (marks i lt) ∙ out)
+
+-- and those below it are taken, where the set has them
+pub inside_taken : (word : ℕ) (slots : List (Option Subscription)) (i : ℕ)
+    → MarksTaken word slots → i ≤ 64 → ((j : ℕ) → j < i → has word j ≡ true)
+    → (k : ℕ) → 0 < k → k < i + 1 → IsSome (slot_in slots k)
+inside_taken word slots i marks most below k pos lt =
+    let same : (k - 1) + 1 ≡ k = omega arith in
+    rw same at (sym (marks (k - 1) (omega arith)) ∙ below (k - 1) (omega arith))
 
 -- a slot whose seat is out is taken
 pub taken_out : (o : Option Subscription) (p : KnownSlot Identity) (book : Book)
@@ -89,18 +98,37 @@ all_taken-each (None ∷ slots) h = absurd (true≢false (sym (h zero (omega ari
 all_taken-each (Some s ∷ slots) h = all_taken-each slots (λ k lt. h (suc k) (omega arith))
 
 -- a slot is free
-pub full-none : (slots : List (Option Subscription)) (k : ℕ) → length slots ≡ 65 → 0 < k → k < 65
+full-none : (slots : List (Option Subscription)) (k : ℕ) → length slots ≡ 65 → 0 < k → k < 65
     → slot_in slots k ≡ None → false ≡ has_no_free slots
 full-none [] k wide pos within none = absurd (omega arith)
 full-none (o ∷ slots) zero wide pos within none = absurd (omega arith)
 full-none (o ∷ slots) (suc k) wide pos within none = sym (all_taken-none slots k (omega arith) none)
 
 -- each slot is taken
-pub full-each : (slots : List (Option Subscription)) (n : ℕ) → length slots ≡ 65 → 65 ≤ n
-    → ((k : ℕ) → 0 < k → k < n → IsSome (slot_in slots k)) → true ≡ has_no_free slots
-full-each [] n wide most h = absurd (omega arith)
-full-each (o ∷ slots) n wide most h =
+full-each : (slots : List (Option Subscription)) → length slots ≡ 65
+    → ((k : ℕ) → 0 < k → k < 65 → IsSome (slot_in slots k)) → true ≡ has_no_free slots
+full-each [] wide h = absurd (omega arith)
+full-each (o ∷ slots) wide h =
     sym (all_taken-each slots (λ k lt. h (suc k) (omega arith) (omega arith)))
+
+-- the slots below the lowest outside the set of the taken ones are taken
+pub lowest-taken : (word : ℕ) (slots : List (Option Subscription)) (o : Option SlotIndex)
+    → MarksTaken word slots → IfSome o (λ s. (i : ℕ) → i < s.place → has word i ≡ true)
+    → IfSome o (λ s. (k : ℕ) → 0 < k → k < s.place + 1 → IsSome (slot_in slots k))
+lowest-taken word slots None marks below = tt
+lowest-taken word slots (Some s) marks below =
+    inside_taken word slots s.place marks (let lt = s.within in omega arith) below
+
+-- there is one just if a slot is free
+pub lowest-full : (word : ℕ) (slots : List (Option Subscription)) (o : Option SlotIndex)
+    → MarksTaken word slots → length slots ≡ 65 → IfSome o (λ s. has word s.place ≡ false)
+    → IfNone o ((i : ℕ) → i < 64 → has word i ≡ true) → is_none o ≡ has_no_free slots
+lowest-full word slots None marks wide free full =
+    full-each slots wide (inside_taken word slots 64 marks (omega arith) full)
+lowest-full word slots (Some s) marks wide free full =
+    let lt = s.within in
+    full-none slots (s.place + 1) wide (omega arith) (omega arith)
+    (outside_free word slots s.place marks lt free)
 
 -- how often the slots' seats have asked, as the keeper knows, where one slot's count rises
 pub asks_rise : (first old new : List (KnownSlot Identity)) (place : ℕ) → OnlyAt old new place

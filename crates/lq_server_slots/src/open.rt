@@ -15,7 +15,7 @@ use crate::ghost_copy::GhostCopy;
 use crate::identity::{FirstClose, Identity, Told};
 use crate::laws::new_subscriptions_stand;
 use crate::reading::Reading;
-use crate::slots::{PLACES, ServerSlots};
+use crate::slots::ServerSlots;
 use crate::subscription::Subscription;
 use lq_board::{Board, Keeper, Seat};
 use lq_desk_sub::{MAX_BACKLOG, SlotIndex, Sub};
@@ -34,21 +34,16 @@ pub struct Opened {
     pub slot: u64,
 }
 
-// The lowest free place.
-fn free_place(slots: &[Option<Subscription>]) -> Option<usize>
-    requires { length slots.now ≡ 65 }
-    ensures place { IfSome result (λ k. (0 < k) × (k < 65)) }
-    ensures free { IfSome result (λ k. slot_in slots.now k ≡ None) }
-    ensures lowest { IfSome result (λ k.
-        (j : ℕ) → 0 < j → j < k → IsSome (slot_in slots.now j)) }
-    ensures full { is_none result ≡ has_no_free slots.now }
+// The lowest free slot.
+fn lowest_free(slots: &ServerSlots) -> Option<SlotIndex>
+    requires { AreConsistent slots.now slots.now.keeper.book }
+    ensures free { IfSome result (λ index.
+        slot_in slots.now.subscriptions.items (index.place + 1) ≡ None) }
+    ensures lowest { IfSome result (λ index. (j : ℕ) → 0 < j → j < index.place + 1
+        → IsSome (slot_in slots.now.subscriptions.items j)) }
+    ensures full { is_none result ≡ has_no_free slots.now.subscriptions.items }
 {
-    for place in 1..PLACES {
-        if slots[place].is_none() {
-            return Some(place);
-        }
-    }
-    None
+    slots.taken.lowest_outside()
 }
 
 /// The arguments of an opening.
@@ -136,17 +131,16 @@ fn sit(
     board.slot_seat(keeper, place)
 }
 
-// Puts a subscription into a free place, and gives out the seat of the place.
+// Puts a subscription into a free slot, and gives out the slot's seat.
 fn settle(
     board: &Board<Identity>,
     slots: &mut ServerSlots,
-    place: usize,
+    index: SlotIndex,
     mut slot: Subscription,
     reading: Reading,
 ) -> Opened
     requires board { slots.old.keeper.board ≡ board.now }
-    requires place { (0 < place) × (place < 65) }
-    requires free { slot_in slots.old.subscriptions.items place ≡ None }
+    requires free { slot_in slots.old.subscriptions.items (index.place + 1) ≡ None }
     requires room { slots.old.openings < 1000000000000 }
     requires begun { IsNewSubscription slot reading slots.old.keeper.book slot.sub.held.query
         slot.sub.held.moved slot.places slot.sub.held.backlog }
@@ -157,12 +151,13 @@ fn settle(
     ensures book { slots.new.keeper.book ≡ slots.old.keeper.book }
     ensures openings { slots.new.openings ≡ slots.old.openings + 1 }
     ensures holding { AreConsistent slots.new slots.new.keeper.book }
-    ensures slot { result.slot ≡ place }
+    ensures slot { result.slot ≡ index.place + 1 }
     ensures reading { result.reading ≡ reading }
     ensures opened { IsOpened result slots.old.keeper.board slots.old.keeper.book
         slot.sub.held.query slot.sub.held.moved slot.places slot.sub.held.backlog }
 {
-    slots.taken.put(SlotIndex::at(place - 1), true);
+    slots.taken.put(index, true);
+    let place = index.place() + 1;
     let asks = board.asks(&mut slots.keeper, place as u64);
     slot.asks = asks;
     let seat = sit(board, &mut slots.keeper, &slot, place as u64);
@@ -214,12 +209,12 @@ pub fn open_in(
     if request.backlog > MAX_BACKLOG {
         return Err(Refusal::BadBacklog);
     }
-    let Some(place) = free_place(&slots.subscriptions) else {
+    let Some(index) = lowest_free(slots) else {
         return Err(Refusal::NoSlot);
     };
     if volume.limit() <= slots.openings {
         return Err(Refusal::Exhausted);
     }
     let (slot, reading) = begin(alloc, &slots.keeper, volume, request)?;
-    Ok(settle(board, slots, place, slot, reading))
+    Ok(settle(board, slots, index, slot, reading))
 }

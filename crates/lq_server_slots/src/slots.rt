@@ -15,7 +15,7 @@ use std::alloc::Global;
 use std::sync::Wait;
 
 /// The number of places: 64 slots, and an unused place before them.
-pub(crate) const PLACES: usize = 65;
+const PLACES: usize = 65;
 
 /// The subscriptions in the slots, what the keeper knows of the slots, the set of the taken ones,
 /// and the number of openings so far.

@@ -12,7 +12,9 @@ returns-clause-holding c =
     let b = c.requires.begun in
     let was = c.args.slots.now in
     let h = c.requires.holding.0 in
-    let place = c.args.place in
+    let index = c.args.index in
+    let value = c.place-place.ensures.value in
+    let place = c.place-place.result + 1 in
     let s : Subscription = record {
       sub = c.args.slot.sub;
       input = c.args.slot.input;
@@ -26,12 +28,12 @@ returns-clause-holding c =
       subst (AllStand c.sit-seat.new.keeper (slice_set was.subscriptions.items place (Some s))
           (was.openings + 1)) book
           (settled was.keeper c.asks-asks.new.keeper c.sit-seat.new.keeper was.subscriptions.items
-          place was.openings c.asks-asks.result s was.keeper.book h c.requires.place.0
-          c.requires.place.1 c.requires.free
+          place was.openings c.asks-asks.result s was.keeper.book h (omega arith)
+          (omega (arith, c.place-place.ensures.within)) (rw value c.requires.free)
           (ap (λ (k : KeeperToken Identity). k.slots) keeper) c.asks-asks.ensures.idle
           c.sit-seat.ensures.slots refl b.stands
           (begun_seen c.args.slot c.args.reading was.keeper.book _ _ _ _ b) b.messages b.live),
-      marks-put was.taken.word c.put.new.self.word was.subscriptions.items c.at.result.place place
-          (Some s) c.requires.holding.1 h.wide c.at.result.within
-          (omega (arith, c.at.ensures, c.requires.place.0)) c.put.ensures.here c.put.ensures.others,
+      marks-put was.taken.word c.put.new.self.word was.subscriptions.items index.place place
+          (Some s) c.requires.holding.1 h.wide index.within (omega (arith, value))
+          c.put.ensures.here c.put.ensures.others,
     )
