@@ -6,7 +6,7 @@ ghost use Rattle.lq_value.specs.Refusal.{FailsOnlyForMemory};
 ghost use Rattle.lq_desk.specs.Reply.{answer_of, answer_of_read};
 ghost use Rattle.lq_volume.specs.Lookup.{listed};
 ghost use Rattle.lq_script_desk.specs.Answer.{response_of};
-ghost use Rattle.lq_script_lines.specs.Lines.{HasPrefix};
+ghost use mathlib.Core.List.{IsPrefix};
 ghost use Rattle.lq_script_desk.specs.Reply.{answer_data, listing_data, message_data, place_of, refusal_data, reply_text, response_data};
 
 use crate::members::{put_attrs, put_count, put_entry, put_result, put_step, put_word};
@@ -23,7 +23,7 @@ pub fn put_plainly(alloc: Global, out: &mut Vec<u8>, response: &Response) -> Res
     ensures refused { FailsOnlyForMemory result }
     ensures ok { OnOk result (out.new.items
         ≡ out.old.items ++ reply_text (response_of response.now)) }
-    ensures err { OnErr result (HasPrefix out.new.items out.old.items) }
+    ensures err { OnErr result (IsPrefix out.old.items out.new.items) }
 {
     let text = line_of(alloc, response)?;
     out.extend_from_slice(text.as_bytes())?;

@@ -14,7 +14,7 @@ use Rattle.lq_server.specs.Retired.{IsRetired}
 use Rattle.lq_desk_world.specs.Events.{Answer, Changed, Opened, Moved, Took, Empty, Ended, Asked, Noticed, Shut, Finished, Refused}
 use Rattle.lq_script_desk.specs.Response.{Response, Answers, Refuses, Found, Listed, Fetched, Rebuilt}
 use Rattle.lq_script_desk.specs.Reply.{reply_text}
-use Rattle.lq_script_lines.specs.Lines.{HasPrefix}
+use mathlib.Core.List.{IsPrefix}
 use Rattle.lq_script_lines.specs.declared.run_fault.RunFault.{RunFault}
 use Rattle.lq_script_lines.specs.declared.run_fault.RunFault.TheVariants.{Read, Write, Limit, Memory, Thread}
 use Rattle.lq_script.specs.Changes.{HasTaken, LeavesUntold, TellsAllChanges, change_in, change_told, changes_told, replies_text}
@@ -262,18 +262,18 @@ reads_more old mid new r h none more = record {
 }
 
 -- what has reads appended begins as before
-pub reads_front : (old new : List ℕ) → AppendsReads old new → HasPrefix new old
-reads_front old new h = (replies_text h.replies, h.appended)
+pub reads_front : (old new : List ℕ) → AppendsReads old new → IsPrefix old new
+reads_front old new h = (replies_text h.replies, sym h.appended)
 
 -- each text begins with itself
-pub front_same : (xs : List ℕ) → HasPrefix xs xs
-front_same xs = ([], sym (append-nil xs))
+pub front_same : (xs : List ℕ) → IsPrefix xs xs
+front_same xs = ([], append-nil xs)
 
 -- and so does what begins with that
-pub front_on : (old mid new : List ℕ) → HasPrefix mid old → HasPrefix new mid → HasPrefix new old
+pub front_on : (old mid new : List ℕ) → IsPrefix old mid → IsPrefix mid new → IsPrefix old new
 front_on old mid new h k = (
   h.0 ++ k.0,
-  k.1 ∙ ap (λ (l : List ℕ). l ++ k.0) h.1 ∙ append_assoc old h.0 k.0,
+  sym (append_assoc old h.0 k.0) ∙ ap (λ (l : List ℕ). l ++ k.0) h.1 ∙ k.1,
 )
 
 -- no reads were appended

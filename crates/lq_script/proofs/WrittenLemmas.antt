@@ -1,5 +1,5 @@
 -- What is left on a device by a line.
-use Rattle.std.proofs.Common.{◌≡◌, ◌⊎◌, inl, inr, ℕ, Bool, true, sym, List, take, drop, Option, Result, Ok, Err, OnOk, OnErr}
+use Rattle.std.proofs.Common.{◌≡◌, ◌⊎◌, inl, inr, ℕ, Bool, true, List, take, drop, Option, Result, Ok, Err, OnOk, OnErr}
 use Rattle.std.proofs.lemmas.List.{take-append-drop}
 use Rattle.std.specs.Io.KnownBytes.{Appends}
 use Rattle.lq_script.specs.Written.{WritesOrFails, WritesFront}
@@ -10,7 +10,7 @@ pub writes_part : (line : List ℕ) (written written' : Option (List ℕ))
 writes_part line written written' h = record {
   text = take h.0 line;
   appended = h.1;
-  front = (drop h.0 line, sym (take-append-drop h.0 line));
+  front = (drop h.0 line, take-append-drop h.0 line);
 }
 
 -- a line that was tried

@@ -5,7 +5,7 @@ use Rattle.std.specs.Io.KnownBytes.{Appends}
 use Rattle.lq_predicate.specs.Query.{Query}
 use Rattle.lq_predicate.specs.Faults.{Reads}
 use Rattle.lq_predicate.specs.Canonical.{canonical}
-use Rattle.lq_script_lines.specs.Lines.{HasPrefix}
+use mathlib.Core.List.{IsPrefix}
 use Rattle.lq_script_lines.specs.Output.{Ended, Halted, NotBegun, Passed}
 use Rattle.lq_script_lines.specs.declared.run_fault.RunFault.{RunFault}
 use Rattle.lq_script_lines.specs.declared.run_fault.RunFault.TheVariants.{Read, Write, Limit, Memory, Thread}
@@ -35,7 +35,7 @@ usage_line = line_with (codes "lq: usage")
 pub record WritesFront (line : List ℕ) (written written' : Option (List ℕ)) : Type 0 where
   pub text : List ℕ
   pub appended : Appends written written' text
-  pub front : HasPrefix line text
+  pub front : IsPrefix text line
 
 -- a line was written, or a prefix of it where the device failed or accepted none of some bytes
 abbrev pub WritesOrFails : List ℕ → Option (List ℕ) → Option (List ℕ) → Bool → Bool → Type 0

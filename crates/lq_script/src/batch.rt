@@ -2,7 +2,7 @@
 ghost use Rattle.std.specs.Prelude.{◌≡◌, [], IfOk, OnOk, OnErr};
 ghost use Rattle.std.specs.Thread.{IsSend};
 ghost use Rattle.lq_script_desk.specs.Answer.{response_of};
-ghost use Rattle.lq_script_lines.specs.Lines.{HasPrefix};
+ghost use mathlib.Core.List.{IsPrefix};
 ghost use Rattle.lq_script.specs.Changes.{change_told};
 ghost use Rattle.lq_script.specs.Progress.{AppendsReads};
 
@@ -89,7 +89,7 @@ pub fn read_beside<
     out: &mut Vec<u8>,
 ) -> Result<(), Refusal>
     ensures ok { OnOk result (AppendsReads out.old.items out.new.items) }
-    ensures err { OnErr result (HasPrefix out.new.items out.old.items) }
+    ensures err { OnErr result (IsPrefix out.old.items out.new.items) }
 {
     let batch = batch_of(alloc, server, gate, readers, slots)?;
     // For the proof: what these reads hold may cross threads.
@@ -120,7 +120,7 @@ fn put_replies<N: Named, G>(
     out: &mut Vec<u8>,
 ) -> Result<(), Refusal>
     ensures ok { OnOk result (AppendsReads out.old.items out.new.items) }
-    ensures err { OnErr result (HasPrefix out.new.items out.old.items) }
+    ensures err { OnErr result (IsPrefix out.old.items out.new.items) }
 {
     for slot in slots {
         let response = read_in(batch, *slot)?;

@@ -280,5 +280,5 @@ replied lines before after bytes e is asks =
       answers = ap (answers_to script_world) place.1
           ∙ answers_to-append script_world first (e ∷ place.0);
       place = answers_to-count script_world first;
-      reply = (text.0, text.1 ∙ ap (λ own. (replies_of before ++ own) ++ text.0) own);
+      reply = (text.0, sym (text.1 ∙ ap (λ own. (replies_of before ++ own) ++ text.0) own));
     }

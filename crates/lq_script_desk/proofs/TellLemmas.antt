@@ -1,5 +1,5 @@
 -- What a script tells its readers.
-use Rattle.std.proofs.Common.{◌≡◌, ℕ, List, ◌∷◌, ◌++◌, refl, ap, ◌∙◌, Some, Result, Ok, Err}
+use Rattle.std.proofs.Common.{◌≡◌, ℕ, List, ◌∷◌, ◌++◌, refl, sym, ap, ◌∙◌, Some, Result, Ok, Err}
 use Rattle.lq_update.specs.Laws.{FoldingsFollow, RebuildsTakeAll}
 use Rattle.lq_desk_world.specs.Laws.{RunsTellReaders}
 use Rattle.lq_script_lines.specs.Lines.{line_of}
@@ -22,8 +22,8 @@ module _ (law : RunsTellReaders) (rebuilds : RebuildsTakeAll) (follow : Foldings
       let text = reply-place lines before after bytes is in record {
         reply = (
           text.0,
-          text.1 ∙ ap (λ own. (replies_of before ++ own) ++ text.0)
-              (line-reply (session_after before) (line_of bytes) (question.Rebuilt slot) asks),
+          sym (text.1 ∙ ap (λ own. (replies_of before ++ own) ++ text.0)
+              (line-reply (session_after before) (line_of bytes) (question.Rebuilt slot) asks)),
         );
         taken = taken-kept keep before slot;
         fold = script-folds law rebuilds follow before slot;

@@ -13,7 +13,8 @@ use Rattle.lq_desk_world.specs.Events.{Answer, Opened, answer, next, outcome}
 use Rattle.lq_desk_world.specs.Runs.{Run}
 use Rattle.lq_desk_world.specs.Turns.{after_events, events_in, ports_of, turn_of, turn_outcome}
 use Rattle.lq_desk_world.specs.Headline.{ReadersAreTold, frees, reads_of, updates_in}
-use Rattle.lq_script_lines.specs.Lines.{HasPrefix, Line, long, empty, whole, line_of, lines_of, replies_to}
+use mathlib.Core.List.{IsPrefix}
+use Rattle.lq_script_lines.specs.Lines.{Line, long, empty, whole, line_of, lines_of, replies_to}
 use Rattle.lq_script_lines.specs.Progress.{state_after_all}
 use Rattle.lq_script_lines.specs.Outcome.{ReaderLog, WriterLog}
 use Rattle.lq_script_lines.specs.declared.run_fault.RunFault.{RunFault}
@@ -101,8 +102,9 @@ pub record IsReplied (lines before : List (List ℕ)) (e : Event) : Type 0 where
       ≡ answers_to script_world (events_before before e) ++ answer_after before e ∷ laters
   pub place :
       length (events_before before e) ≡ length (answers_to script_world (events_before before e))
-  pub reply : HasPrefix (replies_of lines)
+  pub reply : IsPrefix
       (replies_of before ++ reply_text (Answers (slot_named e) (answer_after before e)))
+      (replies_of lines)
 
 -- ---- the result of a slot
 
@@ -138,8 +140,9 @@ pub record IsFoldOf (slot : ℕ) (events : List Event) (answers : List Answer) (
 -- The reply to a line that asks for a slot's result, and comes after some lines, is the text of the
 -- slot's fold then. Only a free slot has none.
 pub record IsRebuilt (lines before : List (List ℕ)) (slot : ℕ) : Type 0 where
-  pub reply : HasPrefix (replies_of lines)
+  pub reply : IsPrefix
       (replies_of before ++ reply_text (rebuilt (fold_at (session_after before).folds slot)))
+      (replies_of lines)
   -- the slot has a fold just where it is taken
   pub taken : is_some (subscribed_at (world_after before) slot)
       ≡ is_some (fold_at (session_after before).folds slot)
@@ -181,5 +184,5 @@ pub record TellsReaders (result : Result (Unit {0}) RunFault) (r : ReaderLog) (w
   pub consumed : Consumes r.left r.left' given
   pub appended : Appends w.written w.written' text
   pub ok : OnOk result (text ≡ out_of given)
-  pub err : OnErr result (HasPrefix (out_of given) text)
+  pub err : OnErr result (IsPrefix text (out_of given))
   pub lines : (lines rest : List (List ℕ)) → lines_of given ≡ lines ++ rest → IsScript lines

@@ -9,7 +9,7 @@ ghost use Rattle.lq_script_desk.specs.Front.{AppendsTo};
 ghost use Rattle.lq_desk.specs.Reply.{answer_of};
 ghost use Rattle.lq_script_desk.specs.Answer.{response_of};
 ghost use Rattle.lq_script_desk.specs.Response.{Answers};
-ghost use Rattle.lq_script_lines.specs.Lines.{HasPrefix};
+ghost use mathlib.Core.List.{IsPrefix};
 ghost use Rattle.lq_script_desk.specs.Reply.{applied_data, entry_data, fetched_data, found_data, opened_data, place_of, rebuilt_data, refusal_data, reply_text, shut_data, slot_data};
 
 use crate::listing::put_listing;
@@ -27,7 +27,7 @@ pub fn put_reply(out: &mut Vec<u8>, response: &Response) -> Result<(), Refusal>
     ensures refused { FailsOnlyForMemory result }
     ensures ok { OnOk result (out.new.items
         ≡ out.old.items ++ reply_text (response_of response.now)) }
-    ensures err { OnErr result (HasPrefix out.new.items out.old.items) }
+    ensures err { OnErr result (IsPrefix out.old.items out.new.items) }
 {
     match response {
         Response::Reply { slot, reply } => return put_event_reply(out, *slot, reply),
@@ -57,7 +57,7 @@ pub fn put_event_reply(out: &mut Vec<u8>, slot: u64, reply: &Reply) -> Result<()
     ensures refused { FailsOnlyForMemory result }
     ensures ok { OnOk result (out.new.items
         ≡ out.old.items ++ reply_text (Answers slot (answer_of reply.now))) }
-    ensures err { OnErr result (HasPrefix out.new.items out.old.items) }
+    ensures err { OnErr result (IsPrefix out.old.items out.new.items) }
 {
     match reply {
         Reply::Changed(applied) => put_applied(out, applied)?,

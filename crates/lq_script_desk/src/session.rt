@@ -4,7 +4,7 @@ ghost use Rattle.lq_value.specs.Refusal.{FailsOnlyForMemory};
 ghost use Rattle.lq_value.specs.declared.refusal.Refusal.TheVariants.{NoMemory};
 ghost use Rattle.lq_desk_world.specs.Turns.{turn_outcome};
 ghost use Rattle.lq_volume.specs.Result.{result_of};
-ghost use Rattle.lq_script_lines.specs.Lines.{HasPrefix};
+ghost use mathlib.Core.List.{IsPrefix};
 ghost use Rattle.lq_script_desk.specs.Response.{Fetched, Refuses};
 ghost use Rattle.lq_script_desk.specs.Reply.{reply_text};
 ghost use Rattle.lq_script_desk.specs.Answered.{found_in, answered_event, rebuilt, entry_answer, slot_named};
@@ -70,7 +70,7 @@ impl Session {
         ensures after { OnOk result (session_with self.new.desk self.new.rebuilds.items ≡
             (answered_event (slot_named event.now) self.old.rebuilds.items
             (turn_outcome self.old.desk event.now)).1) }
-        ensures err { OnErr result (HasPrefix out.new.items out.old.items) }
+        ensures err { OnErr result (IsPrefix out.old.items out.new.items) }
         ensures memory { IfErr result (λ e. e ≡ NoMemory) }
         ensures history { (a : Answer) × KeepsHistory self.old.desk self.new.desk event.now a
             × OnOk result (a ≡ (turn_outcome self.old.desk event.now).0) }
@@ -110,7 +110,7 @@ fn put_refusal(out: &mut Vec<u8>, refusal: Refusal) -> Result<(), Refusal>
     ensures refused { FailsOnlyForMemory result }
     ensures ok { OnOk result
         (out.new.items ≡ out.old.items ++ reply_text (Refuses refusal)) }
-    ensures err { OnErr result (HasPrefix out.new.items out.old.items) }
+    ensures err { OnErr result (IsPrefix out.old.items out.new.items) }
 {
     put_reply(out, &Response::Refused(refusal))
 }
@@ -121,7 +121,7 @@ fn put_found(out: &mut Vec<u8>, volume: &Volume, dir: u64, name: &Name) -> Resul
     ensures refused { FailsOnlyForMemory result }
     ensures ok { OnOk result (out.new.items
         ≡ out.old.items ++ reply_text (found_in volume.now dir name.now)) }
-    ensures err { OnErr result (HasPrefix out.new.items out.old.items) }
+    ensures err { OnErr result (IsPrefix out.old.items out.new.items) }
 {
     match volume.find(dir, name) {
         Ok(node) => put_reply(out, &Response::Found { node }),
@@ -135,7 +135,7 @@ fn put_shown(out: &mut Vec<u8>, volume: &Volume, node: u64) -> Result<(), Refusa
     ensures refused { FailsOnlyForMemory result }
     ensures ok { OnOk result (out.new.items
         ≡ out.old.items ++ reply_text (entry_answer volume.now node)) }
-    ensures err { OnErr result (HasPrefix out.new.items out.old.items) }
+    ensures err { OnErr result (IsPrefix out.old.items out.new.items) }
 {
     match volume.listing(node) {
         Ok(listing) => put_reply(out, &Response::Listed { node, listing }),
@@ -150,7 +150,7 @@ fn put_fetched(out: &mut Vec<u8>, volume: &Volume, predicate: &Predicate) -> Res
     ensures refused { FailsOnlyForMemory result }
     ensures ok { OnOk result (out.new.items ≡ out.old.items
         ++ reply_text (Fetched volume.now.number (result_of predicate.now volume.now))) }
-    ensures err { OnErr result (HasPrefix out.new.items out.old.items) }
+    ensures err { OnErr result (IsPrefix out.old.items out.new.items) }
 {
     let at = volume.changes();
     let result = volume.fetch(predicate)?;
@@ -167,7 +167,7 @@ fn put_rebuilt(
     ensures refused { FailsOnlyForMemory result }
     ensures ok { OnOk result (out.new.items
         ≡ out.old.items ++ reply_text (rebuilt (fold_at rebuilds.now slot))) }
-    ensures err { OnErr result (HasPrefix out.new.items out.old.items) }
+    ensures err { OnErr result (IsPrefix out.old.items out.new.items) }
 {
     let Some(rebuild) = rebuild_at(rebuilds, slot) else {
         return put_refusal(out, Refusal::NotOpen);
@@ -199,7 +199,7 @@ impl Responder for Session {
             (session_with self.old.desk self.old.rebuilds.items) line.now) }
         ensures after { OnOk result (session_with self.new.desk self.new.rebuilds.items
             ≡ world_rules.after (session_with self.old.desk self.old.rebuilds.items) line.now) }
-        ensures err { OnErr result (HasPrefix out.new.items out.old.items) }
+        ensures err { OnErr result (IsPrefix out.old.items out.new.items) }
         ensures memory { IfErr result (λ e. e ≡ NoMemory) }
         ensures history { LineKeepsHistory self.old.desk self.new.desk result
             (question_read (question_in line.now)) }

@@ -160,7 +160,7 @@ module _ {State : Type 0} {rules : Rules State} {began : Began State} {given : L
     stands_last = record {
       text = s.text;
       appended = s.appended;
-      front = ([], rw append-nil (sym last_due));
+      front = ([], rw append-nil last_due);
     }
 
   -- where nothing waits, just the lines that LF ended are answered
@@ -225,7 +225,10 @@ module _ {State : Type 0} {rules : Rules State} {began : Began State} {given : L
     appended = Appends-trans began.written w w' f.text (take part.0 out) f.appended part.1;
     front = (
       drop part.0 out ++ f.front.0,
-      f.front.1 ∙ simp (append_assoc, append-nil, take_rest out f.front.0 part.0),
+      let same : ((f.text ++ take part.0 out) ++ []) ++ (drop part.0 out ++ f.front.0)
+          ≡ (f.text ++ out) ++ f.front.0 =
+          simp (append_assoc, append-nil, take_rest out f.front.0 part.0) in
+          same ∙ f.front.1,
     );
   }
 

@@ -1,5 +1,5 @@
 -- What a whole run has read and written, from what it knows at its end.
-use Rattle.std.proofs.Common.{◌≡◌, ℕ, ◌+◌, ◌-◌, ◌≢◌, ◌≤◌, ◌<◌, ◌⊎◌, ◌++◌, List, [], ◌∷◌, length, take, drop, get_or, true, false, Option, Result, Err, IfErr, OnErr, OnOk, refl, ap, ◌∙◌, arith, append_assoc, append-nil, length-append, length-take, inl, inr}
+use Rattle.std.proofs.Common.{◌≡◌, ℕ, ◌+◌, ◌-◌, ◌≢◌, ◌≤◌, ◌<◌, ◌⊎◌, ◌++◌, List, [], ◌∷◌, length, take, drop, get_or, true, false, Option, Result, Err, IfErr, OnErr, OnOk, refl, sym, ap, ◌∙◌, arith, append_assoc, append-nil, length-append, length-take, inl, inr}
 use Rattle.std.proofs.lemmas.List.{drop_more}
 use Rattle.std.proofs.lemmas.Result.{on_ok_weaker}
 use Rattle.std.proofs.KnownBytes.{Appends-nil, Consumes-trans}
@@ -88,7 +88,7 @@ module _ {State : Type 0} {rules : Rules State} {began : Began State} {l l' w : 
     consumed = h;
     text = f.text;
     appended = f.appended;
-    front = (out ++ f.front.0, f.front.1 ∙ append_assoc f.text out f.front.0);
+    front = (out ++ f.front.0, sym (append_assoc f.text out f.front.0) ∙ f.front.1);
   }
 
   -- a run that stops at a line

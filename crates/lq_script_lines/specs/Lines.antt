@@ -2,10 +2,6 @@
 use Rattle.std.specs.Prelude.{◌≡◌, ℕ, List, [], ◌∷◌, ◌++◌, false, if◌then◌else◌, ◌==◌, length, nat_lt}
 use Rattle.std.specs.Io.BufRead.{strip_last}
 
--- `front` is a prefix of `whole`
-abbrev pub HasPrefix : List ℕ → List ℕ → Type 0
-HasPrefix whole front = (rest : List ℕ) × (whole ≡ front ++ rest)
-
 -- the lines with a byte added before the first one; without lines, the byte is the only line
 abbrev pub with_front : ℕ → List (List ℕ) → List (List ℕ)
 with_front b [] = (b ∷ []) ∷ []

@@ -1,7 +1,8 @@
 -- What a run over a script has read and written when it answers.
 use Rattle.std.specs.Prelude.{◌≡◌, ℕ, ◌≤◌, List, [], ◌∷◌, ◌++◌, length, Option}
 use Rattle.std.specs.Io.KnownBytes.{Appends, Consumes, IsAtEnd, Keeps}
-use Rattle.lq_script_lines.specs.Lines.{HasPrefix, Rules, ended_lines, lines_of, replies_to}
+use mathlib.Core.List.{IsPrefix}
+use Rattle.lq_script_lines.specs.Lines.{Rules, ended_lines, lines_of, replies_to}
 
 -- what is written for an input
 abbrev pub output_of : {State : Type 0} → Rules State → State → List ℕ → List ℕ
@@ -27,7 +28,7 @@ pub record Stopped {State : Type 0} (rules : Rules State) (state : State)
   pub consumed : Consumes left left' given
   pub text : List ℕ
   pub appended : Appends written written' text
-  pub front : HasPrefix (output_of rules state given) text
+  pub front : IsPrefix text (output_of rules state given)
 
 -- a run that stopped at a line of what was read: exactly the lines before it were answered
 pub record Halted {State : Type 0} (rules : Rules State) (state : State)

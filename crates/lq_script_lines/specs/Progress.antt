@@ -2,7 +2,8 @@
 use Rattle.std.specs.Prelude.{◌≡◌, ◌<◌, ◌≤◌, ◌⊎◌, ℕ, List, [], ◌∷◌, ◌++◌, Bool, true, false, length, take, Option, ◌+◌, Result, OnOk, OnErr, IsErrOf}
 use Rattle.std.specs.Io.KnownBytes.{Appends}
 use Rattle.lq_script_lines.specs.declared.intake.Intake.{Intake}
-use Rattle.lq_script_lines.specs.Lines.{HasPrefix, IsUnbroken, Rules, ended_lines, line_of, lines_of, replies_to, state_after}
+use mathlib.Core.List.{IsPrefix}
+use Rattle.lq_script_lines.specs.Lines.{IsUnbroken, Rules, ended_lines, line_of, lines_of, replies_to, state_after}
 use Rattle.lq_script_lines.specs.Output.{output_of}
 use Rattle.lq_script_lines.specs.declared.run_fault.RunFault.{RunFault}
 use Rattle.lq_script_lines.specs.declared.run_fault.RunFault.TheVariants.{Limit, Memory, Read, Thread, Write}
@@ -53,7 +54,7 @@ pub record Fronts {State : Type 0} (rules : Rules State) (began : Began State)
     (given : List ℕ) (written : Option (List ℕ)) (out : List ℕ) : Type 0 where
   pub text : List ℕ
   pub appended : Appends began.written written text
-  pub front : HasPrefix (replies_to rules began.state (lines_of given)) (text ++ out)
+  pub front : IsPrefix (text ++ out) (replies_to rules began.state (lines_of given))
 
 -- the lines of an input before one that isn't answered: their replies are what was written and
 -- then `out`

@@ -1,6 +1,7 @@
 //! The responder to a script's lines.
 ghost use Rattle.std.specs.Prelude.{◌≡◌, ◌++◌, IfErr, OnOk, OnErr};
-ghost use Rattle.lq_script_lines.specs.Lines.{HasPrefix, Rules};
+ghost use mathlib.Core.List.{IsPrefix};
+ghost use Rattle.lq_script_lines.specs.Lines.{Rules};
 
 use lq_value::Refusal;
 
@@ -25,7 +26,7 @@ pub trait Responder {
         ensures ok { OnOk result (out.new.items
             ≡ out.old.items ++ rules.reply (state self.old) line.now) }
         ensures after { OnOk result (state self.new ≡ rules.after (state self.old) line.now) }
-        ensures err { OnErr result (HasPrefix out.new.items out.old.items) }
+        ensures err { OnErr result (IsPrefix out.old.items out.new.items) }
         ensures memory { IfErr result (λ e. e ≡ Refusal.NoMemory) };
 
     /// Appends the reply to a line that is too long to `out`. The state stays the same.
@@ -33,6 +34,6 @@ pub trait Responder {
     /// Refused: `NoMemory`; a part of the reply may be appended to `out` then.
     fn respond_long(&self, out: &mut Vec<u8>) -> Result<(), Refusal>
         ensures ok { OnOk result (out.new.items ≡ out.old.items ++ rules.long) }
-        ensures err { OnErr result (HasPrefix out.new.items out.old.items) }
+        ensures err { OnErr result (IsPrefix out.old.items out.new.items) }
         ensures memory { IfErr result (λ e. e ≡ Refusal.NoMemory) };
 }

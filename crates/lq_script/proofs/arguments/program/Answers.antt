@@ -1,5 +1,5 @@
 -- What the command that the arguments ask for does is what the program does.
-use Rattle.std.proofs.Common.{arith, ◌≡◌, ◌⊎◌, ◌≤◌, ℕ, inl, inr, ap, refl, subst, sym, Err}
+use Rattle.std.proofs.Common.{◌≡◌, ◌⊎◌, inl, inr, ap, refl, subst, sym, Err}
 use Rattle.lq_script_lines.specs.Words.{IsAskedBy, texts_of}
 use Rattle.lq_script_lines.specs.declared.run_fault.RunFault.{RunFault}
 use Rattle.lq_script_lines.specs.declared.run_fault.RunFault.TheVariants.{Memory, Write}
