@@ -1,5 +1,5 @@
 """The system's inotify by ctypes: a watch for each folder, and the names that changed in it."""
-import ctypes, errno, os, struct
+import ctypes, errno, os, struct, time
 
 from . import ENDED, UNUSABLE, Trouble
 from .disk import within_reach
@@ -35,13 +35,33 @@ class Inotify:
         libc.inotify_rm_watch(self.fd, watch)
 
     def events(self):
-        """The events since the last call, each as a watch, its kind, and a name or b""."""
+        """The events since the last call, each as a watch, its kind, and a name or b"".
+
+        A rename is two events, which the system adds one after the other. Where the second hasn't
+        come yet, it waits for it, but not long, since what leaves the folder has the first alone.
+        """
+        found = self.read()
+        for _ in range(3):
+            if self.pair(found, MOVED_FROM) <= self.pair(found, MOVED_TO):
+                break
+            time.sleep(0.01)
+            found += self.read()
+        return [(watch, kind, name) for watch, kind, _, name in found]
+
+    @staticmethod
+    def pair(events, half):
+        """The cookies of one half of the renames among these events."""
+        return {cookie for _, kind, cookie, _ in events if kind & half}
+
+    def read(self):
+        """The events that have come, with the cookie that both halves of a rename have."""
         try:
             data = os.read(self.fd, 1 << 20)
         except BlockingIOError:
-            return
-        at = 0
+            return []
+        found, at = [], 0
         while at < len(data):
-            watch, kind, _, size = HEAD.unpack_from(data, at)
+            watch, kind, cookie, size = HEAD.unpack_from(data, at)
             at += HEAD.size + size
-            yield watch, kind, data[at - size : at].rstrip(b"\0")
+            found.append((watch, kind, cookie, data[at - size : at].rstrip(b"\0")))
+        return found
