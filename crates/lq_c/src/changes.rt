@@ -1,8 +1,8 @@
 //! Changes of the volume.
 ghost use Rattle.lq_value.specs.declared.value.Value.TheVariants.{Int32, Int64, UInt32, UInt64};
-ghost use Rattle.lq_script_request.specs.Request.{asks_remove, asks_write, question_for};
+ghost use Rattle.lq_script_request.specs.Request.{asks_remove, asks_write, request_for};
 ghost use Rattle.lq_embed.specs.Calls.{Changes};
-ghost use Rattle.lq_embed.specs.Questions.{create_question, move_question, set_question, set_text_question, unset_question};
+ghost use Rattle.lq_embed.specs.Requests.{create_request, move_request, set_request, set_text_request, unset_request};
 ghost use Rattle.lq_c.specs.Held.{held_state};
 
 use crate::handle::Lq;
@@ -20,7 +20,7 @@ pub extern "C" fn lqp_create(
     out: &mut AppliedOut,
 ) -> u32
     ensures { Changes (held_state handle.old) (held_state handle.new)
-        (create_question dir name.now kind size time) result out.old out.new }
+        (create_request dir name.now kind size time) result out.old out.new }
 {
     handle
         .served_mut()
@@ -32,7 +32,7 @@ pub extern "C" fn lqp_create(
 #[unsafe(no_mangle)]
 pub extern "C" fn lqp_remove(handle: &mut Lq, node: u64, out: &mut AppliedOut) -> u32
     ensures { Changes (held_state handle.old) (held_state handle.new)
-        (question_for (asks_remove node))
+        (request_for (asks_remove node))
         result out.old out.new }
 {
     handle.served_mut().embedded.remove(node, out)
@@ -49,7 +49,7 @@ pub extern "C" fn lqp_move(
     out: &mut AppliedOut,
 ) -> u32
     ensures { Changes (held_state handle.old) (held_state handle.new)
-        (move_question node dir name.now clobber) result out.old out.new }
+        (move_request node dir name.now clobber) result out.old out.new }
 {
     handle
         .served_mut()
@@ -67,7 +67,7 @@ pub extern "C" fn lqp_write(
     out: &mut AppliedOut,
 ) -> u32
     ensures { Changes (held_state handle.old) (held_state handle.new)
-        (question_for (asks_write node size time)) result out.old out.new }
+        (request_for (asks_write node size time)) result out.old out.new }
 {
     handle.served_mut().embedded.write(node, size, time, out)
 }
@@ -82,7 +82,7 @@ pub extern "C" fn lqp_set_text(
     out: &mut AppliedOut,
 ) -> u32
     ensures { Changes (held_state handle.old) (held_state handle.new)
-        (set_text_question node attr.now text.now) result out.old out.new }
+        (set_text_request node attr.now text.now) result out.old out.new }
 {
     handle.served_mut().embedded.set_text(node, attr, text, out)
 }
@@ -97,7 +97,7 @@ pub extern "C" fn lqp_set_int32(
     out: &mut AppliedOut,
 ) -> u32
     ensures { Changes (held_state handle.old) (held_state handle.new)
-        (set_question node attr.now (Int32 value)) result out.old out.new }
+        (set_request node attr.now (Int32 value)) result out.old out.new }
 {
     handle
         .served_mut()
@@ -115,7 +115,7 @@ pub extern "C" fn lqp_set_int64(
     out: &mut AppliedOut,
 ) -> u32
     ensures { Changes (held_state handle.old) (held_state handle.new)
-        (set_question node attr.now (Int64 value)) result out.old out.new }
+        (set_request node attr.now (Int64 value)) result out.old out.new }
 {
     handle
         .served_mut()
@@ -133,7 +133,7 @@ pub extern "C" fn lqp_set_uint32(
     out: &mut AppliedOut,
 ) -> u32
     ensures { Changes (held_state handle.old) (held_state handle.new)
-        (set_question node attr.now (UInt32 value)) result out.old out.new }
+        (set_request node attr.now (UInt32 value)) result out.old out.new }
 {
     handle
         .served_mut()
@@ -151,7 +151,7 @@ pub extern "C" fn lqp_set_uint64(
     out: &mut AppliedOut,
 ) -> u32
     ensures { Changes (held_state handle.old) (held_state handle.new)
-        (set_question node attr.now (UInt64 value)) result out.old out.new }
+        (set_request node attr.now (UInt64 value)) result out.old out.new }
 {
     handle
         .served_mut()
@@ -162,7 +162,7 @@ pub extern "C" fn lqp_set_uint64(
 /// As `Embedded::unset`, whose status it answers.
 #[unsafe(no_mangle)]
 pub extern "C" fn lqp_unset(handle: &mut Lq, node: u64, attr: &[u8], out: &mut AppliedOut) -> u32
-    ensures { Changes (held_state handle.old) (held_state handle.new) (unset_question node attr.now)
+    ensures { Changes (held_state handle.old) (held_state handle.new) (unset_request node attr.now)
         result out.old out.new }
 {
     handle.served_mut().embedded.unset(node, attr, out)

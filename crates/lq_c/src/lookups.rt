@@ -1,9 +1,9 @@
 //! Looks at the volume.
 ghost use Rattle.std.specs.Prelude.{◌≡◌, Ok};
-ghost use Rattle.lq_script_request.specs.declared.question.Question.TheVariants as question;
+ghost use Rattle.lq_script_request.specs.declared.request.Request.TheVariants as request;
 ghost use Rattle.lq_embed.specs.Calls.{Fetches, FindsNode, Rebuilds, ShowsEntry};
 ghost use Rattle.lq_embed.specs.PathNames.{FindsPath};
-ghost use Rattle.lq_embed.specs.Questions.{fetch_question, find_question};
+ghost use Rattle.lq_embed.specs.Requests.{fetch_request, find_request};
 ghost use Rattle.lq_c.specs.Held.{held_state};
 ghost use Rattle.lq_c.specs.Numbers.{made_after, shown_after};
 
@@ -22,7 +22,7 @@ pub extern "C" fn lqp_fetch(
 ) -> u32
     ensures fetches { Fetches (held_state handle.old) (held_state handle.new)
         (held_state handle.old).pushed
-        (fetch_question formula.now) result out.old.fetched out.new.fetched }
+        (fetch_request formula.now) result out.old.fetched out.new.fetched }
     ensures made { made.new ≡ made_after result made.old }
     ensures number { out.new.result ≡ shown_after result made.old out.old.result }
 {
@@ -35,7 +35,7 @@ pub extern "C" fn lqp_fetch(
 /// As `Embedded::find`, whose status it answers.
 #[unsafe(no_mangle)]
 pub extern "C" fn lqp_find(handle: &mut Lq, dir: u64, name: &[u8], node: &mut u64) -> u32
-    ensures { FindsNode (held_state handle.old) (held_state handle.new) (find_question dir name.now)
+    ensures { FindsNode (held_state handle.old) (held_state handle.new) (find_request dir name.now)
         result node.old node.new }
 {
     handle.served_mut().embedded.find(dir, name, node)
@@ -54,7 +54,7 @@ pub extern "C" fn lqp_find_path(handle: &mut Lq, dir: u64, path: &[u8], node: &m
 #[unsafe(no_mangle)]
 pub extern "C" fn lqp_result(handle: &mut Lq, made: &mut u64, slot: u64, out: &mut Rebuilt) -> u32
     ensures rebuilds { Rebuilds (held_state handle.old) (held_state handle.new)
-        (Ok (question.Rebuilt slot))
+        (Ok (request.Rebuilt slot))
         result out.old.rebuilt out.new.rebuilt }
     ensures made { made.new ≡ made_after result made.old }
     ensures number { out.new.result ≡ shown_after result made.old out.old.result }
@@ -68,7 +68,7 @@ pub extern "C" fn lqp_result(handle: &mut Lq, made: &mut u64, slot: u64, out: &m
 /// As `Embedded::entry`, whose status it answers.
 #[unsafe(no_mangle)]
 pub extern "C" fn lqp_entry(handle: &mut Lq, node: u64, out: &mut InfoOut) -> u32
-    ensures { ShowsEntry (held_state handle.old) (held_state handle.new) (Ok (question.Entry node))
+    ensures { ShowsEntry (held_state handle.old) (held_state handle.new) (Ok (request.Entry node))
         result out.old out.new }
 {
     handle.served_mut().embedded.entry(node, out)

@@ -6,7 +6,7 @@ ghost use Rattle.lq_predicate.specs.Stacked.{new_stack};
 ghost use Rattle.lq_embed.specs.Calls.{Fetches};
 ghost use Rattle.lq_embed.specs.Numbers.{op_numbered};
 ghost use Rattle.lq_embed.specs.Opening.{OpensBy, backlog_of};
-ghost use Rattle.lq_embed.specs.Questions.{fetch_pushed, left_by, open_pushed, push_attr_outcome, push_op_outcome, push_text_outcome};
+ghost use Rattle.lq_embed.specs.Requests.{fetch_pushed, left_by, open_pushed, push_attr_outcome, push_op_outcome, push_text_outcome};
 ghost use Rattle.lq_embed.specs.SessionState.{with_pushed};
 ghost use Rattle.lq_c.specs.Held.{held_state};
 ghost use Rattle.lq_c.specs.Numbers.{PushesIn, after_take, has_room, made_after, shown_after};

@@ -9,13 +9,13 @@ use Rattle.lq_value.specs.Refusal.{code_of}
 use Rattle.lq_predicate.specs.Stacked.{Stacked}
 use Rattle.lq_script_desk.specs.Session.{Session}
 use Rattle.lq_desk_world.specs.Events.{Answer, Refused}
-use Rattle.lq_script_request.specs.declared.question.Question.{Question}
+use Rattle.lq_script_request.specs.declared.request.Request.{Request}
 use Rattle.lq_script_desk.specs.Response.{Response, Refuses}
 use Rattle.lq_embed.specs.declared.out_structs.AppliedOut.{AppliedOut}
 use Rattle.lq_embed.specs.declared.out_structs.OpeningOut.{OpeningOut}
 use Rattle.lq_embed.specs.declared.out_structs.FetchedOut.{FetchedOut}
 use Rattle.lq_embed.specs.Calls.{Asks, Changes, Fetches, FindsNode, Opens, Pushes, Responds}
-use Rattle.lq_embed.specs.Questions.{in_utf8}
+use Rattle.lq_embed.specs.Requests.{in_utf8}
 use Rattle.lq_embed.specs.Outs.{entries_after, fault_after, fetched_after, fetched_entries, looked_fault, opening_after}
 use Rattle.lq_embed.specs.SessionState.{SessionState, with_session}
 use Rattle.lq_embed.specs.Status.{response_status, status_of}
@@ -36,8 +36,8 @@ pub if-utf8 : {A : Type 0} (text : List ℕ) (x y : A) → IsUtf8 text
     → (if is_utf8 text then x else y) ≡ x
 if-utf8 text x y utf8 = rw (is_utf8-from_IsUtf8 text utf8) refl
 
--- a question that is refused for another text is refused the same before this text is read
-pub in_utf8-refused : (text : List ℕ) (q : Result Question Refusal) → q ≡ Err NotUtf8
+-- a request that is refused for another text is refused the same before this text is read
+pub in_utf8-refused : (text : List ℕ) (q : Result Request Refusal) → q ≡ Err NotUtf8
     → in_utf8 text q ≡ Err NotUtf8
 in_utf8-refused text q refused = at (is_utf8 text)
   where
@@ -47,15 +47,15 @@ in_utf8-refused text q refused = at (is_utf8 text)
 
 -- ---- changes
 
--- a change of the question, where it asks the same as another
-pub changes-as : {old new : SessionState} {q p : Result Question Refusal} {status : ℕ}
+-- a change of the request, where it asks the same as another
+pub changes-as : {old new : SessionState} {q p : Result Request Refusal} {status : ℕ}
     {before after : AppliedOut} → q ≡ p → Changes old new p status before after
     → Changes old new q status before after
 changes-as {old = old} {new = new} {status = status} {before = before} {after = after} same was =
-    subst (λ (r : Result Question Refusal). Changes old new r status before after) (sym same) was
+    subst (λ (r : Result Request Refusal). Changes old new r status before after) (sym same) was
 
--- a question that is refused changes nothing
-pub changes-barred : {old : SessionState} {q : Result Question Refusal} {status : ℕ}
+-- a request that is refused changes nothing
+pub changes-barred : {old : SessionState} {q : Result Request Refusal} {status : ℕ}
     {before : AppliedOut} (refusal : Refusal) → q ≡ Err refusal → status ≡ code_of refusal
     → Changes old old q status before before
 changes-barred refusal is code = changes-as is (record {
@@ -68,15 +68,15 @@ changes-barred refusal is code = changes-as is (record {
 
 -- ---- openings
 
-pub opens-as : {old new : SessionState} {q p : Result Question Refusal} {status : ℕ}
+pub opens-as : {old new : SessionState} {q p : Result Request Refusal} {status : ℕ}
     {before after : OpeningOut} → q ≡ p → Opens old new old.pushed p status before after
     → Opens old new old.pushed q status before after
 opens-as {old = old} {new = new} {status = status} {before = before} {after = after} same was =
-    subst (λ (r : Result Question Refusal). Opens old new old.pushed r status before after)
+    subst (λ (r : Result Request Refusal). Opens old new old.pushed r status before after)
     (sym same) was
 
 -- an opening that is refused as its formula is read, with no place
-pub opens-not_utf8 : {old : SessionState} {q : Result Question Refusal} {status : ℕ}
+pub opens-not_utf8 : {old : SessionState} {q : Result Request Refusal} {status : ℕ}
     {before : OpeningOut} → q ≡ Err NotUtf8 → status ≡ code_of NotUtf8
     → Opens old old old.pushed q status before before
 opens-not_utf8 is code = opens-as is (record {
@@ -91,7 +91,7 @@ opens-not_utf8 is code = opens-as is (record {
 })
 
 -- an opening, from what its turn did and what was kept of its reply
-pub opens-made : {old mid new : SessionState} {p : Result Question Refusal} {status : ℕ}
+pub opens-made : {old mid new : SessionState} {p : Result Request Refusal} {status : ℕ}
     {before after : OpeningOut} (answer : Answer) → Asks old.session mid.session p answer
     → mid ≡ with_session old mid.session → status ≡ status_of answer
     → after ≡ opening_after answer before
@@ -116,13 +116,13 @@ opens-made {old = old} {p = p} answer asks beside code out kept = record {
 
 -- ---- looks
 
-pub finds-as : {old new : SessionState} {q p : Result Question Refusal} {status before after : ℕ}
+pub finds-as : {old new : SessionState} {q p : Result Request Refusal} {status before after : ℕ}
     → q ≡ p → FindsNode old new p status before after → FindsNode old new q status before after
 finds-as {old = old} {new = new} {status = status} {before = before} {after = after} same was =
-    subst (λ (r : Result Question Refusal). FindsNode old new r status before after) (sym same) was
+    subst (λ (r : Result Request Refusal). FindsNode old new r status before after) (sym same) was
 
 -- a look-up of a place that isn't UTF-8
-pub finds-not_utf8 : {old : SessionState} {q : Result Question Refusal} {status before : ℕ}
+pub finds-not_utf8 : {old : SessionState} {q : Result Request Refusal} {status before : ℕ}
     → q ≡ Err NotUtf8 → status ≡ code_of NotUtf8 → FindsNode old old q status before before
 finds-not_utf8 is code = finds-as is (record {
   response = Refuses NotUtf8;
@@ -132,15 +132,15 @@ finds-not_utf8 is code = finds-as is (record {
   stays = refl;
 })
 
-pub fetches-as : {old new : SessionState} {q p : Result Question Refusal} {status : ℕ}
+pub fetches-as : {old new : SessionState} {q p : Result Request Refusal} {status : ℕ}
     {before after : FetchedOut} → q ≡ p → Fetches old new old.pushed p status before after
     → Fetches old new old.pushed q status before after
 fetches-as {old = old} {new = new} {status = status} {before = before} {after = after} same was =
-    subst (λ (r : Result Question Refusal). Fetches old new old.pushed r status before after)
+    subst (λ (r : Result Request Refusal). Fetches old new old.pushed r status before after)
     (sym same) was
 
 -- a fetch whose formula isn't UTF-8
-pub fetches-not_utf8 : {old : SessionState} {q : Result Question Refusal} {status : ℕ}
+pub fetches-not_utf8 : {old : SessionState} {q : Result Request Refusal} {status : ℕ}
     {before : FetchedOut} → q ≡ Err NotUtf8 → status ≡ code_of NotUtf8
     → Fetches old old old.pushed q status before before
 fetches-not_utf8 is code = fetches-as is (record {
@@ -156,7 +156,7 @@ fetches-not_utf8 is code = fetches-as is (record {
 })
 
 -- a fetch, from its response and what was kept of it
-pub fetches-made : {old mid new : SessionState} {response : Response} {p : Result Question Refusal}
+pub fetches-made : {old mid new : SessionState} {response : Response} {p : Result Request Refusal}
     {status : ℕ} {before after : FetchedOut} → Responds old.session p response → mid ≡ old
     → status ≡ response_status response → after ≡ fetched_after response before
     → new ≡ record mid {

@@ -11,13 +11,13 @@ use Rattle.lq_volume.specs.Folder.{Leads}
 use Rattle.lq_volume.specs.Lookup.{find_refusals}
 use Rattle.lq_volume.specs.State as volume
 use Rattle.lq_volume.specs.State.{Record, node_in}
-use Rattle.lq_script_request.specs.declared.question.Question.TheVariants.{Find}
+use Rattle.lq_script_request.specs.declared.request.Request.TheVariants.{Find}
 use Rattle.lq_script_desk.specs.Answered.{answered, found_answer}
 use Rattle.lq_script_desk.specs.Response.{Response, Refuses, Found}
 use Rattle.lq_embed.proofs.CallLemmas.{finds-as}
 use Rattle.lq_embed.specs.Calls.{FindsNode, Responds}
 use Rattle.lq_embed.specs.Outs.{node_after}
-use Rattle.lq_embed.specs.PathNames.{name_length, named_question, names_among, names_in, path_parts, with_byte}
+use Rattle.lq_embed.specs.PathNames.{name_length, named_request, names_among, names_in, path_parts, with_byte}
 use Rattle.lq_embed.specs.SessionState.{SessionState, volume_in}
 use Rattle.lq_embed.specs.Status.{response_status}
 
@@ -175,7 +175,7 @@ there-refused : (es : List (ℕ × Record)) (dir : ℕ) (name : List ℕ) (e : R
     → IsThere (Refuses e) es dir name
 there-refused es dir name e ok = absurd (coded e ok)
 
--- the response to the question of a name, whatever the tests of its bytes give
+-- the response to the request of a name, whatever the tests of its bytes give
 named-there : (old : SessionState) (dir : ℕ) (name : List ℕ) (long utf8 valid : Bool)
     → IsThere (answered old.session (if long then Err BadName
     else (if utf8 then (if valid then Ok (Find dir name) else Err BadName) else Err NotUtf8))).0
@@ -191,12 +191,12 @@ named-there old dir name false true true = there-found (volume_in old).records d
     (node_in (volume_in old).records dir name) refl
 
 pub found-node : {old new : SessionState} {status before after : ℕ} (dir : ℕ) (name : List ℕ)
-    → FindsNode old new (named_question dir name) status before after → status ≡ 0
+    → FindsNode old new (named_request dir name) status before after → status ≡ 0
     → node_in (volume_in old).records dir name ≡ Some after
 found-node {old = old} {before = before} {after = after} dir name finds ok =
     from (at finds.responds (sym finds.code ∙ ok))
   where
-    at : Responds old.session (named_question dir name) finds.response
+    at : Responds old.session (named_request dir name) finds.response
         → IsThere finds.response (volume_in old).records dir name
     at (inl is) = subst (λ (r : Response). IsThere r (volume_in old).records dir name) (sym is)
         (there-refused (volume_in old).records dir name NoMemory)
@@ -212,7 +212,7 @@ found-node {old = old} {before = before} {after = after} dir name finds ok =
 -- a name that is too long is refused unread
 pub finds-long : {old : SessionState} {status before : ℕ} (dir : ℕ) (name : List ℕ)
     → nat_lt 255 (length name) ≡ true → status ≡ code_of BadName
-    → FindsNode old old (named_question dir name) status before before
+    → FindsNode old old (named_request dir name) status before before
 finds-long dir name long code = finds-as {p = Err BadName} (rw long refl) (record {
   response = Refuses BadName;
   responds = inr refl;

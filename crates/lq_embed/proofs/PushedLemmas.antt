@@ -9,13 +9,13 @@ use Rattle.lq_predicate.specs.Stack.{refusal_at}
 use Rattle.lq_predicate.specs.Stacked.{new_stack}
 use Rattle.lq_desk_world.specs.declared.event.Event.TheVariants.{Open}
 use Rattle.lq_desk_world.specs.Events.{Refused}
-use Rattle.lq_script_request.specs.declared.question.Question.TheVariants.{Event, Fetch}
+use Rattle.lq_script_request.specs.declared.request.Request.TheVariants.{Event, Fetch}
 use Rattle.lq_script_desk.specs.Response.{Refuses}
 use Rattle.lq_embed.specs.declared.out_structs.OpeningOut.{OpeningOut}
 use Rattle.lq_embed.specs.declared.out_structs.FetchedOut.{FetchedOut}
 use Rattle.lq_embed.specs.Calls.{Fetches, Opens}
 use Rattle.lq_embed.specs.Outs.{fault_by}
-use Rattle.lq_embed.specs.Questions.{fetch_pushed, left_by, open_pushed}
+use Rattle.lq_embed.specs.Requests.{fetch_pushed, left_by, open_pushed}
 use Rattle.lq_embed.specs.SessionState.{SessionState, with_fault, with_pushed}
 
 -- an opening of none

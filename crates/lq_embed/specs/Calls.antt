@@ -8,8 +8,8 @@ use Rattle.lq_predicate.specs.Stacked.{Stacked}
 use Rattle.lq_desk_world.specs.declared.event.Event.{Event as Event_}
 use Rattle.lq_desk_world.specs.Events.{Answer, Refused}
 use Rattle.lq_desk.specs.Ready.{TellsReady}
-use Rattle.lq_script_request.specs.declared.question.Question.{Question}
-use Rattle.lq_script_request.specs.declared.question.Question.TheVariants.{Event}
+use Rattle.lq_script_request.specs.declared.request.Request.{Request}
+use Rattle.lq_script_request.specs.declared.request.Request.TheVariants.{Event}
 use Rattle.lq_script_desk.specs.Response.{Response, Refuses}
 use Rattle.lq_script_desk.specs.Session.{Session}
 use Rattle.lq_script_desk.specs.Keeps.{without_fold}
@@ -33,16 +33,16 @@ abbrev pub IsBarred : Session → Session → Refusal → Answer → Type 0
 IsBarred old new refusal answer =
     ((answer ≡ Refused refusal) ⊎ (answer ≡ Refused NoMemory)) × (new ≡ old)
 
--- A question's answer, and the session after it. A question that is refused as its values are read
+-- A request's answer, and the session after it. A request that is refused as its values are read
 -- changes nothing; an event has its turn, unless memory runs out before it.
-abbrev pub Asks : Session → Session → Result Question Refusal → Answer → Type 0
+abbrev pub Asks : Session → Session → Result Request Refusal → Answer → Type 0
 Asks old new (Err refusal) answer = IsBarred old new refusal answer
 Asks old new (Ok (Event event)) answer =
     IsBarred old new NoMemory answer ⊎ Turned old new event answer
 Asks old new (Ok look) answer = IsBarred old new BadLine answer
 
 -- a change
-pub record Changes (old new : SessionState) (q : Result Question Refusal) (status : ℕ)
+pub record Changes (old new : SessionState) (q : Result Request Refusal) (status : ℕ)
     (before after : AppliedOut) : Type 0 where
   pub answer : Answer
   pub asks : Asks old.session new.session q answer
@@ -51,7 +51,7 @@ pub record Changes (old new : SessionState) (q : Result Question Refusal) (statu
   pub beside : new ≡ with_session old new.session
 
 -- an opening, whose result is to be given; the stack of pushes afterwards
-pub record Opens (old new : SessionState) (stack : Stacked) (q : Result Question Refusal)
+pub record Opens (old new : SessionState) (stack : Stacked) (q : Result Request Refusal)
     (status : ℕ)
     (before after : OpeningOut) : Type 0 where
   pub answer : Answer
@@ -98,13 +98,13 @@ forgotten s slot = with_session s (without_fold s.session slot)
 
 -- ---- looks
 
--- the response to a question as to a line that asks it, or memory ran out
-abbrev pub Responds : Session → Result Question Refusal → Response → Type 0
+-- the response to a request as to a line that makes it, or memory ran out
+abbrev pub Responds : Session → Result Request Refusal → Response → Type 0
 Responds session q response = (response ≡ Refuses NoMemory)
     ⊎ (response ≡ (answered session q).0)
 
 -- the node at a place
-pub record FindsNode (old new : SessionState) (q : Result Question Refusal) (status : ℕ)
+pub record FindsNode (old new : SessionState) (q : Result Request Refusal) (status : ℕ)
     (before after : ℕ)
     : Type 0 where
   pub response : Response
@@ -114,7 +114,7 @@ pub record FindsNode (old new : SessionState) (q : Result Question Refusal) (sta
   pub stays : new ≡ old
 
 -- a fetch, whose result is to be given; the stack of pushes afterwards
-pub record Fetches (old new : SessionState) (stack : Stacked) (q : Result Question Refusal)
+pub record Fetches (old new : SessionState) (stack : Stacked) (q : Result Request Refusal)
     (status : ℕ)
     (before after : FetchedOut) : Type 0 where
   pub response : Response
@@ -128,7 +128,7 @@ pub record Fetches (old new : SessionState) (stack : Stacked) (q : Result Questi
   pub pushed : new.pushed ≡ stack
 
 -- a slot's rebuilt result, which is to be given
-pub record Rebuilds (old new : SessionState) (q : Result Question Refusal) (status : ℕ)
+pub record Rebuilds (old new : SessionState) (q : Result Request Refusal) (status : ℕ)
     (before after : RebuiltOut) : Type 0 where
   pub response : Response
   pub responds : Responds old.session q response
@@ -137,7 +137,7 @@ pub record Rebuilds (old new : SessionState) (q : Result Question Refusal) (stat
   pub entries : new ≡ with_entries old (rebuilt_entries response old.entries)
 
 -- the entry of a node
-pub record ShowsEntry (old new : SessionState) (q : Result Question Refusal) (status : ℕ)
+pub record ShowsEntry (old new : SessionState) (q : Result Request Refusal) (status : ℕ)
     (before after : InfoOut) : Type 0 where
   pub code : status ≡ response_status (answered old.session q).0
   pub out : after ≡ info_after (answered old.session q).0 before

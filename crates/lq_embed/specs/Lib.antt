@@ -2,7 +2,7 @@ pub mod SessionState
 pub mod Status
 pub mod Outs
 pub mod Numbers
-pub mod Questions
+pub mod Requests
 pub mod Calls
 pub mod Attrs
 pub mod Folders

@@ -2,7 +2,7 @@
 use Rattle.std.specs.Prelude.{◌≡◌, ◌==◌, ◌&&◌, ℕ, Bool, Result, if◌then◌else◌}
 use Rattle.lq_value.specs.declared.refusal.Refusal.{Refusal}
 use Rattle.lq_predicate.specs.Stacked.{Stacked}
-use Rattle.lq_script_request.specs.declared.question.Question.{Question}
+use Rattle.lq_script_request.specs.declared.request.Request.{Request}
 use Rattle.lq_embed.specs.declared.out_structs.OpenOptions.{OpenOptions}
 use Rattle.lq_embed.specs.declared.out_structs.OpeningOut.{OpeningOut}
 use Rattle.lq_embed.specs.Calls.{Opens, forgotten}
@@ -19,7 +19,7 @@ kept_by no_result status slot s =
 
 -- an opening, after which the slot has a rebuilt result only where it is wanted
 pub record OpensBy (old new : SessionState) (stack : Stacked) (options : OpenOptions)
-    (q : Result Question Refusal) (status : ℕ) (before after : OpeningOut) : Type 0 where
+    (q : Result Request Refusal) (status : ℕ) (before after : OpeningOut) : Type 0 where
   pub opened : SessionState
   pub opens : Opens old opened stack q status before after
   pub kept : new ≡ kept_by options.no_result status after.slot opened

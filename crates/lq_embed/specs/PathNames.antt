@@ -3,9 +3,9 @@ use Rattle.std.specs.Prelude.{◌≡◌, ◌≢◌, ◌⊎◌, ◌==◌, ℕ, su
 use Rattle.lq_value.specs.declared.refusal.Refusal.{Refusal}
 use Rattle.lq_value.specs.declared.refusal.Refusal.TheVariants.{BadName}
 use Rattle.lq_volume.specs.Folder.{Leads}
-use Rattle.lq_script_request.specs.declared.question.Question.{Question}
+use Rattle.lq_script_request.specs.declared.request.Request.{Request}
 use Rattle.lq_embed.specs.Calls.{FindsNode}
-use Rattle.lq_embed.specs.Questions.{find_question}
+use Rattle.lq_embed.specs.Requests.{find_request}
 use Rattle.lq_embed.specs.SessionState.{SessionState, volume_in}
 
 -- what stands between the `/` of a path, before the first and after the last
@@ -32,9 +32,9 @@ abbrev pub name_length : List ℕ → ℕ
 name_length [] = 0
 name_length (byte ∷ bytes) = if byte == 47 then 0 else suc (name_length bytes)
 
--- the question for a name of a path, whose size is tested before its bytes
-abbrev pub named_question : ℕ → List ℕ → Result Question Refusal
-named_question dir name = if nat_lt 255 (length name) then Err BadName else find_question dir name
+-- the request for a name of a path, whose size is tested before its bytes
+abbrev pub named_request : ℕ → List ℕ → Result Request Refusal
+named_request dir name = if nat_lt 255 (length name) then Err BadName else find_request dir name
 
 -- the names lead to the node, folder by folder
 pub record IsFoundAt (old new : SessionState) (dir : ℕ) (path : List ℕ) (status after : ℕ) :
@@ -53,7 +53,7 @@ pub record IsLostAt (old new : SessionState) (dir : ℕ) (path : List ℕ) (stat
   pub folder : ℕ
   pub leads : Leads (volume_in old).records dir names folder
   pub found : ℕ
-  pub finds : FindsNode old new (named_question folder name) status 0 found
+  pub finds : FindsNode old new (named_request folder name) status 0 found
   pub code : status ≢ 0
   pub out : after ≡ before
 

@@ -3,10 +3,10 @@ ghost use Rattle.std.specs.Prelude.{◌≡◌, ℤ};
 ghost use Rattle.lq_value.specs.declared.value.Value.TheVariants.{Int32, Int64, UInt32, UInt64};
 ghost use Rattle.lq_desk.specs.Reply.{answer_of};
 ghost use Rattle.lq_script_request.specs.Asked.{given};
-ghost use Rattle.lq_script_request.specs.Request.{asks_remove, asks_set, asks_write, question_for};
+ghost use Rattle.lq_script_request.specs.Request.{asks_remove, asks_set, asks_write, request_for};
 ghost use Rattle.lq_embed.specs.Calls.{Changes};
 ghost use Rattle.lq_embed.specs.Outs.{applied_after};
-ghost use Rattle.lq_embed.specs.Questions.{create_question, in_utf8, move_question, set_question, set_text_question, unset_question};
+ghost use Rattle.lq_embed.specs.Requests.{create_request, in_utf8, move_request, set_request, set_text_request, unset_request};
 ghost use Rattle.lq_embed.specs.SessionState.{holds};
 ghost use Rattle.lq_embed.specs.Status.{status_of};
 
@@ -15,7 +15,7 @@ use crate::numbers::kind_numbered;
 use crate::out_structs::AppliedOut;
 use crate::statuses::status;
 use lq_desk::Reply;
-use lq_script_request::Request;
+use lq_script_request::RawRequest;
 use lq_value::{Refusal, View};
 
 impl Embedded {
@@ -34,7 +34,7 @@ impl Embedded {
         out: &mut AppliedOut,
     ) -> u32
         ensures { Changes (holds self.old) (holds self.new)
-            (create_question dir name.now kind size time) result out.old out.new }
+            (create_request dir name.now kind size time) result out.old out.new }
     {
         let Ok(name) = str::from_utf8(name) else {
             return status(Refusal::NotUtf8);
@@ -42,7 +42,7 @@ impl Embedded {
         let Some(kind) = kind_numbered(kind) else {
             return status(Refusal::BadLine);
         };
-        let reply = self.answer_request(&Request::Create {
+        let reply = self.answer_request(&RawRequest::Create {
             dir,
             name,
             kind,
@@ -54,10 +54,10 @@ impl Embedded {
 
     /// Removes the entry of a node. Refused as by `Volume::apply`; `NoMemory`.
     pub fn remove(&mut self, node: u64, out: &mut AppliedOut) -> u32
-        ensures { Changes (holds self.old) (holds self.new) (question_for (asks_remove node))
+        ensures { Changes (holds self.old) (holds self.new) (request_for (asks_remove node))
             result out.old out.new }
     {
-        applied(self.answer_request(&Request::Remove { node }), out)
+        applied(self.answer_request(&RawRequest::Remove { node }), out)
     }
 
     /// Moves the entry of a node to another place; with `clobber` another node there is removed.
@@ -73,12 +73,12 @@ impl Embedded {
         out: &mut AppliedOut,
     ) -> u32
         ensures { Changes (holds self.old) (holds self.new)
-            (move_question node dir name.now clobber) result out.old out.new }
+            (move_request node dir name.now clobber) result out.old out.new }
     {
         let Ok(name) = str::from_utf8(name) else {
             return status(Refusal::NotUtf8);
         };
-        let reply = self.answer_request(&Request::Move {
+        let reply = self.answer_request(&RawRequest::Move {
             node,
             dir,
             name,
@@ -91,10 +91,10 @@ impl Embedded {
     /// `Volume::apply`; `NoMemory`.
     pub fn write(&mut self, node: u64, size: u64, time: i64, out: &mut AppliedOut) -> u32
         ensures { Changes (holds self.old) (holds self.new)
-            (question_for (asks_write node size time)) result out.old out.new }
+            (request_for (asks_write node size time)) result out.old out.new }
     {
         applied(
-            self.answer_request(&Request::Write { node, size, time }),
+            self.answer_request(&RawRequest::Write { node, size, time }),
             out,
         )
     }
@@ -105,7 +105,7 @@ impl Embedded {
     /// `TooLong` for the value, then as by `Volume::apply`; `NoMemory`.
     pub fn set_text(&mut self, node: u64, attr: &[u8], text: &[u8], out: &mut AppliedOut) -> u32
         ensures { Changes (holds self.old) (holds self.new)
-            (set_text_question node attr.now text.now) result out.old out.new }
+            (set_text_request node attr.now text.now) result out.old out.new }
     {
         let Ok(text) = str::from_utf8(text) else {
             return status(Refusal::NotUtf8);
@@ -117,7 +117,7 @@ impl Embedded {
     /// not with `TooLong`.
     pub fn set_int32(&mut self, node: u64, attr: &[u8], value: i32, out: &mut AppliedOut) -> u32
         ensures { Changes (holds self.old) (holds self.new)
-            (set_question node attr.now (Int32 value)) result out.old out.new }
+            (set_request node attr.now (Int32 value)) result out.old out.new }
     {
         self.set_attr(node, attr, View::Int32(value), out)
     }
@@ -125,7 +125,7 @@ impl Embedded {
     /// Sets an attribute of an entry to a number of 64 bits with a sign. Refused as `set_int32`.
     pub fn set_int64(&mut self, node: u64, attr: &[u8], value: i64, out: &mut AppliedOut) -> u32
         ensures { Changes (holds self.old) (holds self.new)
-            (set_question node attr.now (Int64 value)) result out.old out.new }
+            (set_request node attr.now (Int64 value)) result out.old out.new }
     {
         self.set_attr(node, attr, View::Int64(value), out)
     }
@@ -133,7 +133,7 @@ impl Embedded {
     /// Sets an attribute of an entry to a number of 32 bits without a sign. Refused as `set_int32`.
     pub fn set_uint32(&mut self, node: u64, attr: &[u8], value: u32, out: &mut AppliedOut) -> u32
         ensures { Changes (holds self.old) (holds self.new)
-            (set_question node attr.now (UInt32 value)) result out.old out.new }
+            (set_request node attr.now (UInt32 value)) result out.old out.new }
     {
         self.set_attr(node, attr, View::UInt32(value), out)
     }
@@ -141,7 +141,7 @@ impl Embedded {
     /// Sets an attribute of an entry to a number of 64 bits without a sign. Refused as `set_int32`.
     pub fn set_uint64(&mut self, node: u64, attr: &[u8], value: u64, out: &mut AppliedOut) -> u32
         ensures { Changes (holds self.old) (holds self.new)
-            (set_question node attr.now (UInt64 value)) result out.old out.new }
+            (set_request node attr.now (UInt64 value)) result out.old out.new }
     {
         self.set_attr(node, attr, View::UInt64(value), out)
     }
@@ -151,25 +151,25 @@ impl Embedded {
     /// Refused, the first that fits: `NotUtf8`, `BadName` for the attribute's name, then as by
     /// `Volume::apply`; `NoMemory`.
     pub fn unset(&mut self, node: u64, attr: &[u8], out: &mut AppliedOut) -> u32
-        ensures { Changes (holds self.old) (holds self.new) (unset_question node attr.now)
+        ensures { Changes (holds self.old) (holds self.new) (unset_request node attr.now)
             result out.old out.new }
     {
         let Ok(attr) = str::from_utf8(attr) else {
             return status(Refusal::NotUtf8);
         };
-        applied(self.answer_request(&Request::Unset { node, attr }), out)
+        applied(self.answer_request(&RawRequest::Unset { node, attr }), out)
     }
 
     // Sets an attribute of an entry to a value.
     fn set_attr(&mut self, node: u64, attr: &[u8], value: View<'_>, out: &mut AppliedOut) -> u32
         ensures { Changes (holds self.old) (holds self.new)
-            (in_utf8 attr.now (question_for (asks_set node attr.now (given value.entry))))
+            (in_utf8 attr.now (request_for (asks_set node attr.now (given value.entry))))
             result out.old out.new }
     {
         let Ok(attr) = str::from_utf8(attr) else {
             return status(Refusal::NotUtf8);
         };
-        let reply = self.answer_request(&Request::Set { node, attr, value });
+        let reply = self.answer_request(&RawRequest::Set { node, attr, value });
         applied(reply, out)
     }
 }

@@ -4,14 +4,14 @@ ghost use Rattle.lq_value.specs.Refusal.{FailsOnlyForMemory};
 ghost use Rattle.lq_desk.specs.Reply.{answer_of};
 ghost use Rattle.lq_script_desk.specs.Keeps.{keeps};
 ghost use Rattle.lq_script_request.specs.Asked.{asked};
-ghost use Rattle.lq_script_request.specs.Request.{question_for};
+ghost use Rattle.lq_script_request.specs.Request.{request_for};
 ghost use Rattle.lq_embed.specs.Calls.{Asks};
 ghost use Rattle.lq_embed.specs.SessionState.{first_state, holds, volume_in, with_session};
 
 use lq_desk::Reply;
 use lq_predicate::Stack;
 use lq_script_desk::Session;
-use lq_script_request::{Question, Request, Scratch, read_request};
+use lq_script_request::{RawRequest, Request, Scratch, read_request};
 use lq_value::{Entry, Refusal};
 use std::alloc::Global;
 use std::vec::IntoIter;
@@ -66,13 +66,13 @@ impl Embedded {
     }
 
     // Carries out the event that a request asks for.
-    pub(crate) fn answer_request(&mut self, request: &Request<'_>) -> Reply
+    pub(crate) fn answer_request(&mut self, raw: &RawRequest<'_>) -> Reply
         ensures asks { Asks (keeps self.old.session) (keeps self.new.session)
-            (question_for (asked request.now)) (answer_of result) }
+            (request_for (asked raw.now)) (answer_of result) }
         ensures beside { holds self.new ≡ with_session (holds self.old) (keeps self.new.session) }
     {
-        match read_request(self.alloc, &mut self.scratch, request) {
-            Ok(Question::Event(event)) => self.session.turn(&event),
+        match read_request(self.alloc, &mut self.scratch, raw) {
+            Ok(Request::Event(event)) => self.session.turn(&event),
             Ok(_) => Reply::Refused(Refusal::BadLine),
             Err(refusal) => Reply::Refused(refusal),
         }

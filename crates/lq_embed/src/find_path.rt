@@ -1,7 +1,7 @@
 //! The entry at the end of a path.
 ghost use Rattle.std.specs.Prelude.{◌≡◌, ◌+◌, ◌≤◌, drop, length};
 ghost use Rattle.lq_embed.specs.Calls.{FindsNode};
-ghost use Rattle.lq_embed.specs.PathNames.{FindsPath, name_length, named_question};
+ghost use Rattle.lq_embed.specs.PathNames.{FindsPath, name_length, named_request};
 ghost use Rattle.lq_embed.specs.SessionState.{holds};
 
 use crate::embedded::Embedded;
@@ -43,7 +43,7 @@ impl Embedded {
 
     // Finds the node at a place; the size of the name is tested before its bytes.
     fn find_named(&mut self, dir: u64, name: &[u8], node: &mut u64) -> u32
-        ensures { FindsNode (holds self.old) (holds self.new) (named_question dir name.now)
+        ensures { FindsNode (holds self.old) (holds self.new) (named_request dir name.now)
             result node.old node.new }
     {
         if name.len() > MAX_NAME {

@@ -2,7 +2,7 @@
 //! kept until it is asked for.
 //!
 //! Contracts see what an embedded session holds as a `SessionState` (`specs/SessionState`). Each
-//! call asks the question that a line with the same fields asks (`specs/Questions`), and
+//! call makes the request that a line with the same fields makes (`specs/Requests`), and
 //! `specs/Calls` ties a call's status and what it writes to the answer. The structs have C's
 //! layout. Nothing here waits. Begin with `embedded`, then `changes`, then `live_queries`.
 #![tactic(auto)]

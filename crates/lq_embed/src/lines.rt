@@ -3,7 +3,7 @@ ghost use Rattle.std.specs.Prelude.{◌≡◌, IfErr, OnOk};
 ghost use Rattle.lq_value.specs.declared.refusal.Refusal.TheVariants.{NoMemory};
 ghost use Rattle.lq_script_lines.specs.Lines.{line_of, reply_to, state_after};
 ghost use Rattle.lq_script_desk.specs.Script.{world_rules};
-ghost use Rattle.lq_script_desk.specs.History.{question_of};
+ghost use Rattle.lq_script_desk.specs.History.{request_of};
 ghost use Rattle.lq_script_desk.specs.SessionHistory.{LineKeepsHistory};
 ghost use Rattle.lq_embed.specs.SessionState.{holds, with_session, with_text};
 
@@ -23,7 +23,7 @@ impl Embedded {
             ≡ state_after world_rules (holds self.old).session (line_of line.now)) }
         ensures memory { IfErr result (λ e. e ≡ NoMemory) }
         ensures history { LineKeepsHistory (holds self.old).session.core
-            (holds self.new).session.core result (question_of (line_of line.now)) }
+            (holds self.new).session.core result (request_of (line_of line.now)) }
         ensures beside { holds self.new
             ≡ with_text (with_session (holds self.old) (holds self.new).session)
             (holds self.new).text }

@@ -5,7 +5,7 @@ ghost use Rattle.lq_desk.specs.Reply.{answer_of};
 ghost use Rattle.lq_desk_world.specs.declared.event.Event.TheVariants.{Close, Finish, HangUp, Take};
 ghost use Rattle.lq_embed.specs.Calls.{Acts, Ends, GivesRow, ReadsSlot, Opens, TellsSlots, forgotten};
 ghost use Rattle.lq_embed.specs.Outs.{bare_after, change_after, entries_after, fault_after, fault_by, from_dir_of, from_name_of, message_after, number_of_cause, number_of_op, opening_after, read_after, row_after, text_put};
-ghost use Rattle.lq_embed.specs.Questions.{open_question};
+ghost use Rattle.lq_embed.specs.Requests.{open_request};
 ghost use Rattle.lq_embed.specs.SessionState.{holds};
 ghost use Rattle.lq_embed.specs.Status.{status_of};
 
@@ -15,7 +15,7 @@ use crate::out_structs::{MessageOut, OpeningOut, RowOut};
 use crate::out_text::put_text;
 use crate::statuses::status;
 use lq_desk::{Event, Read, Reply};
-use lq_script_request::Request;
+use lq_script_request::RawRequest;
 use lq_update::{Cause, Mark, Message, Opcode};
 use lq_value::{Entry, Refusal};
 use lq_volume::Volume;
@@ -34,12 +34,12 @@ impl Embedded {
         out: &mut OpeningOut,
     ) -> u32
         ensures { Opens (holds self.old) (holds self.new) (holds self.old).pushed
-            (open_question formula.now port backlog moved) result out.old out.new }
+            (open_request formula.now port backlog moved) result out.old out.new }
     {
         let Ok(query) = str::from_utf8(formula) else {
             return status(Refusal::NotUtf8);
         };
-        let reply = self.answer_request(&Request::Open {
+        let reply = self.answer_request(&RawRequest::Open {
             query,
             port,
             backlog,

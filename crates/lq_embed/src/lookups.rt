@@ -4,15 +4,15 @@ ghost use Rattle.std.specs.Option.{option_map};
 ghost use Rattle.lq_value.specs.declared.refusal.Refusal.TheVariants.{NoMemory};
 ghost use Rattle.lq_volume.specs.Result.{result_of};
 ghost use Rattle.lq_script_request.specs.Asked.{asked};
-ghost use Rattle.lq_script_request.specs.Request.{question_for};
-ghost use Rattle.lq_script_request.specs.declared.question.Question.TheVariants.{Entry, Rebuilt};
+ghost use Rattle.lq_script_request.specs.Request.{request_for};
+ghost use Rattle.lq_script_request.specs.declared.request.Request.TheVariants.{Entry, Rebuilt};
 ghost use Rattle.lq_script_desk.specs.Answer.{response_of};
 ghost use Rattle.lq_script_desk.specs.Response.{Fetched, Refuses};
 ghost use Rattle.lq_script_desk.specs.Answered.{found_in, rebuilt};
 ghost use Rattle.lq_script_desk.specs.Keeps.{keeps};
 ghost use Rattle.lq_embed.specs.Calls.{Fetches, FindsNode, Rebuilds, Responds, ShowsEntry};
 ghost use Rattle.lq_embed.specs.Outs.{fetched_after, fetched_entries, looked_fault, node_after, rebuilt_after, rebuilt_entries};
-ghost use Rattle.lq_embed.specs.Questions.{fetch_question, find_question};
+ghost use Rattle.lq_embed.specs.Requests.{fetch_request, find_request};
 ghost use Rattle.lq_embed.specs.SessionState.{holds, with_entries};
 ghost use Rattle.lq_embed.specs.Status.{response_status};
 
@@ -23,7 +23,7 @@ use crate::out_text::put_text;
 use crate::statuses::status;
 use lq_predicate::Predicate;
 use lq_script_desk::Response;
-use lq_script_request::{Question, Request, read_request};
+use lq_script_request::{RawRequest, Request, read_request};
 use lq_update::IndexedRebuild;
 use lq_value::{Name, Refusal};
 use lq_volume::Volume;
@@ -34,12 +34,12 @@ impl Embedded {
     /// Refused, the first that fits: `NotUtf8`, `BadQuery`; `NoMemory`.
     pub fn fetch(&mut self, formula: &[u8], out: &mut FetchedOut) -> u32
         ensures { Fetches (holds self.old) (holds self.new) (holds self.old).pushed
-            (fetch_question formula.now) result out.old out.new }
+            (fetch_request formula.now) result out.old out.new }
     {
         let Ok(query) = str::from_utf8(formula) else {
             return status(Refusal::NotUtf8);
         };
-        let response = self.look(&Request::Fetch { query });
+        let response = self.look(&RawRequest::Fetch { query });
         self.fetched(response, out)
     }
 
@@ -47,13 +47,13 @@ impl Embedded {
     ///
     /// Refused, the first that fits: `NotUtf8`, `BadName`, then as by `Volume::find`; `NoMemory`.
     pub fn find(&mut self, dir: u64, name: &[u8], node: &mut u64) -> u32
-        ensures { FindsNode (holds self.old) (holds self.new) (find_question dir name.now)
+        ensures { FindsNode (holds self.old) (holds self.new) (find_request dir name.now)
             result node.old node.new }
     {
         let Ok(name) = str::from_utf8(name) else {
             return status(Refusal::NotUtf8);
         };
-        put_node(&self.look(&Request::Find { dir, name }), node)
+        put_node(&self.look(&RawRequest::Find { dir, name }), node)
     }
 
     /// The rebuilt result of a slot, which is then to be given.
@@ -63,7 +63,7 @@ impl Embedded {
         ensures { Rebuilds (holds self.old) (holds self.new) (Ok (Rebuilt slot))
             result out.old out.new }
     {
-        let response = self.respond(&Question::Rebuilt { slot });
+        let response = self.respond(&Request::Rebuilt { slot });
         self.given(response, out)
     }
 
@@ -119,28 +119,28 @@ impl Embedded {
         }
     }
 
-    // The response to a request for a look.
-    fn look(&mut self, request: &Request<'_>) -> Response
-        ensures responds { Responds (keeps self.old.session) (question_for (asked request.now))
+    // The response to a raw request for a look.
+    fn look(&mut self, raw: &RawRequest<'_>) -> Response
+        ensures responds { Responds (keeps self.old.session) (request_for (asked raw.now))
             (response_of result) }
         ensures stays { holds self.new ≡ holds self.old }
     {
-        match read_request(self.alloc, &mut self.scratch, request) {
-            Ok(question) => self.respond(&question),
+        match read_request(self.alloc, &mut self.scratch, raw) {
+            Ok(request) => self.respond(&request),
             Err(refusal) => Response::Refused(refusal),
         }
     }
 
-    // The response to a question for a look, or that memory ran out. No look is an event.
-    pub(crate) fn respond(&self, question: &Question) -> Response
-        ensures { Responds (keeps self.now.session) (Ok question.now) (response_of result) }
+    // The response to a request for a look, or that memory ran out. No look is an event.
+    pub(crate) fn respond(&self, request: &Request) -> Response
+        ensures { Responds (keeps self.now.session) (Ok request.now) (response_of result) }
     {
         let volume = self.session.volume();
-        match question {
-            Question::Find { dir, name } => found(volume, *dir, name),
-            Question::Fetch { predicate } => matching(volume, predicate),
-            Question::Rebuilt { slot } => rebuilt(self.session.rebuild(*slot)),
-            Question::Event(_) | Question::Entry { .. } => Response::Refused(Refusal::NoMemory),
+        match request {
+            Request::Find { dir, name } => found(volume, *dir, name),
+            Request::Fetch { predicate } => matching(volume, predicate),
+            Request::Rebuilt { slot } => rebuilt(self.session.rebuild(*slot)),
+            Request::Event(_) | Request::Entry { .. } => Response::Refused(Refusal::NoMemory),
         }
     }
 

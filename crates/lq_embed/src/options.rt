@@ -2,7 +2,7 @@
 ghost use Rattle.std.specs.Prelude.{◌≡◌};
 ghost use Rattle.lq_predicate.specs.Stack.{only_part};
 ghost use Rattle.lq_embed.specs.Opening.{OpensBy, backlog_of, kept_by};
-ghost use Rattle.lq_embed.specs.Questions.{left_by, open_pushed, open_question};
+ghost use Rattle.lq_embed.specs.Requests.{left_by, open_pushed, open_request};
 ghost use Rattle.lq_embed.specs.SessionState.{holds};
 
 use crate::embedded::Embedded;
@@ -18,7 +18,7 @@ impl Embedded {
     /// Opens a live query of a formula with a port of one place. Refused as `subscribe`.
     pub fn open_by(&mut self, formula: &[u8], options: &OpenOptions, out: &mut OpeningOut) -> u32
         ensures { OpensBy (holds self.old) (holds self.new) (holds self.old).pushed options.now
-            (open_question formula.now 1 (backlog_of options.now.backlog) options.now.moved)
+            (open_request formula.now 1 (backlog_of options.now.backlog) options.now.moved)
             result out.old out.new }
     {
         let backlog = backlog_of(options.backlog);

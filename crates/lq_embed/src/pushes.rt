@@ -4,12 +4,12 @@ ghost use Rattle.std.specs.Fmt.{decimal, signed_decimal};
 ghost use Rattle.lq_predicate.specs.Stack.{attr_pushed, only_part, op_pushed, text_pushed};
 ghost use Rattle.lq_predicate.specs.Stacked.{new_stack};
 ghost use Rattle.lq_desk_world.specs.declared.event.Event.TheVariants.{Open};
-ghost use Rattle.lq_script_request.specs.declared.question.Question.TheVariants as question;
+ghost use Rattle.lq_script_request.specs.declared.request.Request.TheVariants as request;
 ghost use Rattle.lq_embed.specs.Calls.{Fetches, Opens, Pushes};
 ghost use Rattle.lq_embed.specs.Numbers.{op_numbered};
 ghost use Rattle.lq_embed.specs.Outs.{outcome_fault};
 ghost use Rattle.lq_embed.specs.Status.{outcome_status};
-ghost use Rattle.lq_embed.specs.Questions.{fetch_pushed, left_by, open_pushed, push_attr_outcome, push_op_outcome, push_text_outcome};
+ghost use Rattle.lq_embed.specs.Requests.{fetch_pushed, left_by, open_pushed, push_attr_outcome, push_op_outcome, push_text_outcome};
 ghost use Rattle.lq_embed.specs.SessionState.{holds, with_fault, with_pushed};
 
 use crate::embedded::Embedded;
@@ -18,7 +18,7 @@ use crate::out_structs::{FetchedOut, OpeningOut};
 use crate::statuses::status;
 use lq_desk::Event;
 use lq_predicate::{Predicate, Stack, StackOp};
-use lq_script_request::Question;
+use lq_script_request::Request;
 use lq_value::Refusal;
 
 impl Embedded {
@@ -165,7 +165,7 @@ impl Embedded {
         out: &mut OpeningOut,
     ) -> u32
         ensures { Opens (holds self.old) (holds self.new) (holds self.old).pushed
-            (Ok (question.Event (Open predicate port backlog moved))) result out.old out.new }
+            (Ok (request.Event (Open predicate port backlog moved))) result out.old out.new }
     {
         let reply = self.session.turn(&Event::Open {
             predicate,
@@ -189,7 +189,7 @@ impl Embedded {
         match self.stack.finish() {
             Err(refusal) => self.refused(refusal),
             Ok(predicate) => {
-                let response = self.respond(&Question::Fetch { predicate });
+                let response = self.respond(&Request::Fetch { predicate });
                 self.fetched(response, out)
             }
         }

@@ -8,7 +8,7 @@ use crate::server_session::ServerSession;
 use crate::tokens::OwnSeat;
 use lq_script_desk::Response;
 use lq_script_lines::{LF, RunFault, Sink};
-use lq_script_request::{Event, Question, Scratch, question_in};
+use lq_script_request::{Event, Request, Scratch, request_in};
 use lq_server::Named;
 use lq_value::Refusal;
 use memchr::memchr;
@@ -113,7 +113,7 @@ impl<
             self.new.output.replies.items) }
     {
         match asked_by(self.alloc, &mut self.scratch, line) {
-            Ok(question) => self.take_question(&question),
+            Ok(request) => self.take_request(&request),
             Err(Refusal::NoMemory) => Err(RunFault::Memory),
             Err(refusal) => {
                 self.end_batch()?;
@@ -122,7 +122,7 @@ impl<
         }
     }
 
-    fn take_question(&mut self, question: &Question) -> Result<(), RunFault>
+    fn take_request(&mut self, request: &Request) -> Result<(), RunFault>
         ensures same { self.new.output.writer.ghost_name ≡ self.old.output.writer.ghost_name }
         ensures cause { IfErr result (λ e. e ≡ RunFault.Write →
             (W.failed self.new.output.writer.now ≡ true)
@@ -133,11 +133,11 @@ impl<
             (seat_standing self.new.session.seat (W.written self.new.output.writer.now)
             self.new.output.replies.items) }
     {
-        if let Some(slot) = slot_of_read(question) {
+        if let Some(slot) = slot_of_read(request) {
             return self.put_read(slot);
         }
         self.end_batch()?;
-        match self.session.answer(question) {
+        match self.session.answer(request) {
             Ok(response) => self.output.put(&response),
             Err(Refusal::NoMemory) => Err(RunFault::Memory),
             Err(refusal) => self.output.put(&Response::Refused(refusal)),
@@ -196,18 +196,18 @@ fn after(bytes: &[u8], place: usize) -> &[u8]
     &bytes[place + 1..]
 }
 
-// The question of a line, which is empty where the line was too long. Refused as the line is.
-fn asked_by(alloc: Global, scratch: &mut Scratch, line: &[u8]) -> Result<Question, Refusal> {
+// The request of a line, which is empty where the line was too long. Refused as the line is.
+fn asked_by(alloc: Global, scratch: &mut Scratch, line: &[u8]) -> Result<Request, Refusal> {
     if line.is_empty() {
         return Err(Refusal::LongLine);
     }
-    question_in(alloc, scratch, line)
+    request_in(alloc, scratch, line)
 }
 
-// The slot of a read; `None` of any other question.
-fn slot_of_read(question: &Question) -> Option<u64> {
-    match question {
-        Question::Event(Event::Take(slot)) => Some(*slot),
+// The slot of a read; `None` of any other request.
+fn slot_of_read(request: &Request) -> Option<u64> {
+    match request {
+        Request::Event(Event::Take(slot)) => Some(*slot),
         _ => None,
     }
 }

@@ -11,7 +11,7 @@ use crate::tokens::OwnSeat;
 use crate::workers::Workers;
 use lq_predicate::Predicate;
 use lq_script_desk::{Reply, Response};
-use lq_script_request::{Event, Question};
+use lq_script_request::{Event, Request};
 use lq_server::{Named, Server};
 use lq_value::Refusal;
 use std::alloc::Global;
@@ -102,19 +102,19 @@ impl<
         Ok(())
     }
 
-    /// The answer to a question that is no read. Refused as the question is; after `NoMemory` the
+    /// The answer to a request that is no read. Refused as the request is; after `NoMemory` the
     /// session is of no more use.
-    pub fn answer(&mut self, question: &Question) -> Result<Response, Refusal>
+    pub fn answer(&mut self, request: &Request) -> Result<Response, Refusal>
         ensures made { IfOk result (λ r.
             MakesMore self.old.seat self.new.seat (change_told (response_of r))) }
         ensures err { OnErr result (MakesMore self.old.seat self.new.seat []) }
     {
-        match question {
-            Question::Event(event) => self.event(event),
-            Question::Find { dir, name } => self.seat.find(self.rt, self.server, *dir, name),
-            Question::Entry { node } => self.seat.listing(self.rt, self.server, *node),
-            Question::Fetch { predicate } => self.seat.fetch(self.rt, self.server, predicate),
-            Question::Rebuilt { slot } => self.readers.reader(*slot)?.rebuilt(self.alloc),
+        match request {
+            Request::Event(event) => self.event(event),
+            Request::Find { dir, name } => self.seat.find(self.rt, self.server, *dir, name),
+            Request::Entry { node } => self.seat.listing(self.rt, self.server, *node),
+            Request::Fetch { predicate } => self.seat.fetch(self.rt, self.server, predicate),
+            Request::Rebuilt { slot } => self.readers.reader(*slot)?.rebuilt(self.alloc),
         }
     }
 

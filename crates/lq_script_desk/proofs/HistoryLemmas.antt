@@ -9,16 +9,16 @@ use Rattle.lq_desk_world.specs.Runs.{Run}
 use Rattle.lq_desk_world.specs.Turns.{Turn, after_events, all_puts, at_each, carried_out, events_in, notices, one_notice, places_at, ports_of, puts, turn_of, turn_outcome}
 use Rattle.lq_script_lines.specs.Lines.{Line, Rules, whole, line_of, reply_to, replies_to, state_after}
 use Rattle.lq_script_lines.specs.Progress.{state_after_all}
-use Rattle.lq_script_request.specs.declared.question.Question.{Question}
-use Rattle.lq_script_request.specs.declared.question.Question.TheVariants as question
-use Rattle.lq_script_request.specs.Request.{question_in}
+use Rattle.lq_script_request.specs.declared.request.Request.{Request}
+use Rattle.lq_script_request.specs.declared.request.Request.TheVariants as request
+use Rattle.lq_script_request.specs.Request.{request_in}
 use Rattle.lq_script_desk.specs.Answered.{answered, responds, slot_named}
 use Rattle.lq_script_desk.specs.Folds.{folds_after}
 use Rattle.lq_script_desk.specs.Reply.{reply_text}
 use Rattle.lq_script_desk.specs.Response.{Answers}
 use Rattle.lq_script_desk.specs.Script.{script_session, script_world, world_rules}
 use Rattle.lq_script_desk.specs.Session.{Session, session_with}
-use Rattle.lq_script_desk.specs.History.{IsReplied, answer_after, answers_to, event_of, events_asked, events_before, events_of, question_of, question_read, replies_of, session_after, turns_of, world_after}
+use Rattle.lq_script_desk.specs.History.{IsReplied, answer_after, answers_to, event_of, events_asked, events_before, events_of, request_of, request_read, replies_of, session_after, turns_of, world_after}
 
 -- ---- events one after another
 
@@ -149,7 +149,7 @@ turn-folds s (Close k) =
 turn-folds s e = refl
 
 -- the session after an event's turn is the one after the turn's events
-turn-session : (s : Session) (e : Event) → (responds s (question.Event e)).1
+turn-session : (s : Session) (e : Event) → (responds s (request.Event e)).1
     ≡ after_events session_step s (events_in (turn_of (ports_of s.core) e))
 turn-session s e =
     let events = events_in (turn_of (ports_of s.core) e) in
@@ -161,14 +161,14 @@ abbrev ArePlayed : List (List ℕ) → Type 0
 ArePlayed lines = (s : Session) → state_after_all world_rules s lines
     ≡ after_events session_step s (turns_of s.core (events_asked lines))
 
--- a question before such lines, read or not
+-- a request before such lines, read or not
 read-played : (lines : List (List ℕ)) → ArePlayed lines → (s : Session)
-    (r : Result Question Refusal) → state_after_all world_rules (answered s r).1 lines
+    (r : Result Request Refusal) → state_after_all world_rules (answered s r).1 lines
     ≡ after_events session_step s
-    (turns_of s.core (event_of (question_read r) ++ events_asked lines))
-read-played lines played s (Ok (question.Event e)) =
+    (turns_of s.core (event_of (request_read r) ++ events_asked lines))
+read-played lines played s (Ok (request.Event e)) =
     let rest = turns_of (turn_outcome s.core e).1 (events_asked lines) in
-    played (responds s (question.Event e)).1
+    played (responds s (request.Event e)).1
     ∙ (ap (λ (t : Session). after_events session_step t rest) (turn-session s e)
     ∙ sym (after_events-append session_step s (events_in (turn_of (ports_of s.core) e)) rest))
 read-played lines played s (Ok q) = played s
@@ -178,8 +178,8 @@ read-played lines played s (Err e) = played s
 line-played : (lines : List (List ℕ)) → ArePlayed lines → (s : Session) (l : Line)
     → state_after_all world_rules (state_after world_rules s l) lines
     ≡ after_events session_step s
-    (turns_of s.core (event_of (question_of l) ++ events_asked lines))
-line-played lines played s (whole bytes) = read-played lines played s (question_in bytes)
+    (turns_of s.core (event_of (request_of l) ++ events_asked lines))
+line-played lines played s (whole bytes) = read-played lines played s (request_in bytes)
 line-played lines played s l = played s
 
 -- all lines are played
@@ -222,15 +222,15 @@ reply-place lines before after bytes is =
           ∙ sym (append_assoc (replies_of before) (reply_to world_rules s (line_of bytes)) rest)),
     )
 
--- the response to a question that was read
-read-response : (s : Session) (r : Result Question Refusal) (q : Question)
-    → question_read r ≡ Some q → (answered s r).0 ≡ (responds s q).0
+-- the response to a request that was read
+read-response : (s : Session) (r : Result Request Refusal) (q : Request)
+    → request_read r ≡ Some q → (answered s r).0 ≡ (responds s q).0
 read-response s r q is = grind arith
 
--- the reply to a line that asks a question
-pub line-reply : (s : Session) (l : Line) (q : Question) → question_of l ≡ Some q
+-- the reply to a line that makes a request
+pub line-reply : (s : Session) (l : Line) (q : Request) → request_of l ≡ Some q
     → reply_to world_rules s l ≡ reply_text (responds s q).0
-line-reply s (whole bytes) q is = ap reply_text (read-response s (question_in bytes) q is)
+line-reply s (whole bytes) q is = ap reply_text (read-response s (request_in bytes) q is)
 line-reply s l q is = absurd (let no : ⊥ = cc in no)
 
 -- the answer to the event of the next line
@@ -247,7 +247,7 @@ answer-turn before e =
 
 -- the events of a script with a line that asks for an event
 pub events-place : (lines before after : List (List ℕ)) (bytes : List ℕ) (e : Event)
-    → lines ≡ before ++ bytes ∷ after → question_of (line_of bytes) ≡ Some (question.Event e)
+    → lines ≡ before ++ bytes ∷ after → request_of (line_of bytes) ≡ Some (request.Event e)
     → (later : List Event) × (events_of lines ≡ events_before before e ++ e ∷ later)
 events-place lines before after bytes e is asks =
     let w = world_after before in
@@ -264,7 +264,7 @@ events-place lines before after bytes e is asks =
 
 -- the reply to a line that asks for an event is the text of the event's answer
 pub replied : (lines before after : List (List ℕ)) (bytes : List ℕ) (e : Event)
-    → lines ≡ before ++ bytes ∷ after → question_of (line_of bytes) ≡ Some (question.Event e)
+    → lines ≡ before ++ bytes ∷ after → request_of (line_of bytes) ≡ Some (request.Event e)
     → IsReplied lines before e
 replied lines before after bytes e is asks =
     let first = events_before before e in
@@ -272,7 +272,7 @@ replied lines before after bytes e is asks =
     let text = reply-place lines before after bytes is in
     let own : reply_to world_rules (session_after before) (line_of bytes)
     ≡ reply_text (Answers (slot_named e) (answer_after before e)) =
-    line-reply (session_after before) (line_of bytes) (question.Event e) asks
+    line-reply (session_after before) (line_of bytes) (request.Event e) asks
     ∙ ap (λ a. reply_text (Answers (slot_named e) a)) (answer-turn before e) in record {
       later = place.0;
       events = place.1;

@@ -1,4 +1,4 @@
--- The answer to a question in a session, and the session after it.
+-- The answer to a request in a session, and the session after it.
 use Rattle.std.specs.Prelude.{ℕ, List, Option, Some, None, Result, Ok, Err}
 use Rattle.lq_value.specs.declared.refusal.Refusal.{Refusal}
 use Rattle.lq_value.specs.declared.refusal.Refusal.TheVariants.{NoNode, NoEntry, NotOpen}
@@ -12,8 +12,8 @@ use Rattle.lq_desk_world.specs.Events.{Answer}
 use Rattle.lq_desk_world.specs.Turns.{turn_outcome}
 use Rattle.lq_desk_world.specs.World.{World}
 use Rattle.lq_update.specs.Fold.{Folding}
-use Rattle.lq_script_request.specs.declared.question.Question.{Question}
-use Rattle.lq_script_request.specs.declared.question.Question.TheVariants as question
+use Rattle.lq_script_request.specs.declared.request.Request.{Request}
+use Rattle.lq_script_request.specs.declared.request.Request.TheVariants as request
 use Rattle.lq_script_desk.specs.Response.{Response, Answers, Refuses, Found, Listed, Fetched, Rebuilt}
 use Rattle.lq_script_desk.specs.Folds.{Folds, fold_at, folds_after}
 use Rattle.lq_script_desk.specs.Session.{Session, session_with, volume_of}
@@ -59,15 +59,15 @@ rebuilt (Some f) = Rebuilt f.change f.entries f.settled
 abbrev pub answered_event : ℕ → Folds → Answer × World → Response × Session
 answered_event slot folds p = (Answers slot p.0, session_with p.1 (folds_after slot p.0 folds))
 
--- the answer to a question, and the session after it: only an event changes it
-abbrev pub responds : Session → Question → Response × Session
-responds s (question.Event e) = answered_event (slot_named e) s.folds (turn_outcome s.core e)
-responds s (question.Find dir name) = (found_in (volume_of s) dir name, s)
-responds s (question.Entry node) = (entry_answer (volume_of s) node, s)
-responds s (question.Fetch q) = (Fetched (volume_of s).number (result_of q (volume_of s)), s)
-responds s (question.Rebuilt slot) = (rebuilt (fold_at s.folds slot), s)
+-- the answer to a request, and the session after it: only an event changes it
+abbrev pub responds : Session → Request → Response × Session
+responds s (request.Event e) = answered_event (slot_named e) s.folds (turn_outcome s.core e)
+responds s (request.Find dir name) = (found_in (volume_of s) dir name, s)
+responds s (request.Entry node) = (entry_answer (volume_of s) node, s)
+responds s (request.Fetch q) = (Fetched (volume_of s).number (result_of q (volume_of s)), s)
+responds s (request.Rebuilt slot) = (rebuilt (fold_at s.folds slot), s)
 
--- a line without a question is refused, and nothing changes
-abbrev pub answered : Session → Result Question Refusal → Response × Session
+-- a line without a request is refused, and nothing changes
+abbrev pub answered : Session → Result Request Refusal → Response × Session
 answered s (Err e) = (Refuses e, s)
 answered s (Ok q) = responds s q

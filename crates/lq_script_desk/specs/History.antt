@@ -18,9 +18,9 @@ use Rattle.lq_script_lines.specs.Lines.{Line, long, empty, whole, line_of, lines
 use Rattle.lq_script_lines.specs.Progress.{state_after_all}
 use Rattle.lq_script_lines.specs.Outcome.{ReaderLog, WriterLog}
 use Rattle.lq_script_lines.specs.declared.run_fault.RunFault.{RunFault}
-use Rattle.lq_script_request.specs.declared.question.Question.{Question}
-use Rattle.lq_script_request.specs.declared.question.Question.TheVariants as question
-use Rattle.lq_script_request.specs.Request.{question_in}
+use Rattle.lq_script_request.specs.declared.request.Request.{Request}
+use Rattle.lq_script_request.specs.declared.request.Request.TheVariants as request
+use Rattle.lq_script_request.specs.Request.{request_in}
 use Rattle.lq_script_desk.specs.Answered.{rebuilt, slot_named}
 use Rattle.lq_script_desk.specs.Folds.{fold_at}
 use Rattle.lq_script_desk.specs.Reply.{reply_text}
@@ -30,26 +30,26 @@ use Rattle.lq_script_desk.specs.Session.{Session}
 
 -- ---- the events that lines ask for
 
--- the question that was read, if one was
-abbrev pub question_read : Result Question Refusal → Option Question
-question_read (Ok q) = Some q
-question_read (Err e) = None
+-- the request that was read, if one was
+abbrev pub request_read : Result Request Refusal → Option Request
+request_read (Ok q) = Some q
+request_read (Err e) = None
 
--- the question that a line asks, if it asks one
-abbrev pub question_of : Line → Option Question
-question_of long = None
-question_of empty = None
-question_of (whole bytes) = question_read (question_in bytes)
+-- the request that a line asks, if it asks one
+abbrev pub request_of : Line → Option Request
+request_of long = None
+request_of empty = None
+request_of (whole bytes) = request_read (request_in bytes)
 
--- the event that a question asks for, if it asks for one
-abbrev pub event_of : Option Question → List Event
-event_of (Some (question.Event e)) = e ∷ []
+-- the event that a request asks for, if it asks for one
+abbrev pub event_of : Option Request → List Event
+event_of (Some (request.Event e)) = e ∷ []
 event_of other = []
 
 -- the events that lines ask for, in order
 abbrev pub events_asked : List (List ℕ) → List Event
 events_asked [] = []
-events_asked (bytes ∷ lines) = event_of (question_of (line_of bytes)) ++ events_asked lines
+events_asked (bytes ∷ lines) = event_of (request_of (line_of bytes)) ++ events_asked lines
 
 -- ---- events and answers
 
@@ -159,10 +159,10 @@ pub record IsScript (lines : List (List ℕ)) : Type 0 where
   pub run : Run script_world (events_of lines) (answers_of lines) (world_after lines)
   pub readers : ReadersAreTold (empty_state 1000000000000) (events_of lines) (answers_of lines)
   pub replies : (before after : List (List ℕ)) (bytes : List ℕ) (e : Event)
-      → lines ≡ before ++ bytes ∷ after → question_of (line_of bytes) ≡ Some (question.Event e)
+      → lines ≡ before ++ bytes ∷ after → request_of (line_of bytes) ≡ Some (request.Event e)
       → IsReplied lines before e
   pub results : (before after : List (List ℕ)) (bytes : List ℕ) (slot : ℕ)
-      → lines ≡ before ++ bytes ∷ after → question_of (line_of bytes) ≡ Some (question.Rebuilt slot)
+      → lines ≡ before ++ bytes ∷ after → request_of (line_of bytes) ≡ Some (request.Rebuilt slot)
       → IsRebuilt lines before slot
   -- a slot has a fold just where it is taken
   pub kept : (slot : ℕ) → is_some (subscribed_at (world_after lines) slot)

@@ -1,4 +1,4 @@
--- What is written for a whole script: the question of each line, its answer in the world, and the
+-- What is written for a whole script: the request of each line, its answer in the world, and the
 -- answer's text.
 use Rattle.std.specs.Prelude.{ℕ, List, []}
 use Rattle.lq_value.specs.declared.refusal.Refusal.TheVariants.{LongLine}
@@ -6,7 +6,7 @@ use Rattle.lq_volume.specs.State.{empty_state}
 use Rattle.lq_desk_world.specs.World.{World, first_world}
 use Rattle.lq_script_lines.specs.Lines.{Rules}
 use Rattle.lq_script_lines.specs.Output.{output_of}
-use Rattle.lq_script_request.specs.Request.{question_in}
+use Rattle.lq_script_request.specs.Request.{request_in}
 use Rattle.lq_script_desk.specs.Folds.{no_folds}
 use Rattle.lq_script_desk.specs.Session.{Session, session_with}
 use Rattle.lq_script_desk.specs.Response.{Refuses}
@@ -16,8 +16,8 @@ use Rattle.lq_script_desk.specs.Reply.{reply_text}
 -- how lines are answered: by the world's turns, its volume and the folds
 abbrev pub world_rules : Rules Session
 world_rules = record {
-  reply = λ s line. reply_text (answered s (question_in line)).0;
-  after = λ s line. (answered s (question_in line)).1;
+  reply = λ s line. reply_text (answered s (request_in line)).0;
+  after = λ s line. (answered s (request_in line)).1;
   long = reply_text (Refuses LongLine);
 }
 

@@ -8,8 +8,8 @@ use Rattle.lq_desk_world.specs.Events.{Answer}
 use Rattle.lq_desk_world.specs.Runs.{Run}
 use Rattle.lq_desk_world.specs.Turns.{events_in, ports_of, turn_of, turn_outcome}
 use Rattle.lq_desk_world.specs.Headline.{ReadersAreTold}
-use Rattle.lq_script_request.specs.declared.question.Question.{Question}
-use Rattle.lq_script_request.specs.declared.question.Question.TheVariants as question
+use Rattle.lq_script_request.specs.declared.request.Request.{Request}
+use Rattle.lq_script_request.specs.declared.request.Request.TheVariants as request
 use Rattle.lq_script_desk.specs.Script.{script_world}
 
 -- these events and the answers to them lead from the first world of a script to this one
@@ -34,8 +34,8 @@ KeepsHistory old new e a = (events : List Event) (answers : List Answer)
 -- What a line that asks this does to the history. Its event, if it asks for one, has its turn, and
 -- the reply tells the answer of that turn. A line that was refused for want of memory may leave the
 -- world as it was. Any other line leaves it.
-abbrev pub LineKeepsHistory : World → World → Result (Unit {0}) Refusal → Option Question → Type 0
-LineKeepsHistory old new result (Some (question.Event e)) =
+abbrev pub LineKeepsHistory : World → World → Result (Unit {0}) Refusal → Option Request → Type 0
+LineKeepsHistory old new result (Some (request.Event e)) =
     (IsErr result × (new ≡ old))
     ⊎ ((a : Answer) × KeepsHistory old new e a × OnOk result (a ≡ (turn_outcome old e).0))
 LineKeepsHistory old new result other = new ≡ old

@@ -12,7 +12,7 @@ pub enum Response {
         slot: u64,
         reply: Reply,
     },
-    /// Why the line has no question, or why its look at the volume is refused.
+    /// Why the line has no request, or why its look at the volume is refused.
     Refused(Refusal),
     /// The node at the place.
     Found {

@@ -21,7 +21,7 @@ use crate::response::Response;
 use lq_desk::{Desk, Event, Reply};
 use lq_predicate::Predicate;
 use lq_script_lines::Responder;
-use lq_script_request::{Question, Scratch, question_in};
+use lq_script_request::{Request, Scratch, request_in};
 use lq_update::{IndexedRebuild, results_rise};
 use lq_value::{Name, Refusal};
 use lq_volume::Volume;
@@ -183,9 +183,9 @@ fn put_rebuilt(
 impl Responder for Session {
     ghost use Rattle.lq_script_desk.specs.Session as spec;
     ghost use Rattle.lq_script_desk.specs.Script.{world_rules};
-    ghost use Rattle.lq_script_desk.specs.History.{question_read};
+    ghost use Rattle.lq_script_desk.specs.History.{request_read};
     ghost use Rattle.lq_script_desk.specs.SessionHistory.{LineKeepsHistory};
-    ghost use Rattle.lq_script_request.specs.Request.{question_in};
+    ghost use Rattle.lq_script_request.specs.Request.{request_in};
 
     ghost State = { spec.Session };
 
@@ -202,15 +202,15 @@ impl Responder for Session {
         ensures err { OnErr result (IsPrefix out.old.items out.new.items) }
         ensures memory { IfErr result (λ e. e ≡ NoMemory) }
         ensures history { LineKeepsHistory self.old.desk self.new.desk result
-            (question_read (question_in line.now)) }
+            (request_read (request_in line.now)) }
     {
-        match question_in(self.alloc, &mut self.scratch, line) {
-            Ok(question) => match &question {
-                Question::Event(event) => self.write_answer(event, out),
-                Question::Find { dir, name } => put_found(out, self.desk.volume(), *dir, name),
-                Question::Entry { node } => put_shown(out, self.desk.volume(), *node),
-                Question::Fetch { predicate } => put_fetched(out, self.desk.volume(), predicate),
-                Question::Rebuilt { slot } => put_rebuilt(out, &self.rebuilds, *slot),
+        match request_in(self.alloc, &mut self.scratch, line) {
+            Ok(request) => match &request {
+                Request::Event(event) => self.write_answer(event, out),
+                Request::Find { dir, name } => put_found(out, self.desk.volume(), *dir, name),
+                Request::Entry { node } => put_shown(out, self.desk.volume(), *node),
+                Request::Fetch { predicate } => put_fetched(out, self.desk.volume(), predicate),
+                Request::Rebuilt { slot } => put_rebuilt(out, &self.rebuilds, *slot),
             },
             Err(Refusal::NoMemory) => Err(Refusal::NoMemory),
             Err(refusal) => put_refusal(out, refusal),

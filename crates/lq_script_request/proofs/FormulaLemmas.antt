@@ -7,7 +7,7 @@ use Rattle.lq_predicate.specs.Faults.{Reads}
 use Rattle.lq_predicate.specs.Query.{Query}
 use Rattle.lq_predicate.specs.Reading.{reading_of, the_reading}
 use Rattle.lq_predicate.specs.Refusals.{IsRefusalOf}
-use Rattle.lq_script_request.specs.declared.question.Question.{Question}
+use Rattle.lq_script_request.specs.declared.request.Request.{Request}
 
 -- what asks for the reading's query asks for the one that the formula reads as
 pub reading_of-reads : (text : List ℕ) (q : Query) → Reads text q → reading_of text ≡ Ok q
@@ -15,10 +15,10 @@ reading_of-reads text q reads = sym ((the_reading text).only (Ok q) reads)
 
 -- what is refused with the reading's place is refused as the formula is
 pub reading_of-refused : (text : List ℕ) (e : Refusal)
-    (question : Result Query ℕ → Result Question Refusal)
-    → ((place : ℕ) → question (Err place) ≡ Err (BadQuery place)) → IsRefusalOf text e
-    → (e ≡ NoMemory) ⊎ (question (reading_of text) ≡ Err e)
-reading_of-refused text e question passes (inl fault) =
+    (request : Result Query ℕ → Result Request Refusal)
+    → ((place : ℕ) → request (Err place) ≡ Err (BadQuery place)) → IsRefusalOf text e
+    → (e ≡ NoMemory) ⊎ (request (reading_of text) ≡ Err e)
+reading_of-refused text e request passes (inl fault) =
     let place = (the_reading text).only (Err fault.0) fault.2 in
-    inr (ap question (sym place) ∙ passes fault.0 ∙ ap Err (sym fault.1))
-reading_of-refused text e question passes (inr memory) = inl memory.0
+    inr (ap request (sym place) ∙ passes fault.0 ∙ ap Err (sym fault.1))
+reading_of-refused text e request passes (inr memory) = inl memory.0

@@ -22,9 +22,9 @@ use Rattle.serde_json.proofs.Numbers.{number_of-decimal}
 use Rattle.serde_json.proofs.Texts.{print-outline}
 use Rattle.lq_value.specs.declared.refusal.Refusal.TheVariants.{NotUtf8}
 use Rattle.lq_desk_world.specs.declared.event.Event.TheVariants.{Take}
-use Rattle.lq_script_request.specs.declared.question.Question.TheVariants.{Event}
+use Rattle.lq_script_request.specs.declared.request.Request.TheVariants.{Event}
 use Rattle.lq_script_request.specs.Plain.{read_line}
-use Rattle.lq_script_request.specs.Request.{asked_from, question_from, question_in}
+use Rattle.lq_script_request.specs.Request.{asked_from, request_from, request_in}
 
 -- a line that begins with a text goes on with what is behind it
 front-rest : (front line rest : List ℕ)
@@ -147,9 +147,9 @@ line-utf8 slot h =
     (IsUtf8-are_ascii (codes "}") refl))
 
 -- the line asks for a read of the slot
-pub line-asks : (slot : ℕ) → slot < 100 → question_in (read_line slot) ≡ Ok (Event (Take slot))
+pub line-asks : (slot : ℕ) → slot < 100 → request_in (read_line slot) ≡ Ok (Event (Take slot))
 line-asks slot small =
     let h : slot < 2 ^ 64 = omega (arith, small) in
-    ap (λ b. question_from (if b then asked_from (read (read_line slot)) else Err NotUtf8))
+    ap (λ b. request_from (if b then asked_from (read (read_line slot)) else Err NotUtf8))
     (is_utf8-from_IsUtf8 (read_line slot) (line-utf8 slot h))
-    ∙ ap (λ o. question_from (asked_from o)) (line-read slot h)
+    ∙ ap (λ o. request_from (asked_from o)) (line-read slot h)

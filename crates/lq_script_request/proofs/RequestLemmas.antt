@@ -9,8 +9,8 @@ use Rattle.serde_json.specs.Data.{Data}
 use Rattle.serde_json.specs.Read.{read}
 use Rattle.lq_value.specs.declared.refusal.Refusal.{Refusal}
 use Rattle.lq_value.specs.declared.refusal.Refusal.TheVariants.{NoMemory, NotUtf8, NotJson}
-use Rattle.lq_script_request.specs.declared.question.Question.{Question}
-use Rattle.lq_script_request.specs.Request.{Asked, asked_by, asked_in, asked_from, asked_of, asked_or, needed_text, question_from, question_in}
+use Rattle.lq_script_request.specs.declared.request.Request.{Request}
+use Rattle.lq_script_request.specs.Request.{Asked, asked_by, asked_in, asked_from, asked_of, asked_or, needed_text, request_from, request_in}
 
 -- a line that isn't UTF-8 is refused as such
 pub asked-not_utf8 : (line : List ℕ) → ¬ IsUtf8 line → asked_in line ≡ Err NotUtf8
@@ -27,10 +27,10 @@ asked-utf8 line utf8 = rw (is_utf8-from_IsUtf8 line utf8) refl
 -- a line whose text doesn't read is refused as no JSON, or memory ran out
 pub line-refused : (line text : List ℕ) (e : Refusal) → asked_in line ≡ asked_from (read text)
     → (e ≡ NoMemory) ⊎ ((e ≡ NotJson) × (read text ≡ None))
-    → (e ≡ NoMemory) ⊎ (question_in line ≡ Err e)
+    → (e ≡ NoMemory) ⊎ (request_in line ≡ Err e)
 line-refused line text e asks (inl was) = inl was
 line-refused line text e asks (inr was) =
-    inr (ap question_from (asks ∙ ap asked_from was.1) ∙ ap (λ x. Err x) (sym was.0))
+    inr (ap request_from (asks ∙ ap asked_from was.1) ∙ ap (λ x. Err x) (sym was.0))
 
 -- what follows from what is known of an answer's value, where it has one
 pub value-then : {T E : Type 0} {P Q : T → Type 0} (r : Result T E)
@@ -100,8 +100,8 @@ pub line-asks-found : (line : List ℕ) (o : Option Data) (d : Data) → asked_i
 line-asks-found line o d asks is = asks ∙ ap asked_from is
 
 -- the refusal of a line is that of what it asks for
-pub refused-along : (line : List ℕ) (e : Refusal) (r : Result Question Refusal)
-    → question_in line ≡ r → (e ≡ NoMemory) ⊎ (r ≡ Err e)
-    → (e ≡ NoMemory) ⊎ (question_in line ≡ Err e)
+pub refused-along : (line : List ℕ) (e : Refusal) (r : Result Request Refusal)
+    → request_in line ≡ r → (e ≡ NoMemory) ⊎ (r ≡ Err e)
+    → (e ≡ NoMemory) ⊎ (request_in line ≡ Err e)
 refused-along line e r asks (inl was) = inl was
 refused-along line e r asks (inr was) = inr (asks ∙ was)

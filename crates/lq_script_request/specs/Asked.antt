@@ -1,9 +1,9 @@
--- The request of the code as what it asks for.
+-- A raw request of the code as what it asks for.
 use Rattle.lq_value.specs.declared.value.Value.TheVariants as value
 use Rattle.lq_value.specs.declared.view.View.{View}
 use Rattle.lq_value.specs.declared.view.View.TheVariants as view
-use Rattle.lq_script_request.specs.declared.request.Request.{Request}
-use Rattle.lq_script_request.specs.declared.request.Request.TheVariants as request
+use Rattle.lq_script_request.specs.declared.raw_request.RawRequest.{RawRequest}
+use Rattle.lq_script_request.specs.declared.raw_request.RawRequest.TheVariants as request
 use Rattle.lq_script_request.specs.Request.{Asked, Given, given_text, given_number, asks_create, asks_remove, asks_move, asks_write, asks_set, asks_unset, asks_open, asks_at, asks_find, asks_entry, asks_fetch, asks_rebuilt}
 
 -- the value of a `set` as it was given
@@ -14,8 +14,8 @@ given (view.Int64 n) = given_number (value.Int64 n)
 given (view.UInt32 n) = given_number (value.UInt32 n)
 given (view.UInt64 n) = given_number (value.UInt64 n)
 
--- what a request asks for
-abbrev pub asked : Request → Asked
+-- what a raw request asks for
+abbrev pub asked : RawRequest → Asked
 asked (request.Create dir name kind size time) = asks_create dir name.now kind size time
 asked (request.Remove node) = asks_remove node
 asked (request.Move node dir name clobber) = asks_move node dir name.now clobber

@@ -19,8 +19,8 @@ use Rattle.lq_desk_world.specs.declared.event.Event.TheVariants.{Change, Open}
 use Rattle.lq_desk_world.specs.Events.{event_at}
 use Rattle.lq_desk_world.specs.declared.event.Act.{Act}
 use Rattle.lq_desk_world.specs.declared.event.Act.TheVariants as act
-use Rattle.lq_script_request.specs.declared.question.Question.{Question}
-use Rattle.lq_script_request.specs.declared.question.Question.TheVariants.{Event, Find, Entry, Fetch, Rebuilt}
+use Rattle.lq_script_request.specs.declared.request.Request.{Request}
+use Rattle.lq_script_request.specs.declared.request.Request.TheVariants.{Event, Find, Entry, Fetch, Rebuilt}
 
 -- the value of a `set`: a text that isn't read yet, or a number of one of four types
 pub data Given : Type 0 where
@@ -238,12 +238,12 @@ abbrev pub asked_in : List ℕ → Result Asked Refusal
 asked_in line = if is_utf8 line then asked_from (read line) else Err NotUtf8
 
 -- an opening, or the refusal of its formula
-abbrev pub opening_or : Result Query ℕ → ℕ → ℕ → Bool → Result Question Refusal
+abbrev pub opening_or : Result Query ℕ → ℕ → ℕ → Bool → Result Request Refusal
 opening_or (Err place) port backlog moved = Err (BadQuery place)
 opening_or (Ok q) port backlog moved = Ok (Event (Open q port backlog moved))
 
 -- a fetch, or the refusal of its formula
-abbrev pub fetching_or : Result Query ℕ → Result Question Refusal
+abbrev pub fetching_or : Result Query ℕ → Result Request Refusal
 fetching_or (Err place) = Err (BadQuery place)
 fetching_or (Ok q) = Ok (Fetch q)
 
@@ -258,38 +258,38 @@ value_for (given_text text) = text_or (text_refusal text) text
 value_for (given_number value) = Ok value
 
 -- a `set`, or the refusal of its value
-abbrev pub setting_for : ℕ → List ℕ → Result Value Refusal → Result Question Refusal
+abbrev pub setting_for : ℕ → List ℕ → Result Value Refusal → Result Request Refusal
 setting_for node attr (Err e) = Err e
 setting_for node attr (Ok value) = Ok (Event (Change (SetAttr node attr value)))
 
--- the question after its values are read, or the first refusal
-abbrev pub question_for : Asked → Result Question Refusal
-question_for (asks_create dir name kind size time) =
+-- the request after its values are read, or the first refusal
+abbrev pub request_for : Asked → Result Request Refusal
+request_for (asks_create dir name kind size time) =
     if is_name name then Ok (Event (Change (Create dir name kind size time)))
     else Err BadName
-question_for (asks_remove node) = Ok (Event (Change (Remove node)))
-question_for (asks_move node dir name clobber) =
+request_for (asks_remove node) = Ok (Event (Change (Remove node)))
+request_for (asks_move node dir name clobber) =
     if is_name name then Ok (Event (Change (Move node dir name clobber)))
     else Err BadName
-question_for (asks_write node size time) = Ok (Event (Change (Write node size time)))
-question_for (asks_set node attr value) =
+request_for (asks_write node size time) = Ok (Event (Change (Write node size time)))
+request_for (asks_set node attr value) =
     if is_attr_name attr then setting_for node attr (value_for value)
     else Err BadName
-question_for (asks_unset node attr) =
+request_for (asks_unset node attr) =
     if is_attr_name attr then Ok (Event (Change (RemoveAttr node attr)))
     else Err BadName
-question_for (asks_open query port backlog moved) = opening_or (reading_of query) port backlog moved
-question_for (asks_at slot a) = Ok (Event (event_at slot a))
-question_for (asks_find dir name) = if is_name name then Ok (Find dir name) else Err BadName
-question_for (asks_entry node) = Ok (Entry node)
-question_for (asks_fetch query) = fetching_or (reading_of query)
-question_for (asks_rebuilt slot) = Ok (Rebuilt slot)
+request_for (asks_open query port backlog moved) = opening_or (reading_of query) port backlog moved
+request_for (asks_at slot a) = Ok (Event (event_at slot a))
+request_for (asks_find dir name) = if is_name name then Ok (Find dir name) else Err BadName
+request_for (asks_entry node) = Ok (Entry node)
+request_for (asks_fetch query) = fetching_or (reading_of query)
+request_for (asks_rebuilt slot) = Ok (Rebuilt slot)
 
--- the question of a line that may be refused already
-abbrev pub question_from : Result Asked Refusal → Result Question Refusal
-question_from (Err e) = Err e
-question_from (Ok a) = question_for a
+-- the request of a line that may be refused already
+abbrev pub request_from : Result Asked Refusal → Result Request Refusal
+request_from (Err e) = Err e
+request_from (Ok a) = request_for a
 
--- the question of a line, or why it has none
-abbrev pub question_in : List ℕ → Result Question Refusal
-question_in line = question_from (asked_in line)
+-- the request of a line, or why it has none
+abbrev pub request_in : List ℕ → Result Request Refusal
+request_in line = request_from (asked_in line)

@@ -1,5 +1,5 @@
 use Rattle.std.proofs.Common.{◌∙◌, ℕ, List, sym, ap}
-use Rattle.lq_script_request.specs.Request.{asks_find, question_for}
+use Rattle.lq_script_request.specs.Request.{asks_find, request_for}
 use Rattle.lq_embed.proofs.CallLemmas.{finds-as, finds-not_utf8, if-not_utf8, if-utf8}
 use Rattle.lq_embed.proofs.embedded.Embedded.find.Goals as goal
 
@@ -11,7 +11,7 @@ pub returns : goal.returns
 returns c =
     let text = c.in-Ok.ensures.cases in
     finds-as (if-utf8 c.args.name.now _ _ text.1
-    ∙ ap (λ (name : List ℕ). question_for (asks_find c.args.dir name)) (sym text.0)) (record {
+    ∙ ap (λ (name : List ℕ). request_for (asks_find c.args.dir name)) (sym text.0)) (record {
       response = _;
       responds = c.look.ensures.responds;
       code = c.put_node.ensures.status;

@@ -1,7 +1,7 @@
 use Rattle.std.proofs.Common.{◌≡◌, ◌∙◌, ◌+◌, ℕ, ap, arith, refl, sym, subst, take, drop, inr, Some}
 use Rattle.lq_volume.specs.State.{node_in}
 use Rattle.lq_embed.specs.Calls.{FindsNode}
-use Rattle.lq_embed.specs.PathNames.{names_in, named_question}
+use Rattle.lq_embed.specs.PathNames.{names_in, named_request}
 use Rattle.lq_embed.specs.SessionState.{SessionState, holds, volume_in}
 use Rattle.lq_embed.proofs.PathLemmas.{IsOnWay, found-node, way-next, way-past, way-split}
 use Rattle.lq_embed.proofs.embedded.Embedded.find_path.Goals.{then-size-gt0+else-found-ne0, else-size-gt0}
@@ -23,7 +23,7 @@ returns-then-found-ne0 c =
       leads = way.leads;
       found = found.new.node;
       finds = subst (λ (s : SessionState). FindsNode s (holds found.new.self)
-          (named_question c.loop-rest.at (take size rest)) found.result 0 found.new.node)
+          (named_request c.loop-rest.at (take size rest)) found.result 0 found.new.node)
           c.loop-rest.invariant.stays found.ensures;
       code = c.if-found-ne0.true;
       out = refl;

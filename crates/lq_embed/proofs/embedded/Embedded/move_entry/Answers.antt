@@ -1,6 +1,6 @@
 use Rattle.std.proofs.Common.{◌∙◌, ℕ, List, sym, ap}
 use Rattle.lq_value.specs.declared.refusal.Refusal.TheVariants.{NotUtf8}
-use Rattle.lq_script_request.specs.Request.{asks_move, question_for}
+use Rattle.lq_script_request.specs.Request.{asks_move, request_for}
 use Rattle.lq_embed.proofs.CallLemmas.{changes-as, changes-barred, if-not_utf8, if-utf8}
 use Rattle.lq_embed.proofs.embedded.Embedded.move_entry.Goals as goal
 
@@ -12,7 +12,7 @@ pub returns : goal.returns
 returns c =
     let text = c.in-Ok.ensures.cases in
     changes-as (if-utf8 c.args.name.now _ _ text.1
-    ∙ ap (λ (name : List ℕ). question_for (asks_move c.args.node c.args.dir name
+    ∙ ap (λ (name : List ℕ). request_for (asks_move c.args.node c.args.dir name
     c.args.clobber)) (sym text.0)) (record {
       answer = _;
       asks = c.answer_request-reply.ensures.asks;

@@ -1,7 +1,7 @@
 use Rattle.std.proofs.Common.{sym, ap}
 use Rattle.std.specs.Prelude.{Option}
 use Rattle.lq_predicate.specs.declared.stack_op.StackOp.{StackOp}
-use Rattle.lq_embed.specs.Questions.{push_op_outcome}
+use Rattle.lq_embed.specs.Requests.{push_op_outcome}
 use Rattle.lq_embed.proofs.CallLemmas.{pushes-as}
 use Rattle.lq_embed.proofs.embedded.Embedded.push_op.Goals as goal
 

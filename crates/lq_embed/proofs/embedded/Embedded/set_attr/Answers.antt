@@ -1,7 +1,7 @@
 use Rattle.std.proofs.Common.{◌∙◌, ℕ, List, sym, ap}
 use Rattle.lq_value.specs.declared.refusal.Refusal.TheVariants.{NotUtf8}
 use Rattle.lq_script_request.specs.Asked.{given}
-use Rattle.lq_script_request.specs.Request.{asks_set, question_for}
+use Rattle.lq_script_request.specs.Request.{asks_set, request_for}
 use Rattle.lq_embed.proofs.CallLemmas.{changes-as, changes-barred, if-not_utf8, if-utf8}
 use Rattle.lq_embed.proofs.embedded.Embedded.set_attr.Goals as goal
 
@@ -13,7 +13,7 @@ pub returns : goal.returns
 returns c =
     let text = c.in-Ok.ensures.cases in
     changes-as (if-utf8 c.args.attr.now _ _ text.1
-    ∙ ap (λ (attr : List ℕ). question_for (asks_set c.args.node attr (given c.args.value)))
+    ∙ ap (λ (attr : List ℕ). request_for (asks_set c.args.node attr (given c.args.value)))
     (sym text.0)) (record {
       answer = _;
       asks = c.answer_request-reply.ensures.asks;

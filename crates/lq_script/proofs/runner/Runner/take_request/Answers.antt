@@ -1,10 +1,10 @@
--- The batch, and then the question with its reply.
+-- The batch, and then the request with its reply.
 use Rattle.std.proofs.Common.{◌∙◌, Err, refl}
 use Rattle.lq_script_desk.specs.Answer.{response_of}
 use Rattle.lq_script_desk.specs.Response.{Refuses}
 use Rattle.lq_script_lines.specs.declared.run_fault.RunFault.TheVariants.{Memory}
 use Rattle.lq_script.proofs.ProgressLemmas.{carries_put, carries_quiet, carries_then}
-use Rattle.lq_script.proofs.runner.Runner.take_question.Goals as goal
+use Rattle.lq_script.proofs.runner.Runner.take_request.Goals as goal
 
 pub returns-in-Ok-clause-carried : goal.returns-in-Ok-clause-carried
 returns-in-Ok-clause-carried g c =

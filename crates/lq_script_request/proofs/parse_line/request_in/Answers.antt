@@ -2,19 +2,19 @@ use Rattle.std.proofs.Common.{◌≡◌, ◌∙◌, ap, inr, rules, sym, Err}
 use Rattle.std.specs.Str.{IsUtf8}
 use Rattle.serde_json.specs.Read.{read}
 use Rattle.lq_script_request.specs.Fields.{whole_data}
-use Rattle.lq_script_request.specs.Request.{asked_from, asked_or, question_from, question_in}
+use Rattle.lq_script_request.specs.Request.{asked_from, asked_or, request_from, request_in}
 use Rattle.lq_script_request.proofs.PlainLemmas.{line-asks}
 use Rattle.lq_script_request.proofs.RequestLemmas.{asked-not_utf8, asked-utf8, error-then, line-asks-found, line-refused, refused-along, value-then}
-use Rattle.lq_script_request.proofs.parse_line.question_in.Goals as goal
+use Rattle.lq_script_request.proofs.parse_line.request_in.Goals as goal
 
 pub returns-in-Some-clause-value : goal.returns-in-Some-clause-value
 returns-in-Some-clause-value c =
-    ap question_in c.in-Some.ensures.line ∙ line-asks c.in-Some.slot c.in-Some.ensures.small
+    ap request_in c.in-Some.ensures.line ∙ line-asks c.in-Some.slot c.in-Some.ensures.small
 
 pub returns-then-not-is_utf8-clause-refused : goal.returns-then-not-is_utf8-clause-refused
 returns-then-not-is_utf8-clause-refused c =
     let other : ¬ IsUtf8 c.args.line.now = search rules in
-    inr (ap question_from (asked-not_utf8 c.args.line.now other))
+    inr (ap request_from (asked-not_utf8 c.args.line.now other))
 
 pub returns-in_err-read-clause-refused : goal.returns-in_err-read-clause-refused
 returns-in_err-read-clause-refused c =
@@ -24,15 +24,15 @@ returns-in_err-read-clause-refused c =
     let is : c.from_residual.result ≡ Err c.in_err-read.field-0.0 = search rules in
     rw is (line-refused c.args.line.now _ _ asks c.in_err-read.ensures.refused)
 
-pub returns-in_default-request_in-clause-refused :
-    goal.returns-in_default-request_in-clause-refused
-returns-in_default-request_in-clause-refused c =
+pub returns-in_default-raw_request_in-clause-refused :
+    goal.returns-in_default-raw_request_in-clause-refused
+returns-in_default-raw_request_in-clause-refused c =
     let utf8 : IsUtf8 c.args.line.now = search rules in
     let asks = asked-utf8 c.args.line.now utf8
     ∙ ap asked_from (ap read (sym c.from_utf8_unchecked-text.ensures)) in
     let found = line-asks-found c.args.line.now _ (whole_data c.read.new.self) asks
     c.in_ok-read.ensures.value in
-    inr (ap question_from (found ∙ ap asked_or (sym c.in_default-request_in.ensures)))
+    inr (ap request_from (found ∙ ap asked_or (sym c.in_default-raw_request_in.ensures)))
 
 pub returns-clause-value : goal.returns-clause-value
 returns-clause-value c =
@@ -41,8 +41,8 @@ returns-clause-value c =
     ∙ ap asked_from (ap read (sym c.from_utf8_unchecked-text.ensures)) in
     let found = line-asks-found c.args.line.now _ (whole_data c.read.new.self) asks
     c.in_ok-read.ensures.value in
-    let same = ap question_from (found ∙ ap asked_or (sym c.in-Some-request_in.ensures)) in
-    value-then c.question_for.result (λ question is. same ∙ is) c.question_for.ensures.value
+    let same = ap request_from (found ∙ ap asked_or (sym c.in-Some-raw_request_in.ensures)) in
+    value-then c.request_for.result (λ request is. same ∙ is) c.request_for.ensures.value
 
 pub returns-clause-refused : goal.returns-clause-refused
 returns-clause-refused c =
@@ -51,6 +51,6 @@ returns-clause-refused c =
     ∙ ap asked_from (ap read (sym c.from_utf8_unchecked-text.ensures)) in
     let found = line-asks-found c.args.line.now _ (whole_data c.read.new.self) asks
     c.in_ok-read.ensures.value in
-    let same = ap question_from (found ∙ ap asked_or (sym c.in-Some-request_in.ensures)) in
-    error-then c.question_for.result (λ e. refused-along c.args.line.now e _ same)
-    c.question_for.ensures.refused
+    let same = ap request_from (found ∙ ap asked_or (sym c.in-Some-raw_request_in.ensures)) in
+    error-then c.request_for.result (λ e. refused-along c.args.line.now e _ same)
+    c.request_for.ensures.refused

@@ -1,7 +1,7 @@
 use Rattle.std.proofs.Common.{◌≡◌, ◌∙◌, ap, arith, rules, length, codes}
 use Rattle.lq_script_request.specs.Fields.{whole_data}
 use Rattle.lq_script_request.proofs.RequestLemmas.{asks-as, asks-nothing}
-use Rattle.lq_script_request.proofs.request.request_in.Goals as goal
+use Rattle.lq_script_request.proofs.raw_request.raw_request_in.Goals as goal
 
 pub returns-in-set : goal.returns-in-set
 returns-in-set c =

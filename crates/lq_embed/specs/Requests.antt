@@ -1,0 +1,83 @@
+-- The request of each typed call: that of a line with the same fields.
+use Rattle.std.specs.Prelude.{ℕ, ℤ, List, Bool, Option, Some, None, Result, Ok, Err, if◌then◌else◌}
+use Rattle.std.specs.Str.{is_utf8}
+use Rattle.lq_value.specs.declared.refusal.Refusal.{Refusal}
+use Rattle.lq_value.specs.declared.refusal.Refusal.TheVariants.{NotUtf8, BadLine, BadQuery}
+use Rattle.lq_value.specs.declared.kind.Kind.{Kind}
+use Rattle.lq_value.specs.declared.value.Value.{Value}
+use Rattle.lq_predicate.specs.Query.{Query}
+use Rattle.lq_predicate.specs.Stacked.{Stacked, new_stack}
+use Rattle.lq_predicate.specs.Stack.{attr_pushed, text_pushed, op_pushed}
+use Rattle.lq_predicate.specs.declared.stack_op.StackOp.{StackOp}
+use Rattle.lq_desk_world.specs.declared.event.Event.TheVariants.{Open}
+use Rattle.lq_script_request.specs.declared.request.Request.{Request}
+use Rattle.lq_script_request.specs.declared.request.Request.TheVariants.{Event, Fetch}
+use Rattle.lq_script_request.specs.Request.{given_text, given_number, asks_create, asks_move, asks_set, asks_unset, asks_open, asks_find, asks_fetch, request_for}
+use Rattle.lq_embed.specs.Numbers.{kind_numbered}
+
+-- a request whose text has to be UTF-8
+abbrev pub in_utf8 : List ℕ → Result Request Refusal → Result Request Refusal
+in_utf8 text request = if is_utf8 text then request else Err NotUtf8
+
+-- a creation, if its kind has a number
+abbrev pub creation : ℕ → List ℕ → ℕ → ℤ → Option Kind → Result Request Refusal
+creation dir name size time None = Err BadLine
+creation dir name size time (Some kind) = request_for (asks_create dir name kind size time)
+
+abbrev pub create_request : ℕ → List ℕ → ℕ → ℕ → ℤ → Result Request Refusal
+create_request dir name kind size time =
+    in_utf8 name (creation dir name size time (kind_numbered kind))
+
+abbrev pub move_request : ℕ → ℕ → List ℕ → Bool → Result Request Refusal
+move_request node dir name clobber = in_utf8 name (request_for (asks_move node dir name clobber))
+
+abbrev pub set_text_request : ℕ → List ℕ → List ℕ → Result Request Refusal
+set_text_request node attr text =
+    in_utf8 attr (in_utf8 text (request_for (asks_set node attr (given_text text))))
+
+abbrev pub set_request : ℕ → List ℕ → Value → Result Request Refusal
+set_request node attr value =
+    in_utf8 attr (request_for (asks_set node attr (given_number value)))
+
+abbrev pub unset_request : ℕ → List ℕ → Result Request Refusal
+unset_request node attr = in_utf8 attr (request_for (asks_unset node attr))
+
+abbrev pub open_request : List ℕ → ℕ → ℕ → Bool → Result Request Refusal
+open_request formula port backlog moved =
+    in_utf8 formula (request_for (asks_open formula port backlog moved))
+
+abbrev pub find_request : ℕ → List ℕ → Result Request Refusal
+find_request dir name = in_utf8 name (request_for (asks_find dir name))
+
+abbrev pub fetch_request : List ℕ → Result Request Refusal
+fetch_request formula = in_utf8 formula (request_for (asks_fetch formula))
+
+-- ---- pushes
+
+-- the stack after a push of an attribute's name, of a text, or of an operator by its number
+abbrev pub push_attr_outcome : List ℕ → Stacked → Result (Option Stacked) Refusal
+push_attr_outcome name stack =
+    if is_utf8 name then Ok (attr_pushed name stack) else Err NotUtf8
+
+abbrev pub push_text_outcome : List ℕ → Stacked → Result (Option Stacked) Refusal
+push_text_outcome text stack =
+    if is_utf8 text then Ok (text_pushed text stack) else Err NotUtf8
+
+abbrev pub push_op_outcome : Option StackOp → Stacked → Result (Option Stacked) Refusal
+push_op_outcome None stack = Err BadLine
+push_op_outcome (Some op) stack = Ok (op_pushed op stack)
+
+-- the request of the predicate that is the stack's only item; else it is refused with the number
+-- of pushes
+abbrev pub open_pushed : ℕ → ℕ → ℕ → Bool → Option Query → Result Request Refusal
+open_pushed pushes port backlog moved None = Err (BadQuery pushes)
+open_pushed pushes port backlog moved (Some q) = Ok (Event (Open q port backlog moved))
+
+abbrev pub fetch_pushed : ℕ → Option Query → Result Request Refusal
+fetch_pushed pushes None = Err (BadQuery pushes)
+fetch_pushed pushes (Some q) = Ok (Fetch q)
+
+-- the stack after its only item was taken, if it had one
+abbrev pub left_by : Stacked → Option Query → Stacked
+left_by stack None = stack
+left_by stack (Some q) = new_stack
