@@ -17,7 +17,7 @@ use Rattle.lq_update.specs.Laws.{FoldsGiveResults, UpdatesJoin, UpdatesGrow, Who
 use Rattle.lq_desk_world.specs.World.{World, Subscribed, covered, covered_by, updates_due, whole}
 use Rattle.lq_desk_world.specs.declared.event.Event.{Event}
 use Rattle.lq_desk_world.specs.declared.event.Event.TheVariants.{Open}
-use Rattle.lq_desk_world.specs.Events.{Answer, Opened, opening, Took, Ended}
+use Rattle.lq_desk_world.specs.Events.{Answer, Opened, Took, Ended}
 use Rattle.lq_desk_world.specs.Runs.{Run}
 use Rattle.lq_desk_world.specs.Headline.{reads_of, parcels_in, updates_among, updates_in, accepted_by, accepted, run_book, IsOpening, AreReads, OpeningsAreTold, ReadersAreTold, HasMark}
 use Rattle.lq_desk_world.proofs.WorldLemmas.{after_all-append, number-all, updates_of-rebased}

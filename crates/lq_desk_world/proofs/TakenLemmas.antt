@@ -14,7 +14,6 @@ use Rattle.lq_desk_world.specs.Events.{Ended, Empty, putting_if, putting, readin
 use Rattle.lq_desk_world.specs.Fair.{IsFair}
 use Rattle.lq_desk_world.proofs.ListLemmas.{take-one_more}
 use Rattle.lq_desk_world.proofs.SubLemmas.{Keeps, Leaves, Reads, keeps-counts, keeps-end, keeps-self, live-none, over-from, over-true, parcels}
-use Rattle.lq_desk_world.specs.declared.event.Act.TheVariants as act
 use Rattle.lq_desk_world.specs.Laws.{ListsArePassedOn}
 
 -- ---- what was read

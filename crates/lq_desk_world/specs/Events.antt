@@ -36,9 +36,8 @@ pub data Answer : Type 0 where
 -- ---- a change
 
 abbrev pub world_with_change : World → Change_ → World
-world_with_change w c = record {
+world_with_change w c = record w {
   book = grown w.book (c ∷ []);
-  openings = w.openings;
   slots = map (option_map (after_change w.book c)) w.slots;
 }
 

@@ -132,7 +132,7 @@ abbrev pub subscribed_at : World → ℕ → Option Subscribed
 subscribed_at w slot = if slot == 0 then None else option_flatten (slice_get w.slots (slot - 1))
 
 -- the number of taken slots before the first free one
-abbrev pub taken_before_free : List (Option Subscribed) → ℕ
+abbrev pub taken_before_free : {T : Type 0} → List (Option T) → ℕ
 taken_before_free [] = 0
 taken_before_free (None ∷ slots) = 0
 taken_before_free (Some s ∷ slots) = taken_before_free slots + 1

@@ -1,61 +1,27 @@
 -- Where the fault of a token lies.
-use Rattle.std.proofs.Common.{◌≡◌, ◌≤◌, ◌+◌, ◌-◌, ℕ, suc, List, [], ◌∷◌, ◌++◌, length, Option, Some, None, refl, ap, ◌∙◌, arith, inl, inr}
+use Rattle.std.proofs.Common.{◌≡◌, ◌≤◌, ◌+◌, ◌-◌, ℕ, suc, List, [], ◌∷◌, ◌++◌, length, Some, ap, ◌∙◌, arith, inl, inr}
 use Rattle.std.proofs.lemmas.List.{length-append}
+use Rattle.std.specs.Result.{result_err}
 use Rattle.lq_value.specs.declared.op.Op.{Op}
-use Rattle.lq_value.specs.declared.op.Op.TheVariants.{Eq, Ne, Lt, Le, Gt, Ge}
+use Rattle.lq_value.specs.declared.op.Op.TheVariants.{Eq, Ne}
 use Rattle.lq_value.specs.Element.{Element}
 use Rattle.lq_value.specs.Sign.{signs_of, signs_len}
 use Rattle.lq_value.specs.Source.{Pieces, whole, stuck, pieces_of, element_at, elements_or_place}
 use Rattle.lq_predicate_formula.specs.Tokens.{Token, opens, closes, bang, ands, ors, op, word, lone, cut, Placed, IsQuoted, IsTokenAt, IsUnquoted, Yields}
-use Rattle.lq_predicate_formula.specs.Literals.{bad_place, literal_fault}
-use Rattle.lq_predicate_formula.specs.Machine.{Expected, operand, after_attr, after_op, after_operand}
-use Rattle.lq_predicate_formula.specs.MachineReading.{fault_place, fault_place_of, place_with, pattern_fault_of_word}
-use Rattle.lq_predicate.specs.Building.{pattern_fault}
-use Rattle.lq_predicate.specs.FaultPlace.{place_at}
-
--- ---- the place itself
-
--- a word has its fault within it where its pattern is bad, and else where it stands
-word_by : (end : ℕ) (t : Placed) (raw : List ℕ) (k : Option ℕ)
-    → place_with k t ≡ place_at end t (word raw) k
-word_by end t raw None = refl
-word_by end t raw (Some k) = refl
-
--- a token has its fault within it where its pattern is bad, and else where it stands or at the end
-place_by : (end : ℕ) (p : Expected) (u : Token) (t : Placed)
-    → fault_place_of end p u t ≡ place_at end t u (pattern_fault p u)
-place_by end p (word raw) t = word_by end t raw (pattern_fault_of_word p raw)
-place_by end p opens t = refl
-place_by end p closes t = refl
-place_by end p bang t = refl
-place_by end p ands t = refl
-place_by end p ors t = refl
-place_by end p (op o) t = refl
-place_by end p lone t = refl
-place_by end p cut t = refl
-
--- the same at the token's own place
-pub fault_place-at : (end : ℕ) (p : Expected) (t : Placed)
-    → fault_place end p t ≡ place_at end t t.token (pattern_fault p t.token)
-fault_place-at end p t = place_by end p t.token t
+use Rattle.lq_predicate_formula.specs.Literals.{literal_fault}
+use Rattle.lq_predicate_formula.specs.Machine.{Expected, after_op}
+use Rattle.lq_predicate_formula.specs.MachineReading.{pattern_fault, pattern_fault_of_word}
 
 -- ---- the place of a pattern's fault is within its raw text
 
 -- how long the text within a token is
 abbrev raw_length : Token → ℕ
-raw_length opens = 0
-raw_length closes = 0
-raw_length bang = 0
-raw_length ands = 0
-raw_length ors = 0
-raw_length (op o) = 0
 raw_length (word raw) = length raw
-raw_length lone = 0
-raw_length cut = 0
+raw_length t = 0
 
 -- the place where a source is stuck lies within it
 stuck_within : (raw : List ℕ) (ps : Pieces Element) (k : ℕ)
-    → bad_place (elements_or_place raw ps) ≡ Some k → k ≤ length raw
+    → result_err (elements_or_place raw ps) ≡ Some k → k ≤ length raw
 stuck_within raw (whole es rest) k e = cc
 stuck_within raw (stuck rest) k e =
     let same : length raw - signs_len rest ≡ k = cc in
@@ -65,18 +31,13 @@ stuck_within raw (stuck rest) k e =
 literal_within : (o : Op) (raw : List ℕ) (k : ℕ) → literal_fault o raw ≡ Some k → k ≤ length raw
 literal_within Eq raw k e = stuck_within raw (pieces_of element_at (signs_of raw)) k e
 literal_within Ne raw k e = stuck_within raw (pieces_of element_at (signs_of raw)) k e
-literal_within Lt raw k e = cc
-literal_within Le raw k e = cc
-literal_within Gt raw k e = cc
-literal_within Ge raw k e = cc
+literal_within o raw k e = cc
 
 -- the place where a word is bad lies within it
 word_within : (p : Expected) (raw : List ℕ) (k : ℕ) → pattern_fault_of_word p raw ≡ Some k
     → k ≤ length raw
-word_within operand raw k e = cc
-word_within (after_attr a) raw k e = cc
 word_within (after_op a o) raw k e = literal_within o raw k e
-word_within after_operand raw k e = cc
+word_within p raw k e = cc
 
 -- the place where a token is bad lies within its text
 fault_within : (p : Expected) (u : Token) (k : ℕ) → pattern_fault p u ≡ Some k → k ≤ raw_length u

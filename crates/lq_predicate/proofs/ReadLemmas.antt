@@ -6,10 +6,10 @@ use Rattle.lq_predicate_formula.specs.Canonical.{canonical, depth}
 use Rattle.lq_predicate_formula.specs.Capped.{capped}
 use Rattle.lq_predicate_formula.specs.Faults.{HasOneReading, IsFaulty, IsReading, Reads, most_bytes, most_depth}
 use Rattle.lq_predicate_formula.specs.Machine.{MachineState, step}
-use Rattle.lq_predicate_formula.specs.MachineReading.{finished}
+use Rattle.lq_predicate_formula.specs.MachineReading.{finished, pattern_fault}
 use Rattle.lq_predicate_formula.specs.Query.{Query}
 use Rattle.lq_predicate_formula.specs.Tokens.{HasOneTokenList, Placed, Yields}
-use Rattle.lq_predicate.specs.Building.{IsWholeOf, pattern_fault, stop_in_text}
+use Rattle.lq_predicate.specs.Building.{IsWholeOf, stop_in_text}
 use Rattle.lq_predicate.specs.QuerySize.{query_size}
 use Rattle.lq_predicate.specs.declared.sizes.QuerySize.{QuerySize}
 use Rattle.lq_predicate.specs.declared.stop.Stop.{Stop}

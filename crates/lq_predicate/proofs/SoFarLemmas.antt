@@ -10,10 +10,8 @@ use Rattle.lq_predicate_formula.specs.Grammar.{nesting}
 use Rattle.lq_predicate_formula.specs.Machine.{MachineState, start, step, finished_query}
 use Rattle.lq_predicate_formula.specs.Faults.{IsFaulty, IsReading, most_bytes, most_comparisons}
 use Rattle.lq_predicate_formula.specs.Laws.{MachineReads}
-use Rattle.lq_predicate_formula.specs.MachineReading.{after_token, fault_place, finished, read_tokens, word_count}
-use Rattle.lq_predicate.specs.Building.{pattern_fault}
-use Rattle.lq_predicate.specs.FaultPlace.{place_at}
-use Rattle.lq_predicate.proofs.PlaceLemmas.{fault_place-at, pattern_place-bound}
+use Rattle.lq_predicate_formula.specs.MachineReading.{after_token, fault_place, finished, pattern_fault, place_at, read_tokens, word_count}
+use Rattle.lq_predicate.proofs.PlaceLemmas.{pattern_place-bound}
 
 -- a formula is read up to a place: what the whole reading is, from the state there, and that the
 -- words before it are of UTF-8
@@ -128,8 +126,7 @@ module _ (text : List ℕ) (place : ℕ) (rest : List ℕ) (s : MachineState) (c
       pub stops : (k : Option ℕ) → step s t.token ≡ None → pattern_fault s.expected t.token ≡ k
           → IsFaulty text (place_at (length text) t t.token k)
       stops k none f = subst (IsFaulty text)
-          (fault_place-at (length text) s.expected t
-          ∙ ap (place_at (length text) t t.token) f)
+          (ap (place_at (length text) t t.token) f)
           (reads_on None none others.tokens others.has)
 
       -- it is a word too many

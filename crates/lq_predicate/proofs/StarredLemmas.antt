@@ -9,10 +9,10 @@ use Rattle.std.proofs.lemmas.Bool.{and_parts}
 use Rattle.std.proofs.lemmas.List.{length-append}
 use Rattle.std.proofs.lemmas.Str.{encode_ascii, encodes-append, scalars-chars}
 use Rattle.lq_value.specs.Element.{Element}
-use Rattle.lq_value.specs.Pattern.{plain_elements}
+use Rattle.lq_value.specs.Pattern.{plain_elements, star_if}
 use Rattle.lq_predicate_formula.specs.Canonical.{pattern_text, plain_then}
 use Rattle.lq_predicate_formula.specs.Limits.{IsGoodPattern}
-use Rattle.lq_predicate.specs.Stack.{star_if, star_count, starred}
+use Rattle.lq_predicate.specs.Stack.{star_count, starred}
 
 -- a good pattern and then another are a good pattern
 good-append : (es fs : List Element) → IsGoodPattern es → IsGoodPattern fs

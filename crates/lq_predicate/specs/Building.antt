@@ -1,30 +1,17 @@
 -- What the code's machine has built of what the specified one has read.
-use Rattle.std.specs.Prelude.{◌≡◌, ◌≤◌, ℕ, List, map, reverse, length, Option, None, Some, Result, Ok, Err, ⊤}
+use Rattle.std.specs.Prelude.{◌≡◌, ◌≤◌, ℕ, List, map, reverse, length, Option, Some, Result, Ok, Err, ⊤}
 use Rattle.lq_predicate_formula.specs.Faults.{IsFaulty, IsReading}
 use Rattle.lq_predicate_formula.specs.Machine.{Frame, Expected, operand, after_attr, after_op, after_operand, MachineState, step_at, weight}
-use Rattle.lq_predicate_formula.specs.MachineReading.{finished, pattern_fault_of_word}
+use Rattle.lq_predicate_formula.specs.MachineReading.{finished, pattern_fault, place_at}
 use Rattle.lq_predicate_formula.specs.Query.{Query}
-use Rattle.lq_predicate_formula.specs.Tokens.{Token, opens, closes, bang, ands, ors, op, word, lone, cut, Placed}
+use Rattle.lq_predicate_formula.specs.Tokens.{Token, Placed}
 use Rattle.lq_predicate.specs.Made.{IsMadeOf}
-use Rattle.lq_predicate.specs.FaultPlace.{place_at}
 use Rattle.lq_predicate.specs.declared.machine.Expected.{Expected as Expects}
 use Rattle.lq_predicate.specs.declared.machine.Expected.TheVariants as expects
 use Rattle.lq_predicate.specs.declared.machine.Frame.{Frame as Built}
 use Rattle.lq_predicate.specs.declared.machine.Frames.{Frames}
 use Rattle.lq_predicate.specs.declared.stop.Stop.{Stop}
 use Rattle.lq_predicate.specs.declared.stop.Stop.TheVariants.{Fault, Failed}
-
--- the offset in a token of its pattern's fault, if the token is a literal that is read as a pattern
-abbrev pub pattern_fault : Expected → Token → Option ℕ
-pattern_fault p opens = None
-pattern_fault p closes = None
-pattern_fault p bang = None
-pattern_fault p ands = None
-pattern_fault p ors = None
-pattern_fault p (op o) = None
-pattern_fault p (word raw) = pattern_fault_of_word p raw
-pattern_fault p lone = None
-pattern_fault p cut = None
 
 module _ {P : Type 0} (parts : List Query → P) where
   abbrev pub built_frame : Frame → Built P

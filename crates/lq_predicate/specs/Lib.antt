@@ -17,6 +17,5 @@ pub mod Made
 pub mod Building
 pub mod QuerySize
 pub mod TreeParts
-pub mod FaultPlace
 pub mod Reading
 pub mod Refusals

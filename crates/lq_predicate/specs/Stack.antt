@@ -1,16 +1,15 @@
 -- The postfix stack: what each push gives, and when it doesn't fit.
-use Rattle.std.specs.Prelude.{◌≡◌, ℕ, ◌+◌, ◌^◌, List, [], ◌∷◌, ◌++◌, drop, length, Bool, true, false, nat_le, nat_lt, Option, Some, None, IsSome, Result, Ok, Err, option_and_then, if◌then◌else◌}
+use Rattle.std.specs.Prelude.{◌≡◌, ℕ, ◌+◌, ◌^◌, List, [], ◌∷◌, drop, length, Bool, true, false, nat_le, nat_lt, Option, Some, None, IsSome, Result, Ok, Err, option_and_then, if◌then◌else◌}
 use Rattle.std.specs.Option.{option_map}
 use Rattle.std.specs.Str.{chars}
 use Rattle.lq_value.specs.Element.{Element}
-use Rattle.lq_value.specs.Element.TheVariants.{Star}
 use Rattle.lq_value.specs.declared.literal.Literal.TheVariants as literal
 use Rattle.lq_value.specs.declared.op.Op.{Op}
 use Rattle.lq_value.specs.declared.op.Op.TheVariants as op
 use Rattle.lq_value.specs.declared.refusal.Refusal.{Refusal}
 use Rattle.lq_value.specs.declared.refusal.Refusal.TheVariants.{BadQuery}
 use Rattle.lq_value.specs.Name.{is_attr_name}
-use Rattle.lq_value.specs.Pattern.{plain_elements}
+use Rattle.lq_value.specs.Pattern.{with_stars}
 use Rattle.lq_predicate_formula.specs.Query.{Query, Compare, Not, And, Or, Queries, queries}
 use Rattle.lq_predicate_formula.specs.PredicateLimits.{if_within}
 use Rattle.lq_predicate.specs.Operand.{pattern_in}
@@ -44,16 +43,12 @@ compared_if op attr pattern =
     option_map (λ elements. Compare attr op (literal.Pattern elements)) pattern
 
 -- the characters of a text as plain ones, with a star before them, after them or both
-abbrev pub star_if : Bool → List Element
-star_if true = Star ∷ []
-star_if false = []
+abbrev pub starred : Bool → List ℕ → Bool → List Element
+starred before text behind = with_stars before (chars text) behind
 
 abbrev pub star_count : Bool → ℕ
 star_count true = 1
 star_count false = 0
-
-abbrev pub starred : Bool → List ℕ → Bool → List Element
-starred before text behind = star_if before ++ (plain_elements (chars text) ++ star_if behind)
 
 -- the comparison of an attribute with a text
 abbrev pub compared : StackOp → List ℕ → List ℕ → Option Query
@@ -66,9 +61,7 @@ compared stack_op.Le attr text = Some (Compare attr op.Le (literal.Plain text))
 compared stack_op.Contains attr text = compared_if op.Eq attr (Some (starred true text true))
 compared stack_op.BeginsWith attr text = compared_if op.Eq attr (Some (starred false text true))
 compared stack_op.EndsWith attr text = compared_if op.Eq attr (Some (starred true text false))
-compared stack_op.And attr text = None
-compared stack_op.Or attr text = None
-compared stack_op.Not attr text = None
+compared stack_op attr text = None
 
 -- the items with the query on top, if it is within the limits
 abbrev pub in_place : Option Query → List StackItem → Option (List StackItem)
@@ -91,18 +84,10 @@ after_not items = None
 
 -- the items after an operator
 abbrev pub after_op : StackOp → List StackItem → Option (List StackItem)
-after_op stack_op.Eq items = after_comparison stack_op.Eq items
-after_op stack_op.Ne items = after_comparison stack_op.Ne items
-after_op stack_op.Gt items = after_comparison stack_op.Gt items
-after_op stack_op.Ge items = after_comparison stack_op.Ge items
-after_op stack_op.Lt items = after_comparison stack_op.Lt items
-after_op stack_op.Le items = after_comparison stack_op.Le items
-after_op stack_op.Contains items = after_comparison stack_op.Contains items
-after_op stack_op.BeginsWith items = after_comparison stack_op.BeginsWith items
-after_op stack_op.EndsWith items = after_comparison stack_op.EndsWith items
 after_op stack_op.And items = after_join And items
 after_op stack_op.Or items = after_join Or items
 after_op stack_op.Not items = after_not items
+after_op op items = after_comparison op items
 
 abbrev pub op_pushed : StackOp → Stacked → Option Stacked
 op_pushed op stack = option_and_then (pushed stack) (after_op op stack.items)

@@ -3,14 +3,14 @@ ghost use Rattle.std.specs.Prelude.{◌≡◌, ◌++◌, ℕ, List, IfOk, OnErr,
 ghost use Rattle.std.specs.Str.{chars};
 ghost use Rattle.lq_value.specs.Refusal.{FailsOnlyForMemory};
 ghost use Rattle.lq_value.specs.Compare.{suits};
-ghost use Rattle.lq_value.specs.Pattern.{plain_elements};
+ghost use Rattle.lq_value.specs.Pattern.{plain_elements, star_if};
 ghost use Rattle.lq_value.specs.Element.{Element};
 ghost use Rattle.lq_value.specs.declared.op.Op.TheVariants as op;
 ghost use Rattle.lq_value.specs.declared.literal.Literal.TheVariants as literal;
 ghost use Rattle.lq_predicate_formula.specs.Query.{Compare};
 ghost use Rattle.lq_predicate_formula.specs.PredicateLimits.{if_within};
 ghost use Rattle.lq_predicate.specs.Operand.{pattern_in};
-ghost use Rattle.lq_predicate.specs.Stack.{compared, compared_if, star_if, starred};
+ghost use Rattle.lq_predicate.specs.Stack.{compared, compared_if, starred};
 
 use crate::operand::Operand;
 use crate::predicate::Predicate;

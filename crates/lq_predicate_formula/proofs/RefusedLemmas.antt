@@ -3,6 +3,7 @@ use Rattle.std.proofs.Common.{◌≡◌, ℕ, suc, ◌+◌, List, [], ◌∷◌,
 use Rattle.std.specs.Prelude.{option_map, Result, Ok, Err}
 use Rattle.std.proofs.lemmas.Option.{same_Some, none-some}
 use Rattle.std.proofs.lemmas.List.{map-append}
+use Rattle.std.specs.Result.{result_err}
 use Rattle.lq_value.specs.Element.{Element}
 use Rattle.lq_value.specs.declared.op.Op.{Op}
 use Rattle.lq_value.specs.declared.op.Op.TheVariants.{Eq, Ne}
@@ -10,10 +11,10 @@ use Rattle.lq_value.specs.Source.{pattern_of}
 use Rattle.lq_predicate_formula.specs.Tokens.{Token, opens, closes, bang, ands, ors, op, word, lone, cut, Placed}
 use Rattle.lq_predicate_formula.specs.Query.{Compare}
 use Rattle.lq_predicate_formula.specs.Machine.{operand, after_attr, after_operand, MachineState, deeper, empty_frame, frame_with, said_by, completed, step, steps, Frame, Expected, after_op, start}
-use Rattle.lq_predicate_formula.specs.Literals.{bad_place, literal_fault, literal_of, name_of, pattern_literal}
+use Rattle.lq_predicate_formula.specs.Literals.{literal_fault, literal_of, name_of, pattern_literal}
 use Rattle.lq_predicate_formula.specs.Grammar.{nesting}
 use Rattle.lq_predicate_formula.specs.Faults.{AwaitsAttr, IsFaultOf, stray, cut_off, alone, too_deep, bad_name, bad_pattern, kind_of}
-use Rattle.lq_predicate_formula.specs.MachineReading.{fault_place, fault_place_of, place_with}
+use Rattle.lq_predicate_formula.specs.MachineReading.{fault_place, pattern_fault, place_at}
 use Rattle.lq_predicate_formula.proofs.MoveLemmas.{at, led, move, negated, Move, enter, deny, attribute, operator, complete, one_and, one_or, leave, front_by, steps_on, steps_push}
 use Rattle.lq_predicate_formula.proofs.StopLemmas.{begun_at, can_stand, not_begun}
 use Rattle.lq_predicate_formula.proofs.OutlineLemmas.{cannot, outline_of, outline_step}
@@ -95,7 +96,7 @@ none_of None f e = refl
 none_of (Some x) f e = some_none (f x) e
 
 -- what is no pattern has a place at which it is bad
-bad_by : (r : Result (List Element) ℕ) → pattern_literal r ≡ None → (k : ℕ) × (bad_place r ≡ Some k)
+bad_by : (r : Result (List Element) ℕ) → pattern_literal r ≡ None → (k : ℕ) × (result_err r ≡ Some k)
 bad_by (Ok es) e = some_none _ e
 bad_by (Err k) e = (k, refl)
 
@@ -109,18 +110,19 @@ bad_literal o w e = some_none _ e
 pattern_at : (end : ℕ) (ts : List Token) (a : List ℕ) (o : Op) (below : List Frame) (f : Frame)
     (n place raw : ℕ) (w : List ℕ) → steps (start nesting) ts ≡ Some (at (after_op a o) below f n)
     → literal_of o w ≡ None → IsFaultOf end ts (here_of place raw (word w))
-    (place_with (literal_fault o w) (here_of place raw (word w)))
+    (place_at end (here_of place raw (word w)) (word w) (literal_fault o w))
 pattern_at end ts a o below f n place raw w e h =
     let k = bad_literal o w h in
     let front = front_by ts (at (after_op a o) below f n) o refl e in
     bad_pattern front.0 o w k.0 front.1 refl k.1
-    (ap (λ r. place_with r (here_of place raw (word w))) k.1)
+    (ap (place_at end (here_of place raw (word w)) (word w)) k.1)
 
 -- a token that is refused is at fault
 refused_at : (p : Expected) (below : List Frame) (f : Frame) (n : ℕ) (t : Token) (end : ℕ)
     (ts : List Token) (place raw : ℕ)
     → steps (start nesting) ts ≡ Some (at p below f n) → step (at p below f n) t ≡ None
-    → IsFaultOf end ts (here_of place raw t) (fault_place_of end p t (here_of place raw t))
+    → IsFaultOf end ts (here_of place raw t)
+    (place_at end (here_of place raw t) t (pattern_fault p t))
 refused_at p below f n lone end ts place raw e h = alone refl refl
 refused_at p below f n cut end ts place raw e h = cut_off refl refl
 refused_at operand below f zero opens end ts place raw e h =

@@ -10,7 +10,7 @@ use Rattle.lq_predicate_formula.specs.Tokens.{Token, word, Placed, bare, op, cut
 use Rattle.lq_predicate_formula.specs.Grammar.{nesting}
 use Rattle.lq_predicate_formula.specs.Machine.{MachineState, start, step, steps, Expected, after_op, completed}
 use Rattle.lq_predicate_formula.specs.Faults.{AreFine, IsFaultOf, most_comparisons, AwaitsAttr, CanStand, stray, cut_off, alone, too_deep, bad_name, one_more, bad_pattern, kind_of}
-use Rattle.lq_predicate_formula.specs.MachineReading.{fault_place, read_tokens, word_count, fault_place_of, place_with}
+use Rattle.lq_predicate_formula.specs.MachineReading.{fault_place, pattern_fault, place_at, read_tokens, word_count}
 use Rattle.lq_predicate_formula.specs.Query.{Compare}
 use Rattle.lq_predicate_formula.proofs.MoveLemmas.{steps_push, at, last_move, op_place}
 use Rattle.lq_predicate_formula.proofs.RefusedLemmas.{refused_fault}
@@ -125,7 +125,7 @@ stops end all = stops_from end all all [] refl (record {
 -- the fault's place is the token's own, but for a cut text and for a bad literal
 plain_place : (end : ℕ) (q : Expected) (t : Token) (here : Placed)
     → (t ≡ cut → ⊥) → ((a : List ℕ) (o : Op) (w : List ℕ) → q ≡ after_op a o → t ≡ word w → ⊥)
-    → fault_place_of end q t here ≡ here.place
+    → place_at end here t (pattern_fault q t) ≡ here.place
 plain_place end q cut here h k = absurd (h refl)
 plain_place end (after_op a o) (word w) here h k = absurd (k a o w refl refl)
 plain_place end q t here h k = refl
@@ -171,6 +171,6 @@ module _ (ts : List Token) (s : MachineState) (e : steps (start nesting) ts ≡ 
   fault_is end here p (bad_pattern front o w k split h i is) =
       let d = op_place (last_move front (op o) s
       (subst (λ l. steps (start nesting) l ≡ Some s) split e)).1 in
-      ap (λ q. fault_place_of end q here.token here) d.1
-      ∙ ap (λ t. fault_place_of end (after_op d.0 o) t here) h
-      ∙ ap (λ r. place_with r here) i ∙ sym is
+      ap (λ q. place_at end here here.token (pattern_fault q here.token)) d.1
+      ∙ ap (λ t. place_at end here t (pattern_fault (after_op d.0 o) t)) h
+      ∙ ap (place_at end here (word w)) i ∙ sym is

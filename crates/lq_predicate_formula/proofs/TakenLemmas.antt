@@ -3,6 +3,7 @@ use Rattle.std.proofs.Common.{◌≡◌, ◌+◌, ℕ, List, [], ◌∷◌, Some
 use Rattle.std.proofs.lemmas.Option.{same_Some, none-some}
 use Rattle.std.specs.Prelude.{Result, Ok, Err}
 use Rattle.std.proofs.lemmas.List.{map-append}
+use Rattle.std.specs.Result.{result_err}
 use Rattle.lq_value.specs.Element.{Element}
 use Rattle.lq_value.specs.declared.op.Op.{Op}
 use Rattle.lq_value.specs.declared.op.Op.TheVariants.{Eq, Ne}
@@ -11,7 +12,7 @@ use Rattle.lq_predicate_formula.specs.Tokens.{Token, word, Placed, op, lone, cut
 use Rattle.lq_predicate_formula.specs.Grammar.{nesting}
 use Rattle.lq_predicate_formula.specs.Machine.{Expected, operand, after_attr, after_op, MachineState, start, step, steps, after_operand, step_at}
 use Rattle.lq_predicate_formula.specs.Faults.{AwaitsAttr, IsFaultOf, one_more, most_comparisons, operators, AreFine, stray, cut_off, alone, too_deep, bad_name, bad_pattern}
-use Rattle.lq_predicate_formula.specs.Literals.{bad_place, literal_fault, literal_of, name_of, pattern_literal}
+use Rattle.lq_predicate_formula.specs.Literals.{literal_fault, literal_of, name_of, pattern_literal}
 use Rattle.lq_predicate_formula.proofs.MoveLemmas.{at, led, move, Move, attribute, operator, complete, last_move, split_steps, steps_push}
 use Rattle.lq_predicate_formula.proofs.WordLemmas.{words, words_append}
 use Rattle.lq_predicate_formula.proofs.RefusedLemmas.{awaits_attr}
@@ -67,7 +68,7 @@ never_nameless (attribute below f n raw attr e) h o k = none-some attr (sym h �
 never_nameless (complete below f n a u raw literal e) h o k = none-some o k
 
 -- what has a bad place is no pattern
-literal_by : (r : Result (List Element) ℕ) (k : ℕ) → bad_place r ≡ Some k → pattern_literal r ≡ None
+literal_by : (r : Result (List Element) ℕ) (k : ℕ) → result_err r ≡ Some k → pattern_literal r ≡ None
 literal_by (Ok es) k e = absurd (none-some k e)
 literal_by (Err j) k e = refl
 

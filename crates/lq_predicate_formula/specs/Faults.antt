@@ -2,7 +2,7 @@
 use Rattle.std.specs.Prelude.{◌≡◌, ◌+◌, ◌<◌, ◌≤◌, ◌⊎◌, ℕ, List, [], ◌∷◌, ◌++◌, length, map, None, Some, Result, Ok, Err}
 use Rattle.lq_value.specs.declared.op.Op.{Op}
 use Rattle.lq_value.specs.declared.op.Op.TheVariants.{Eq}
-use Rattle.lq_predicate_formula.specs.Tokens.{Token, opens, closes, bang, ands, ors, op, word, lone, cut, Placed, HasTokens, bare}
+use Rattle.lq_predicate_formula.specs.Tokens.{Token, opens, bang, op, word, lone, cut, Placed, HasTokens, bare}
 use Rattle.lq_predicate_formula.specs.Query.{Query}
 use Rattle.lq_predicate_formula.specs.Grammar.{IsFormula, nesting, IsBegun}
 use Rattle.lq_predicate_formula.specs.Literals.{literal_fault, name_of}
@@ -32,15 +32,8 @@ pub record Reads (text : List ℕ) (q : Query) : Type 0 where
 
 -- the kind of a token, without the text of a word
 abbrev pub kind_of : Token → Token
-kind_of opens = opens
-kind_of closes = closes
-kind_of bang = bang
-kind_of ands = ands
-kind_of ors = ors
-kind_of (op o) = op o
 kind_of (word raw) = word []
-kind_of lone = lone
-kind_of cut = cut
+kind_of t = t
 
 -- By the grammar alone, whatever the words are and however deep it nests, some formula begins with
 -- tokens of these kinds.
@@ -64,15 +57,8 @@ IsTooDeep ts =
 
 -- the number of operators: each comparison has one
 abbrev pub op_count : Token → ℕ
-op_count opens = 0
-op_count closes = 0
-op_count bang = 0
-op_count ands = 0
-op_count ors = 0
 op_count (op o) = 1
-op_count (word raw) = 0
-op_count lone = 0
-op_count cut = 0
+op_count t = 0
 
 abbrev pub operators : List Token → ℕ
 operators [] = 0

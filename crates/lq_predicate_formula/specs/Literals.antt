@@ -2,10 +2,11 @@
 use Rattle.std.specs.Prelude.{ℕ, ◌==◌, not, is_some, if◌then◌else◌, Bool, true, false, List, [], ◌∷◌, Option, Some, None, Result, Ok, Err}
 use Rattle.std.specs.List.{list_all}
 use Rattle.std.specs.Option.{option_map}
+use Rattle.std.specs.Result.{result_err}
 use Rattle.lq_value.specs.declared.refusal.Refusal.{Refusal}
 use Rattle.lq_value.specs.declared.refusal.Refusal.TheVariants.{BadName, BadQuery}
 use Rattle.lq_value.specs.declared.op.Op.{Op}
-use Rattle.lq_value.specs.declared.op.Op.TheVariants.{Eq, Ne, Lt, Le, Gt, Ge}
+use Rattle.lq_value.specs.Compare.{takes_pattern}
 use Rattle.lq_value.specs.Element.{Element}
 use Rattle.lq_value.specs.declared.literal.Literal.{Literal}
 use Rattle.lq_value.specs.declared.literal.Literal.TheVariants.{Pattern, Plain}
@@ -31,15 +32,6 @@ name_of raw = if is_attr_name (unescaped false raw) then Some (unescaped false r
 abbrev pub name_refusal : List ℕ → Option Refusal
 name_refusal raw = if is_some (name_of raw) then None else Some BadName
 
--- a pattern follows `=`, `==` and `!=`
-abbrev pub takes_pattern : Op → Bool
-takes_pattern Eq = true
-takes_pattern Ne = true
-takes_pattern Lt = false
-takes_pattern Le = false
-takes_pattern Gt = false
-takes_pattern Ge = false
-
 abbrev pub pattern_literal : Result (List Element) ℕ → Option Literal
 pattern_literal (Ok elements) = Some (Pattern elements)
 pattern_literal (Err place) = None
@@ -49,13 +41,9 @@ abbrev pub literal_of : Op → List ℕ → Option Literal
 literal_of o raw =
     if takes_pattern o then pattern_literal (pattern_of raw) else Some (Plain (unescaped false raw))
 
-abbrev pub bad_place : Result (List Element) ℕ → Option ℕ
-bad_place (Ok elements) = None
-bad_place (Err place) = Some place
-
 -- the offset in a literal's raw text of its pattern's fault
 abbrev pub literal_fault : Op → List ℕ → Option ℕ
-literal_fault o raw = if takes_pattern o then bad_place (pattern_of raw) else None
+literal_fault o raw = if takes_pattern o then result_err (pattern_of raw) else None
 
 -- why a raw text is refused as a literal after an operator
 abbrev pub literal_refusal : Op → List ℕ → Option Refusal

@@ -1,7 +1,7 @@
 -- Reading tokens from the left, with a stack of the formulas that are begun.
 use Rattle.std.specs.Prelude.{ℕ, zero, suc, ◌+◌, List, [], ◌∷◌, ◌++◌, Option, Some, None, option_and_then, option_map}
 use Rattle.lq_value.specs.declared.op.Op.{Op}
-use Rattle.lq_predicate_formula.specs.Tokens.{Token, opens, closes, bang, ands, ors, op, word, lone, cut}
+use Rattle.lq_predicate_formula.specs.Tokens.{Token, opens, closes, bang, ands, ors, op, word}
 use Rattle.lq_predicate_formula.specs.Literals.{name_of, literal_of}
 use Rattle.lq_predicate_formula.specs.Query.{Query, Compare, Not, both_of, either_of}
 
@@ -36,8 +36,7 @@ negate (suc n) q = negate n (Not q)
 
 -- the frame after the operand that it expected
 abbrev pub frame_with : Query → Frame → Frame
-frame_with q f =
-    record { or_parts = f.or_parts; and_parts = f.and_parts ++ negate f.bangs q ∷ []; bangs = 0 }
+frame_with q f = record f { and_parts = f.and_parts ++ negate f.bangs q ∷ []; bangs = 0 }
 
 abbrev pub completed : Query → List Frame → Frame → ℕ → MachineState
 completed q below f room =
@@ -61,67 +60,34 @@ at_operand s opens = deeper s.room
     (λ n. record { below = s.top ∷ s.below; top = empty_frame; expected = operand; room = n })
 at_operand s bang = deeper s.room (λ n. record {
   below = s.below;
-  top = record { or_parts = s.top.or_parts; and_parts = s.top.and_parts; bangs = suc s.top.bangs };
+  top = record s.top { bangs = suc s.top.bangs };
   expected = operand;
   room = n;
 })
-at_operand s (word a) = option_map (λ name.
-    record { below = s.below; top = s.top; expected = after_attr name; room = s.room }) (name_of a)
-at_operand s closes = None
-at_operand s ands = None
-at_operand s ors = None
-at_operand s (op o) = None
-at_operand s lone = None
-at_operand s cut = None
+at_operand s (word a) = option_map (λ name. record s { expected = after_attr name }) (name_of a)
+at_operand s t = None
 
 abbrev pub at_attr : MachineState → List ℕ → Token → Option MachineState
-at_attr s a (op o) =
-    Some (record { below = s.below; top = s.top; expected = after_op a o; room = s.room })
-at_attr s a opens = None
-at_attr s a closes = None
-at_attr s a bang = None
-at_attr s a ands = None
-at_attr s a ors = None
-at_attr s a (word w) = None
-at_attr s a lone = None
-at_attr s a cut = None
+at_attr s a (op o) = Some (record s { expected = after_op a o })
+at_attr s a t = None
 
 abbrev pub at_op : MachineState → List ℕ → Op → Token → Option MachineState
 at_op s a o (word l) =
     option_map (λ literal. completed (Compare a o literal) s.below s.top s.room) (literal_of o l)
-at_op s a o opens = None
-at_op s a o closes = None
-at_op s a o bang = None
-at_op s a o ands = None
-at_op s a o ors = None
-at_op s a o (op p) = None
-at_op s a o lone = None
-at_op s a o cut = None
+at_op s a o t = None
 
 abbrev pub at_end : MachineState → Token → Option MachineState
-at_end s ands = Some (record {
-  below = s.below;
-  top = record { or_parts = s.top.or_parts; and_parts = s.top.and_parts; bangs = 0 };
-  expected = operand;
-  room = s.room;
-})
-at_end s ors = Some (record {
-  below = s.below;
+at_end s ands = Some (record s { top = record s.top { bangs = 0 }; expected = operand })
+at_end s ors = Some (record s {
   top = record {
     or_parts = s.top.or_parts ++ both_of s.top.and_parts ∷ [];
     and_parts = [];
     bangs = 0;
   };
   expected = operand;
-  room = s.room;
 })
 at_end s closes = close s.below s.top s.room
-at_end s opens = None
-at_end s bang = None
-at_end s (op o) = None
-at_end s (word w) = None
-at_end s lone = None
-at_end s cut = None
+at_end s t = None
 
 abbrev pub step_at : Expected → MachineState → Token → Option MachineState
 step_at operand s t = at_operand s t
@@ -135,10 +101,7 @@ step s t = step_at s.expected s t
 
 abbrev pub whole_at : Expected → List Frame → Frame → Option Query
 whole_at after_operand [] f = Some (said_by f)
-whole_at after_operand (g ∷ gs) f = None
-whole_at operand below f = None
-whole_at (after_attr a) below f = None
-whole_at (after_op a o) below f = None
+whole_at p below f = None
 
 -- the query, if the formula may end here
 abbrev pub finished_query : MachineState → Option Query

@@ -2,55 +2,46 @@
 -- of private functions of lq_predicate. By that law it is a reading of the text, which has just one
 -- (`HasOneReading` of `specs/Faults`).
 use Rattle.std.specs.Prelude.{ℕ, ◌+◌, ◌&&◌, nat_le, if◌then◌else◌, List, [], ◌∷◌, length, Option, None, Some, Result, Ok, Err}
-use Rattle.lq_predicate_formula.specs.Tokens.{Token, opens, closes, bang, ands, ors, op, word, lone, cut, Placed}
+use Rattle.lq_predicate_formula.specs.Tokens.{Token, word, cut, Placed}
 use Rattle.lq_predicate_formula.specs.Query.{Query}
 use Rattle.lq_predicate_formula.specs.Grammar.{nesting}
 use Rattle.lq_predicate_formula.specs.Literals.{literal_fault}
 use Rattle.lq_predicate_formula.specs.Canonical.{canonical, depth}
-use Rattle.lq_predicate_formula.specs.Machine.{Expected, operand, after_attr, after_op, after_operand, MachineState, start, step, finished_query}
+use Rattle.lq_predicate_formula.specs.Machine.{Expected, after_op, MachineState, start, step, finished_query}
 use Rattle.lq_predicate_formula.specs.Faults.{most_bytes, most_comparisons, most_depth}
 
 -- ---- the place of the fault of a refused token
 
 -- the offset in a word of its pattern's fault, if the word is a literal that is read as a pattern
 abbrev pub pattern_fault_of_word : Expected → List ℕ → Option ℕ
-pattern_fault_of_word operand raw = None
-pattern_fault_of_word (after_attr a) raw = None
 pattern_fault_of_word (after_op a o) raw = literal_fault o raw
-pattern_fault_of_word after_operand raw = None
+pattern_fault_of_word p raw = None
 
-abbrev pub place_with : Option ℕ → Placed → ℕ
-place_with None t = t.place
-place_with (Some k) t = t.raw_place + k
+-- the same for a token
+abbrev pub pattern_fault : Expected → Token → Option ℕ
+pattern_fault p (word raw) = pattern_fault_of_word p raw
+pattern_fault p t = None
 
-abbrev pub fault_place_of : ℕ → Expected → Token → Placed → ℕ
-fault_place_of end p opens t = t.place
-fault_place_of end p closes t = t.place
-fault_place_of end p bang t = t.place
-fault_place_of end p ands t = t.place
-fault_place_of end p ors t = t.place
-fault_place_of end p (op o) t = t.place
-fault_place_of end p (word raw) t = place_with (pattern_fault_of_word p raw) t
-fault_place_of end p lone t = t.place
-fault_place_of end p cut t = end
+-- the place of a token's fault outside a pattern: a cut text has it at its end
+abbrev pub place_or_end : ℕ → ℕ → Token → ℕ
+place_or_end end place cut = end
+place_or_end end place t = place
 
--- the place of the fault of a refused token; for a cut text, the end of the text
+-- the place of the fault of a token of this kind, which may be in its pattern
+abbrev pub place_at : ℕ → Placed → Token → Option ℕ → ℕ
+place_at end t kind None = place_or_end end t.place kind
+place_at end t kind (Some k) = t.raw_place + k
+
+-- the place of the fault of a refused token
 abbrev pub fault_place : ℕ → Expected → Placed → ℕ
-fault_place end p t = fault_place_of end p t.token t
+fault_place end p t = place_at end t t.token (pattern_fault p t.token)
 
 -- ---- the reading
 
 -- the number of words in a token: each comparison has two, an attribute and a literal
 abbrev pub word_count : Token → ℕ
-word_count opens = 0
-word_count closes = 0
-word_count bang = 0
-word_count ands = 0
-word_count ors = 0
-word_count (op o) = 0
 word_count (word raw) = 1
-word_count lone = 0
-word_count cut = 0
+word_count t = 0
 
 -- the state after a token and this many words, and the reading from there on
 abbrev pub after_token : ℕ → Placed → Option MachineState → ℕ → (MachineState → Result Query ℕ)

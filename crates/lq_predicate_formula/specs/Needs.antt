@@ -2,16 +2,14 @@
 -- each entry has.
 use Rattle.std.specs.Prelude.{Bool, true, false, ◌&&◌, ◌||◌}
 use Rattle.lq_value.specs.declared.field.Field.{Field}
-use Rattle.lq_value.specs.declared.field.Field.TheVariants.{Name, Size, LastModified, Attribute}
+use Rattle.lq_value.specs.declared.field.Field.TheVariants.{Attribute}
 use Rattle.lq_value.specs.Field.{field_of}
 use Rattle.lq_predicate_formula.specs.Query.{Query, Compare, Not, And, Or, Queries, no_more, and_then}
 
 -- whether a field is an attribute, which an entry may lack
 abbrev pub is_attribute : Field → Bool
-is_attribute Name = false
-is_attribute Size = false
-is_attribute LastModified = false
 is_attribute Attribute = true
+is_attribute field = false
 
 -- a comparison needs its attribute, an And what one of its parts needs, an Or what all of them need
 abbrev mutual

@@ -1,18 +1,11 @@
 -- A property of each word among some tokens.
 use Rattle.std.specs.Prelude.{ℕ, List, [], ◌∷◌}
-use Rattle.lq_predicate_formula.specs.Tokens.{Token, opens, closes, bang, ands, ors, op, word, lone, cut}
+use Rattle.lq_predicate_formula.specs.Tokens.{Token, word}
 
 -- a token's word, if it is one
 abbrev pub WordIs : (List ℕ → Type 0) → Token → Type 0
-WordIs T opens = Unit {0}
-WordIs T closes = Unit {0}
-WordIs T bang = Unit {0}
-WordIs T ands = Unit {0}
-WordIs T ors = Unit {0}
-WordIs T (op o) = Unit {0}
 WordIs T (word raw) = T raw
-WordIs T lone = Unit {0}
-WordIs T cut = Unit {0}
+WordIs T t = Unit {0}
 
 -- each word of the tokens
 abbrev pub WordsAre : (List ℕ → Type 0) → List Token → Type 0

@@ -1,9 +1,10 @@
 //! Names of attributes and literals, from their raw texts.
 ghost use Rattle.std.specs.Prelude.{◌≡◌, Some, IfOk, IfSome, IfNone, is_some, false, true, length};
 ghost use Rattle.std.specs.String.{string_bytes};
+ghost use Rattle.lq_value.specs.Compare.{takes_pattern as patterned};
 ghost use Rattle.lq_value.specs.Refusal.{FailsOnlyForMemory, IsRefusedBy};
 ghost use Rattle.lq_predicate_formula.specs.Limits.{IsGoodBehind};
-ghost use Rattle.lq_predicate_formula.specs.Literals.{has_no_nul, literal_of, literal_refusal, name_of, name_refusal, takes_pattern as patterned, unescaped};
+ghost use Rattle.lq_predicate_formula.specs.Literals.{has_no_nul, literal_of, literal_refusal, name_of, name_refusal, unescaped};
 
 use crate::laws::patterns_are_good;
 use lq_value::{AttrName, Literal, MAX_ATTR_NAME, Op, Pattern, Refusal, Text};

@@ -107,12 +107,10 @@ SettledIsTested = (ms : List Message) → IsSettled ms ↔ (is_settled ms ≡ tr
 
 -- the only names under which a change alters what an entry shows, if no place changes
 abbrev pub names_altered : Change → Option (List (List ℕ))
-names_altered (Create dir name kind size time) = None
-names_altered (Remove node) = None
-names_altered (Move node dir name clobber) = None
 names_altered (Write node size time) = Some (codes "size" ∷ codes "last_modified" ∷ [])
 names_altered (SetAttr node attr value) = Some (attr ∷ [])
 names_altered (RemoveAttr node attr) = Some (attr ∷ [])
+names_altered c = None
 
 -- a change under names that a predicate doesn't depend on makes no message for it
 abbrev pub ChangesPassOver : Type 0

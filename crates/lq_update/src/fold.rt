@@ -1,9 +1,9 @@
 //! Folds one message into the entries of a result.
-ghost use Rattle.std.specs.Prelude.{◌≡◌, Some, None, IfOk, IfErr, IfSome, OnOk, OnErr, is_ok, is_some, not, if◌then◌else◌};
+ghost use Rattle.std.specs.Prelude.{◌≡◌, Some, None, IfOk, IfErr, IfSome, OnOk, OnErr, is_ok, is_some, if◌then◌else◌};
 ghost use Rattle.lq_value.specs.declared.refusal.Refusal.TheVariants.{Mismatch};
 ghost use Rattle.lq_value.specs.Refusal.{FailsOnlyForMemory, IsRefusedBy};
 ghost use Rattle.lq_update.specs.Diff.{has_node, same_entry};
-ghost use Rattle.lq_update.specs.Fold.{EntriesRise, message_entry, fits_in, folded_one, has_entry, old_entry, put_in, taken_out};
+ghost use Rattle.lq_update.specs.Fold.{EntriesRise, message_entry, fits_in, folded_one, has_entry};
 ghost use Rattle.lq_update.specs.Place.{IsEntryAt, IsGapFor, IsTripleAt};
 
 use crate::message::{Message, Opcode};
@@ -23,70 +23,33 @@ pub fn fold(alloc: Global, entries: &mut Vec<Entry>, message: &Message) -> Resul
     ensures rise { EntriesRise entries.new.items }
 {
     match &message.op {
-        Opcode::Created => put(alloc, entries, message),
-        Opcode::Removed => take(entries, message),
+        Opcode::Created => {
+            let Err(place) = place_of(entries, message.node) else {
+                return Err(Refusal::Mismatch);
+            };
+            let entry = entry_of(alloc, message)?;
+            entries.insert(place, entry)?;
+            Ok(())
+        }
+        Opcode::Removed => {
+            let Some(place) = place_with(entries, message.dir, &message.name, message.node) else {
+                return Err(Refusal::Mismatch);
+            };
+            entries.remove(place);
+            Ok(())
+        }
         Opcode::Moved {
             from_dir,
             from_name,
-        } => replace(alloc, entries, *from_dir, from_name, message),
+        } => {
+            let Some(place) = place_with(entries, *from_dir, from_name, message.node) else {
+                return Err(Refusal::Mismatch);
+            };
+            let entry = entry_of(alloc, message)?;
+            entries[place] = entry;
+            Ok(())
+        }
     }
-}
-
-fn put(alloc: Global, entries: &mut Vec<Entry>, message: &Message) -> Result<(), Refusal>
-    requires { EntriesRise entries.old.items }
-    ensures refused { IsRefusedBy result
-        (if not (has_node message.now.node entries.old.items) then None else Some Mismatch) }
-    ensures ok { OnOk result (entries.new.items
-        ≡ put_in (message_entry message.now) entries.old.items) }
-    ensures err { OnErr result (entries.new.items ≡ entries.old.items) }
-    ensures rise { EntriesRise entries.new.items }
-{
-    let Err(place) = place_of(entries, message.node) else {
-        return Err(Refusal::Mismatch);
-    };
-    let entry = entry_of(alloc, message)?;
-    entries.insert(place, entry)?;
-    Ok(())
-}
-
-fn take(entries: &mut Vec<Entry>, message: &Message) -> Result<(), Refusal>
-    requires { EntriesRise entries.old.items }
-    ensures refused { IsRefusedBy result
-        (if has_entry (message_entry message.now) entries.old.items then None else Some Mismatch) }
-    ensures ok { OnOk result
-        (entries.new.items ≡ taken_out (message_entry message.now) entries.old.items) }
-    ensures err { OnErr result (entries.new.items ≡ entries.old.items) }
-    ensures rise { EntriesRise entries.new.items }
-{
-    let Some(place) = place_with(entries, message.dir, &message.name, message.node) else {
-        return Err(Refusal::Mismatch);
-    };
-    entries.remove(place);
-    Ok(())
-}
-
-fn replace(
-    alloc: Global,
-    entries: &mut Vec<Entry>,
-    dir: u64,
-    name: &Name,
-    message: &Message,
-) -> Result<(), Refusal>
-    requires { EntriesRise entries.old.items }
-    ensures refused { IsRefusedBy result
-        (if has_entry (old_entry dir name.now (message_entry message.now)) entries.old.items
-        then None else Some Mismatch) }
-    ensures ok { OnOk result (entries.new.items ≡ put_in (message_entry message.now)
-        (taken_out (old_entry dir name.now (message_entry message.now)) entries.old.items)) }
-    ensures err { OnErr result (entries.new.items ≡ entries.old.items) }
-    ensures rise { EntriesRise entries.new.items }
-{
-    let Some(place) = place_with(entries, dir, name, message.node) else {
-        return Err(Refusal::Mismatch);
-    };
-    let entry = entry_of(alloc, message)?;
-    entries[place] = entry;
-    Ok(())
 }
 
 fn entry_of(alloc: Global, message: &Message) -> Result<Entry, Refusal>

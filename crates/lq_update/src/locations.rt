@@ -5,7 +5,7 @@ ghost use Rattle.std.specs.Ordering.{nat_cmp};
 ghost use Rattle.lq_value.specs.declared.refusal.Refusal.TheVariants.{Mismatch};
 ghost use Rattle.lq_value.specs.Refusal.{FailsOnlyForMemory, IsRefusedBy};
 ghost use Rattle.lq_update.specs.Diff.{has_node};
-ghost use Rattle.lq_update.specs.Fold.{EntriesRise, message_entry, fits_in, folded_one, has_entry, old_entry, put_in, taken_out};
+ghost use Rattle.lq_update.specs.Fold.{EntriesRise, message_entry, fits_in, folded_one, has_entry, put_in};
 ghost use Rattle.lq_update.specs.Locations.{entries_of};
 
 use crate::message::{Message, Opcode};
@@ -82,11 +82,24 @@ pub fn fold_into(
 {
     match &message.op {
         Opcode::Created => put(alloc, locations, message),
-        Opcode::Removed => take(locations, message),
+        Opcode::Removed => {
+            if !is_at(locations, message.dir, &message.name, message.node) {
+                return Err(Refusal::Mismatch);
+            }
+            locations.remove(&message.node);
+            Ok(())
+        }
         Opcode::Moved {
             from_dir,
             from_name,
-        } => replace(alloc, locations, *from_dir, from_name, message),
+        } => {
+            if !is_at(locations, *from_dir, from_name, message.node) {
+                return Err(Refusal::Mismatch);
+            }
+            let location = Location::new(alloc, message.dir, &message.name)?;
+            locations.insert(message.node, location)?;
+            Ok(())
+        }
     }
 }
 
@@ -127,48 +140,6 @@ fn put_back(locations: &mut BTreeMap<u64, Location>, node: u64, before: Location
     ensures { locations.new.entries ≡ insert_entry nat_cmp locations.old.entries node before }
 {
     let _ = locations.insert(node, before);
-}
-
-fn take(locations: &mut BTreeMap<u64, Location>, message: &Message) -> Result<(), Refusal>
-    requires { EntriesRise (entries_of locations.old.entries) }
-    ensures refused { IsRefusedBy result
-        (if has_entry (message_entry message.now) (entries_of locations.old.entries)
-        then None else Some Mismatch) }
-    ensures ok { OnOk result (entries_of locations.new.entries
-        ≡ taken_out (message_entry message.now) (entries_of locations.old.entries)) }
-    ensures err { OnErr result (locations.new.entries ≡ locations.old.entries) }
-    ensures rise { EntriesRise (entries_of locations.new.entries) }
-{
-    if !is_at(locations, message.dir, &message.name, message.node) {
-        return Err(Refusal::Mismatch);
-    }
-    locations.remove(&message.node);
-    Ok(())
-}
-
-fn replace(
-    alloc: Global,
-    locations: &mut BTreeMap<u64, Location>,
-    dir: u64,
-    name: &Name,
-    message: &Message,
-) -> Result<(), Refusal>
-    requires { EntriesRise (entries_of locations.old.entries) }
-    ensures refused { IsRefusedBy result
-        (if has_entry (old_entry dir name.now (message_entry message.now))
-        (entries_of locations.old.entries) then None else Some Mismatch) }
-    ensures ok { OnOk result (entries_of locations.new.entries
-        ≡ put_in (message_entry message.now) (taken_out
-        (old_entry dir name.now (message_entry message.now)) (entries_of locations.old.entries))) }
-    ensures err { OnErr result (locations.new.entries ≡ locations.old.entries) }
-    ensures rise { EntriesRise (entries_of locations.new.entries) }
-{
-    if !is_at(locations, dir, name, message.node) {
-        return Err(Refusal::Mismatch);
-    }
-    let location = Location::new(alloc, message.dir, &message.name)?;
-    locations.insert(message.node, location)?;
-    Ok(())
 }
 
 // Whether the node has a location.

@@ -22,20 +22,16 @@ accepts Le order = is_le order
 accepts Gt order = is_gt order
 accepts Ge order = is_ge order
 
--- `==` and `!=` take a pattern, the operators of order a plain text
+-- a pattern follows `=`, `==` and `!=`
+abbrev pub takes_pattern : Op → Bool
+takes_pattern Eq = true
+takes_pattern Ne = true
+takes_pattern op = false
+
+-- the operators of order take a plain text
 abbrev pub suits : Literal → Op → Bool
-suits (literal.Pattern elements) Eq = true
-suits (literal.Pattern elements) Ne = true
-suits (literal.Pattern elements) Lt = false
-suits (literal.Pattern elements) Le = false
-suits (literal.Pattern elements) Gt = false
-suits (literal.Pattern elements) Ge = false
-suits (literal.Plain text) Eq = false
-suits (literal.Plain text) Ne = false
-suits (literal.Plain text) Lt = true
-suits (literal.Plain text) Le = true
-suits (literal.Plain text) Gt = true
-suits (literal.Plain text) Ge = true
+suits (literal.Pattern elements) op = takes_pattern op
+suits (literal.Plain text) op = not (takes_pattern op)
 
 -- the whole number that a literal writes
 abbrev pub literal_number : Literal → Option ℤ
@@ -46,10 +42,7 @@ literal_number (literal.Plain text) = decimal_number text
 abbrev pub fits_by : Op → Bool → Bool
 fits_by Eq fit = fit
 fits_by Ne fit = not fit
-fits_by Lt fit = false
-fits_by Le fit = false
-fits_by Gt fit = false
-fits_by Ge fit = false
+fits_by op fit = false
 
 -- a text is compared with the pattern, or byte by byte
 abbrev pub compares_text : List ℕ → Op → Literal → Bool

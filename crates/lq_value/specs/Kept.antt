@@ -3,15 +3,8 @@ use Rattle.std.specs.Prelude.{ℕ, List}
 use Rattle.std.specs.String.{string_bytes}
 use Rattle.lq_value.specs.declared.small_text.Kept.{Kept}
 use Rattle.lq_value.specs.declared.small_text.Kept.TheVariants.{Here, Apart}
-use Rattle.lq_value.specs.declared.name_text.NameText.{NameText}
-use Rattle.lq_value.specs.declared.name_text.NameText.TheVariants.{Short, Shared}
 
 -- for a text with one owner
 abbrev pub small_bytes : Kept → List ℕ
 small_bytes (Here text) = text
 small_bytes (Apart text) = string_bytes text
-
--- for the text of a name, which a longer name shares with its copies
-abbrev pub name_text_bytes : NameText → List ℕ
-name_text_bytes (Short text) = text
-name_text_bytes (Shared text) = text

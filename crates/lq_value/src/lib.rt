@@ -16,7 +16,6 @@ mod name_text;
 mod op;
 mod pattern;
 mod refusal;
-mod shared_text;
 mod short_text;
 mod small_text;
 mod text;

@@ -47,14 +47,8 @@ impl Literal {
         ensures value { IfOk result (λ literal. literal ≡ self.now) }
     {
         match self {
-            Literal::Pattern(pattern) => {
-                let pattern = pattern.copy(alloc)?;
-                Ok(Literal::Pattern(pattern))
-            }
-            Literal::Plain(text) => {
-                let text = text.copy(alloc)?;
-                Ok(Literal::Plain(text))
-            }
+            Literal::Pattern(pattern) => Ok(Literal::Pattern(pattern.copy(alloc)?)),
+            Literal::Plain(text) => Ok(Literal::Plain(text.copy(alloc)?)),
         }
     }
 }

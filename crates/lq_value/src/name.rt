@@ -11,13 +11,14 @@ ghost use Rattle.std.specs.List.{list_all};
 
 use crate::name_text::NameText;
 use crate::refusal::Refusal;
-use crate::shared_text::SharedText;
 use crate::short_text::ShortText;
+use crate::small_text::SmallText;
 use crate::text::same_text;
 use std::alloc::Global;
 use std::cmp::Ordering;
 use std::fmt;
 use std::marker::Model;
+use std::sync::Arc;
 
 /// The longest name of an entry, in bytes.
 const MAX_NAME: usize = 255;
@@ -49,8 +50,7 @@ impl fmt::Debug for Name {
 
 impl Model for Name {
     ghost use Rattle.std.specs.Prelude.{ℕ, List, IsTrue};
-    ghost use Rattle.lq_value.specs.Kept.{name_text_bytes};
-    ghost use Rattle.lq_value.specs.Name.{is_name};
+    ghost use Rattle.lq_value.specs.Name.{is_name, name_text_bytes};
 
     ghost Value = { List ℕ };
 
@@ -73,7 +73,7 @@ impl Name {
         }
         let text = match ShortText::new(text) {
             Some(short) => NameText::Short(short),
-            None => NameText::Shared(SharedText::new(alloc, text)?),
+            None => NameText::Shared(Arc::new(alloc, SmallText::new(alloc, text)?)?),
         };
         Ok(Name { text })
     }
@@ -107,7 +107,10 @@ impl Name {
     {
         let text = match &self.text {
             NameText::Short(text) => NameText::Short(text.copy()),
-            NameText::Shared(text) => NameText::Shared(text.copy(alloc)?),
+            NameText::Shared(text) => match text.clone() {
+                Ok(text) => NameText::Shared(text),
+                Err(_) => return Name::read(alloc, self.as_str()),
+            },
         };
         Ok(Name { text })
     }

@@ -156,28 +156,18 @@ impl Pattern {
         ensures refused { FailsOnlyForMemory result }
         ensures value { IfOk result (λ pattern. pattern ≡ self.now) }
     {
-        match &self.form {
-            Form::PlainText { text, number } => {
-                let text = String::from_str(alloc, text.as_str())?;
-                let number = *number;
-                Ok(Pattern {
-                    form: Form::PlainText { text, number },
-                })
-            }
-            Form::StarredText { elements, starred } => {
-                let starred = starred.copy(alloc)?;
-                let elements = copy_elements(alloc, elements.as_slice())?;
-                Ok(Pattern {
-                    form: Form::StarredText { elements, starred },
-                })
-            }
-            Form::Elements(elements) => {
-                let elements = copy_elements(alloc, elements.as_slice())?;
-                Ok(Pattern {
-                    form: Form::Elements(elements),
-                })
-            }
-        }
+        let form = match &self.form {
+            Form::PlainText { text, number } => Form::PlainText {
+                text: String::from_str(alloc, text.as_str())?,
+                number: *number,
+            },
+            Form::StarredText { elements, starred } => Form::StarredText {
+                elements: copy_elements(alloc, elements.as_slice())?,
+                starred: starred.copy(alloc)?,
+            },
+            Form::Elements(elements) => Form::Elements(copy_elements(alloc, elements.as_slice())?),
+        };
+        Ok(Pattern { form })
     }
 }
 

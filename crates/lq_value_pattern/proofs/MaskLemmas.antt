@@ -1,19 +1,18 @@
 -- What the bits of masks say of elements and of the ends of elements.
-use Rattle.std.proofs.Common.{◌≡◌, ◌<◌, ◌≤◌, ◌+◌, ◌*◌, ◌^◌, ◌%◌, ◌&&◌, ◌||◌, ◌==◌, ℕ, zero, suc, not, nat_le, min, List, [], ◌∷◌, length, take, drop, slice_index, bit_and, bit_or, bit_xor, Bool, true, refl, ◌∙◌, arith, inl, inr, take-add, take-suc, take_all, length-take-le, drop-drop, w32}
+use Rattle.std.proofs.Common.{◌≡◌, ◌<◌, ◌+◌, ◌*◌, ◌^◌, ◌%◌, ◌&&◌, ◌||◌, ◌==◌, ℕ, zero, suc, not, min, List, [], ◌∷◌, length, take, drop, slice_index, bit_and, bit_or, bit_xor, Bool, true, refl, ◌∙◌, arith, take-add, take-suc, take_all, length-take-le, drop-drop, w32}
 use Rattle.std.specs.Int.{bit_at}
 use Rattle.std.proofs.Math.Bool.{and-true, or-false}
 use Rattle.std.proofs.lemmas.Nat.{shl_whole}
 use Rattle.std.proofs.lemmas.Nat.Bits.{bit_at_and, bit_at_xor, bit_at-pow_same, bit_at-pow_other, bit_at_set_same, bit_at_set_other, bit_at-lt, bit_at_cat_low, bit_at_cat_high}
 use Rattle.std.proofs.lemmas.List.{drop_more}
 use Rattle.std.proofs.lemmas.List.Folds.{list_any-append}
-use Rattle.std.proofs.lemmas.Bool.{cases_lt}
 use Rattle.std.proofs.lemmas.Bool.Decides.{nat_tests}
 use Rattle.lq_value_pattern.specs.declared.element.Item.{Item}
 use Rattle.lq_value_pattern.specs.declared.element.Element.{Element}
 use Rattle.lq_value_pattern.specs.declared.element.Element.TheVariants.{Star, Any}
 use Rattle.lq_value_pattern.specs.Element.{has, set_has, takes}
 use Rattle.lq_value_pattern.specs.Seek.{kept, take_front}
-use Rattle.lq_value_pattern.specs.Masks.{takes_at, AreBitsOff, AreEnds, AreFlipped, AreNextEnds, ArePut, IsAlphabet, IsBitTaken, IsFlipped, IsPair, IsPut}
+use Rattle.lq_value_pattern.specs.Masks.{takes_at, AreBitsOff, AreEnds, AreFlipped, AreNextEnds, ArePut, IsBitTaken, IsFlipped, IsPair, IsPut}
 use Rattle.lq_value_pattern.proofs.FlagLemmas.{front_join}
 
 -- ---- one bit
@@ -141,29 +140,3 @@ ends_all es cs ends last i k all is are =
     let bit : bit_at ends last ≡ kept (take_front es (drop k cs)) 1 =
     rw whole at (are last k (omega arith) (omega arith)) in
     grind (arith, nat_tests)
-
--- ---- ranges
-
--- the bits of a range from an ASCII character to another one
-pub crossing_put : (first last j : ℕ) (cs old now new : List ℕ) → first < 128 → 128 ≤ last
-    → IsAlphabet cs
-    → ((x : ℕ) → first ≤ x → x < 128 → IsPut true j (slice_index old x) (slice_index now x))
-    → ((x : ℕ) → x < first → slice_index now x ≡ slice_index old x)
-    → ((x : ℕ) → 128 ≤ x → slice_index now x ≡ slice_index old x)
-    → ((x : ℕ) → 128 ≤ x → x < length cs
-    → IsPut (nat_le (slice_index cs x) last) j (slice_index now x) (slice_index new x))
-    → ((x : ℕ) → x < 128 → slice_index new x ≡ slice_index now x)
-    → ArePut (λ d. nat_le first d && nat_le d last) j cs old new
-crossing_put first last j cs old now new h g are inside below above high low = λ x lt.
-    elim (cases_lt x 128) [
-      | inl near ↦
-          let is = are.ascii x near in
-          let same = low x near in
-          elim (cases_lt x first) [
-            | inl out ↦ grind (arith, nat_tests, below x out)
-            | inr from ↦ grind (arith, nat_tests, inside x from near)
-          ]
-      | inr far ↦
-          let apart = are.apart x far lt in
-          grind (arith, nat_tests, above x far, high x far lt)
-    ]

@@ -2,7 +2,7 @@
 use Rattle.std.specs.Prelude.{◌≡◌, ◌≤◌, ℕ, List, [], ◌∷◌, ◌++◌, length, true, false}
 use Rattle.std.specs.Str.{chars}
 use Rattle.lq_value_pattern.specs.declared.element.Element.{Element}
-use Rattle.lq_value_pattern.specs.declared.element.Element.TheVariants.{Star, Any, Plain, Set}
+use Rattle.lq_value_pattern.specs.declared.element.Element.TheVariants.{Star}
 use Rattle.lq_value_pattern.specs.declared.matching.Taken.{Taken}
 use Rattle.lq_value_pattern.specs.declared.matching.Taken.TheVariants.{More, AtStar, Never}
 use Rattle.lq_value_pattern.specs.Element.{takes}
@@ -10,9 +10,7 @@ use Rattle.lq_value_pattern.specs.Pattern.{fits, some_rest}
 
 abbrev pub IsSingle : Element → Type 0
 IsSingle Star = ⊥
-IsSingle Any = Unit {0}
-IsSingle (Plain d) = Unit {0}
-IsSingle (Set negated items) = Unit {0}
+IsSingle e = Unit {0}
 
 abbrev pub AreSingle : List Element → Type 0
 AreSingle [] = Unit {0}
@@ -22,9 +20,7 @@ AreSingle (e ∷ es) = IsSingle e × AreSingle es
 abbrev pub IsAtStar : List Element → Type 0
 IsAtStar [] = Unit {0}
 IsAtStar (Star ∷ es) = Unit {0}
-IsAtStar (Any ∷ es) = ⊥
-IsAtStar (Plain d ∷ es) = ⊥
-IsAtStar (Set negated items ∷ es) = ⊥
+IsAtStar (e ∷ es) = ⊥
 
 -- the first element takes the first character, and these elements and characters are left
 pub record TakesOne (es : List Element) (cs : List ℕ) (es' : List Element)

@@ -34,9 +34,7 @@ head_then t p (c ∷ cs) = t c && p cs
 
 abbrev pub fits_from : Element → (List ℕ → Bool) → List ℕ → Bool
 fits_from Star p text = some_rest p text
-fits_from Any p text = head_then (takes Any) p text
-fits_from (Plain d) p text = head_then (takes (Plain d)) p text
-fits_from (Set negated items) p text = head_then (takes (Set negated items)) p text
+fits_from e p text = head_then (takes e) p text
 
 abbrev pub is_end : List ℕ → Bool
 is_end [] = true
@@ -49,10 +47,8 @@ fits (e ∷ es) text = fits_from e (fits es) text
 -- the characters, where all elements are plain
 abbrev pub plain_chars : List Element → Option (List ℕ)
 plain_chars [] = Some []
-plain_chars (Star ∷ es) = None
-plain_chars (Any ∷ es) = None
 plain_chars (Plain c ∷ es) = option_map (λ cs. c ∷ cs) (plain_chars es)
-plain_chars (Set negated items ∷ es) = None
+plain_chars (e ∷ es) = None
 
 -- one plain element for each character
 abbrev pub plain_elements : List ℕ → List Element

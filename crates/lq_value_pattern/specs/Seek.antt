@@ -97,7 +97,5 @@ pub record IsPiece (es piece after : List Element) : Type 0 where
 
 -- a set of many items
 abbrev pub is_large : Element → Bool
-is_large element.Star = false
-is_large element.Any = false
-is_large (element.Plain c) = false
 is_large (element.Set negated items) = nat_lt 16 (length items)
+is_large e = false

@@ -1,6 +1,8 @@
 -- The pattern of a source text, or the byte offset of its leftmost fault. A source is read from the
 -- left, one element at a time, and so are the items of a set.
-use Rattle.std.specs.Prelude.{ℕ, zero, suc, ◌-◌, ◌==◌, nat_le, if◌then◌else◌, Bool, true, false, List, [], ◌∷◌, length, Option, Some, None, Result, Ok, Err}
+use Rattle.std.specs.Prelude.{ℕ, zero, suc, ◌-◌, ◌==◌, nat_le, if◌then◌else◌, Bool, true, false, List, [], ◌∷◌, length, Option, Result, Ok, Err}
+use Rattle.std.specs.Option.{option_map}
+use Rattle.std.specs.Result.{result_err}
 use Rattle.lq_value_pattern.specs.declared.element.Item.{Item}
 use Rattle.lq_value_pattern.specs.declared.element.Item.TheVariants.{One, Range}
 use Rattle.lq_value_pattern.specs.declared.element.Element.{Element}
@@ -45,8 +47,7 @@ pieces_of first ss = pieces_within first (suc (length ss)) ss
 
 abbrev pub is_bare : ℕ → Sign → Bool
 is_bare d (Bare c) = c == d
-is_bare d (Escaped c) = false
-is_bare d Dangling = false
+is_bare d s = false
 
 -- the range from one character to another, which must not fall
 abbrev pub range_at : ℕ → ℕ → List Sign → First Item
@@ -75,9 +76,8 @@ item_at (Dangling ∷ ss) = faulty
 
 -- a set has at least one item
 abbrev pub set_with : Bool → Pieces Item → First Element
-set_with negated (whole [] rest) = faulty
 set_with negated (whole (i ∷ is) rest) = has (Set negated (i ∷ is)) rest
-set_with negated (stuck rest) = faulty
+set_with negated pieces = faulty
 
 -- the set whose `[` is just before these signs; a leading `^` negates it
 abbrev pub set_at : List Sign → First Element
@@ -107,10 +107,6 @@ elements_or_place text (stuck rest) = Err (length text - signs_len rest)
 abbrev pub pattern_of : List ℕ → Result (List Element) ℕ
 pattern_of text = elements_or_place text (pieces_of element_at (signs_of text))
 
-abbrev pub fault_error : Result (List Element) ℕ → Option SourceError
-fault_error (Ok es) = None
-fault_error (Err place) = Some (Faulty place)
-
 -- why a source is refused
 abbrev pub source_error : List ℕ → Option SourceError
-source_error text = fault_error (pattern_of text)
+source_error text = option_map (λ place. Faulty place) (result_err (pattern_of text))

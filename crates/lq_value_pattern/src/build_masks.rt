@@ -140,7 +140,9 @@ fn put_range(masks: &mut [u32], j: usize, first: char, last: char, chars: &[char
     if (last as usize) < ASCII {
         put_codes(masks, j, first as usize, last as usize + 1);
     } else if (first as usize) < ASCII {
-        put_crossing(masks, j, first, last, chars);
+        // The ASCII characters from the first one on, and the others up to the last one.
+        put_codes(masks, j, first as usize, ASCII);
+        put_up_to(masks, j, last, chars);
     } else {
         put_high_range(masks, j, first, last, chars);
     }
@@ -157,20 +159,6 @@ fn put_codes(masks: &mut [u32], j: usize, from: usize, to: usize)
     for code in from..to {
         masks[code] = put_bit(true, j, masks[code]);
     }
-}
-
-// Puts the bit for the characters of a range that begins with an ASCII character and ends with one
-// that is not ASCII.
-fn put_crossing(masks: &mut [u32], j: usize, first: char, last: char, chars: &[char])
-    requires bit { j < 32 }
-    requires alphabet { IsAlphabet chars.now }
-    requires same { length masks.old ≡ length chars.now }
-    requires low { first < 128 }
-    requires high { 128 ≤ last }
-    ensures { ArePut (λ d. nat_le first d && nat_le d last) j chars.now masks.old masks.new }
-{
-    put_codes(masks, j, first as usize, ASCII);
-    put_up_to(masks, j, last, chars);
 }
 
 // Puts the bit for the characters up to this one that are not ASCII.

@@ -55,7 +55,7 @@ fn write_ascii(chars: &mut [char])
     }
 }
 
-// As `match_window_coded`, given room for a code for each place of the text, for characters and for
+// As `match_window_ended`, given room for a code for each place of the text, for characters and for
 // masks.
 fn keep_with(
     flags: &mut [u32],
@@ -77,14 +77,9 @@ fn keep_with(
     ensures { AreKeptBy elements.now text.now flags.old flags.new }
 {
     let count = encode(text, codes, chars);
-    match_window_coded(
-        flags,
-        elements,
-        text,
-        codes,
-        &chars[..count],
-        &mut masks[..count],
-    );
+    let masks = &mut masks[..count];
+    put_elements(masks, elements, &chars[..count]);
+    match_window_ended(flags, elements, text, codes, masks);
 }
 
 // Gives each character of the text a code, the index of the character among `chars`. Answers how
@@ -133,29 +128,6 @@ fn enter(c: char, chars: &mut [char], count: usize) -> Entered
         code: count as u16,
         count: count + 1,
     }
-}
-
-// As `match_window_ended`, given a code for each place of the text, and masks that have no bit yet.
-fn match_window_coded(
-    flags: &mut [u32],
-    elements: &[Element],
-    text: &[char],
-    codes: &[u16],
-    chars: &[char],
-    masks: &mut [u32],
-)
-    requires some { 0 < length elements.now }
-    requires short { length elements.now ≤ 32 }
-    requires places { length codes.now + 1 ≡ length flags.old + length elements.now }
-    requires text { length codes.now ≤ length text.now }
-    requires alphabet { IsAlphabet chars.now }
-    requires codes { AreCodes chars.now codes.now text.now }
-    requires masks { length masks.old ≡ length chars.now }
-    requires off { AreOff masks.old 0 (length masks.old) }
-    ensures { AreKeptBy elements.now text.now flags.old flags.new }
-{
-    put_elements(masks, elements, chars);
-    match_window_ended(flags, elements, text, codes, masks);
 }
 
 // Flags the places at which the elements fit, given the masks. After each character of the text a

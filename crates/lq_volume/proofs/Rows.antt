@@ -1,16 +1,15 @@
 -- A move: its table of refusals, where the first rows have been tried, and the other node.
-use Rattle.std.proofs.Common.{◌≡◌, ℕ, Bool, true, false, List, [], ◌∷◌, ◌∙◌, ap, refl, subst, sym}
+use Rattle.std.proofs.Common.{◌≡◌, ℕ, Bool, true, false, List, [], ◌∷◌, ◌++◌, ◌∙◌, ap, refl, subst, sym}
 use Rattle.std.specs.Prelude.{◌==◌, ◌&&◌, not, Option, Some, None, is_none}
 use Rattle.std.specs.Bool.{beq}
 use Rattle.std.specs.Option.{option_map_or}
 use Rattle.lq_value.specs.declared.kind.Kind.{Kind}
 use Rattle.lq_value.specs.declared.refusal.Refusal.{Refusal}
-use Rattle.lq_value.specs.declared.refusal.Refusal.TheVariants.{NoNode, NotFolder, Reserved, WouldLoop, Exists, KindClash, NotEmpty, Exhausted}
+use Rattle.lq_value.specs.declared.refusal.Refusal.TheVariants.{NoNode, NotFolder, Reserved, WouldLoop, Exists, KindClash, NotEmpty}
 use Rattle.lq_value.specs.Refusal.{first_refusal}
-use Rattle.lq_volume.specs.declared.change.Change.TheVariants.{Move}
 use Rattle.lq_volume_entries.specs.Kind.{is_folder}
 use Rattle.lq_volume.specs.State.{State, root, kind_at, is_folder_at, has_entries, reaches}
-use Rattle.lq_volume.specs.Change.{differ, is_file_at, is_full, is_other, other_at, refused}
+use Rattle.lq_volume.specs.Change.{differ, is_file_at, is_other, move_refusals, other_at}
 
 -- two rows that refuse nothing leave it to the others
 two-pass : (a b : Bool) (x y : Refusal) (rows : List (Bool × Refusal)) (o : Option Refusal)
@@ -59,12 +58,12 @@ module _ (s : State) (node dir : ℕ) (name : List ℕ) (clobber : Bool)
       ∷ (is_other other (λ x. not clobber), Exists)
       ∷ (is_other other (λ x. differ (is_folder_at s x) (is_folder_at s node)), KindClash)
       ∷ (is_other other (λ x. is_folder_at s x && has_entries s x), NotEmpty)
-      ∷ (is_full s, Exhausted)
       ∷ []
 
   -- these decide
   pub by-later : (other : Option ℕ) (o : Option Refusal) → other ≡ other_at s node dir name
-      → first_refusal (later other) ≡ o → refused s (Move node dir name clobber) ≡ o
+      → first_refusal (later other) ≡ o
+      → first_refusal (move_refusals s node dir name clobber) ≡ o
   by-later other o is h =
       two-pass (is_none (kind_at s node)) (node == root) NoNode Reserved
       ((is_none (kind_at s dir), NoNode) ∷ (is_file_at s dir, NotFolder)
@@ -72,3 +71,10 @@ module _ (s : State) (node dir : ℕ) (name : List ℕ) (clobber : Bool)
       (two-pass (is_none (kind_at s dir)) (is_file_at s dir) NoNode NotFolder
       (later (other_at s node dir name)) o folder
       (subst (λ (x : Option ℕ). first_refusal (later x) ≡ o) is h))
+
+-- where one of a change's own rows refuses, it decides
+pub earlier_decides : (rows more : List (Bool × Refusal)) (e : Refusal)
+    → first_refusal rows ≡ Some e → first_refusal (rows ++ more) ≡ Some e
+earlier_decides [] more e h = cc
+earlier_decides ((true, x) ∷ rows) more e h = h
+earlier_decides ((false, x) ∷ rows) more e h = earlier_decides rows more e h

@@ -45,7 +45,6 @@ create_refusals s dir name kind size =
     ∷ (is_taken s dir name, Exists)
     ∷ (is_folder kind && not (size == 0), IsFolder)
     ∷ (nat_lt 9223372036854775807 size, TooLong)
-    ∷ (is_full s, Exhausted)
     ∷ []
 
 -- the tests of a removal
@@ -54,7 +53,6 @@ remove_refusals s node =
     (is_none (kind_at s node), NoNode)
     ∷ (node == root, Reserved)
     ∷ (is_folder_at s node && has_entries s node, NotEmpty)
-    ∷ (is_full s, Exhausted)
     ∷ []
 
 -- a node that is already at its place passes the three tests of the other node there
@@ -75,7 +73,6 @@ move_refusals s node dir name clobber =
       is_other (other_at s node dir name) (λ other. is_folder_at s other && has_entries s other),
       NotEmpty,
     )
-    ∷ (is_full s, Exhausted)
     ∷ []
 
 -- the tests of a write, in order
@@ -85,7 +82,6 @@ write_refusals s node size =
     ∷ (node == root, Reserved)
     ∷ (is_folder_at s node, IsFolder)
     ∷ (nat_lt 9223372036854775807 size, TooLong)
-    ∷ (is_full s, Exhausted)
     ∷ []
 
 -- the tests of setting an attribute, in order
@@ -94,27 +90,24 @@ set_refusals s node attr =
     (is_none (kind_at s node), NoNode)
     ∷ (node == root, Reserved)
     ∷ (is_reserved attr, Reserved)
-    ∷ (is_full s, Exhausted)
     ∷ []
 
 -- the tests of removing an attribute, in order
 abbrev pub unset_refusals : State → ℕ → List ℕ → List (Bool × Refusal)
-unset_refusals s node attr =
-    (is_none (kind_at s node), NoNode)
-    ∷ (node == root, Reserved)
-    ∷ (is_reserved attr, Reserved)
-    ∷ (is_none (attr_of s node attr), NoAttr)
-    ∷ (is_full s, Exhausted)
-    ∷ []
+unset_refusals s node attr = set_refusals s node attr ++ (is_none (attr_of s node attr), NoAttr) ∷ []
 
--- the tests of any change in order, each with its refusal
+-- the tests that a change has of its own
+abbrev pub own_tests : State → Change → List (Bool × Refusal)
+own_tests s (Create dir name kind size time) = create_refusals s dir name kind size
+own_tests s (Remove node) = remove_refusals s node
+own_tests s (Move node dir name clobber) = move_refusals s node dir name clobber
+own_tests s (Write node size time) = write_refusals s node size
+own_tests s (SetAttr node attr value) = set_refusals s node attr
+own_tests s (RemoveAttr node attr) = unset_refusals s node attr
+
+-- the tests of any change in order: the last one is whether the volume accepts a further change
 abbrev pub refusals : State → Change → List (Bool × Refusal)
-refusals s (Create dir name kind size time) = create_refusals s dir name kind size
-refusals s (Remove node) = remove_refusals s node
-refusals s (Move node dir name clobber) = move_refusals s node dir name clobber
-refusals s (Write node size time) = write_refusals s node size
-refusals s (SetAttr node attr value) = set_refusals s node attr
-refusals s (RemoveAttr node attr) = unset_refusals s node attr
+refusals s c = own_tests s c ++ (is_full s, Exhausted) ∷ []
 
 -- the refusal of the first test that holds
 abbrev pub refused : State → Change → Option Refusal
@@ -126,8 +119,7 @@ IsLawful s c = refused s c ≡ None
 
 -- the state with one more change counted, and these records
 abbrev pub with_records : State → List (ℕ × Record) → State
-with_records s records =
-    record { limit = s.limit; number = s.number + 1; next = s.next; records = records }
+with_records s records = record s { number = s.number + 1; records = records }
 
 -- the state after a change that is not refused
 abbrev pub after : State → Change → State
@@ -161,12 +153,8 @@ node_of s (RemoveAttr node attr) = node
 
 -- the other node that a move removes
 abbrev pub clobbered : State → Change → Option ℕ
-clobbered s (Create dir name kind size time) = None
-clobbered s (Remove node) = None
 clobbered s (Move node dir name clobber) = other_at s node dir name
-clobbered s (Write node size time) = None
-clobbered s (SetAttr node attr value) = None
-clobbered s (RemoveAttr node attr) = None
+clobbered s c = None
 
 -- the nodes whose records an accepted change may alter
 abbrev pub touched_by : State → Change → List ℕ

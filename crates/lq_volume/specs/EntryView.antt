@@ -35,20 +35,13 @@ view_of stored change =
 -- whether the change creates an entry
 abbrev pub creates : Change → Bool
 creates (Create dir name kind size time) = true
-creates (Remove node) = false
-creates (Move node dir name clobber) = false
-creates (Write node size time) = false
-creates (SetAttr node attr value) = false
-creates (RemoveAttr node attr) = false
+creates c = false
 
 -- the size that the change gives, 0 where it gives none
 abbrev pub size_given : Change → ℕ
 size_given (Create dir name kind size time) = size
-size_given (Remove node) = 0
-size_given (Move node dir name clobber) = 0
 size_given (Write node size time) = size
-size_given (SetAttr node attr value) = 0
-size_given (RemoveAttr node attr) = 0
+size_given c = 0
 
 -- the entry has a record or the change creates it, and its size fits into an i64
 pub record IsEntryView (stored : Option (Bor Record)) (change : Option (Bor Change)) : Type 0 where

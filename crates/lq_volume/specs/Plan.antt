@@ -14,10 +14,8 @@ pub record Plan : Type 0 where
   pub before : State
   pub change : Change
 
--- the change is lawful, and each look-up of its check gave what the definitions say
+-- each look-up of a change's check gave what the definitions say
 pub record IsLookedUp (s : State) (c : Change) (found : LookedUp) : Type 0 where
-  pub volume : IsVolume s
-  pub lawful : IsLawful s c
   -- the record of the change's own node
   pub stored : option_copied found.stored ≡ record_at s (node_of s c)
   -- the other node that is removed, with its record

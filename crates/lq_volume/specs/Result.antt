@@ -3,10 +3,10 @@ use Rattle.std.specs.Prelude.{ℕ, pos, List, Option, Some, None, option_and_the
 use Rattle.std.specs.Option.{option_map}
 use Rattle.std.specs.Str.{bytes_eq}
 use Rattle.lq_predicate.specs.Query.{Query}
-use Rattle.lq_value.specs.PlainValue.{PlainValue, Words, Number}
+use Rattle.lq_value.specs.PlainValue.{PlainValue, Words, Number, held_in}
 use Rattle.lq_predicate.specs.Truth.{truth}
 use Rattle.lq_value.specs.declared.entry.Entry.{Entry}
-use Rattle.lq_volume_entries.specs.Attributes.{value_of, plain_value}
+use Rattle.lq_volume_entries.specs.Attributes.{value_of}
 pub use Rattle.lq_volume_entries.specs.Record.{entry_of}
 use Rattle.lq_volume.specs.State.{State, Record, record_at}
 
@@ -16,7 +16,7 @@ shown r attr =
     if bytes_eq attr (codes "name") then Some (Words r.name)
     else if bytes_eq attr (codes "size") then Some (Number (pos r.size))
     else if bytes_eq attr (codes "last_modified") then Some (Number r.time)
-    else option_map plain_value (value_of r.attrs attr)
+    else option_map held_in (value_of r.attrs attr)
 
 -- the entries of the records that match the predicate, by rising node
 abbrev pub result_of : Query → State → List Entry

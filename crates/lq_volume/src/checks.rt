@@ -1,19 +1,19 @@
-//! Why each change is refused, by the first test of its table that holds, else what it finds.
+//! Why each change is refused, by the first test of its own table that holds, else what it finds.
 ghost use Rattle.std.specs.Prelude.{◌≡◌, [], ◌∷◌, ◌==◌, ◌&&◌, true, Some, None, IfErr, IfOk, IfSome, OnOk, is_none};
 ghost use Rattle.std.specs.Option.{option_map};
 ghost use Rattle.lq_value.specs.declared.refusal.Refusal.TheVariants.{NoNode, NotFolder, Reserved};
 ghost use Rattle.lq_value.specs.Refusal.{first_refusal};
-ghost use Rattle.lq_volume.specs.declared.change.Change.TheVariants.{Remove, Move, Write, SetAttr, RemoveAttr};
+ghost use Rattle.lq_volume.specs.declared.change.Change.TheVariants.{Move};
 ghost use Rattle.lq_volume_entries.specs.Attributes.{is_reserved};
 ghost use Rattle.lq_volume_entries.specs.Kind.{is_folder};
-ghost use Rattle.lq_volume.specs.State.{root, record_at, kind_at, is_folder_at, has_entries, reaches, IsVolume};
-ghost use Rattle.lq_volume.specs.Change.{create_refusals, refused, other_at};
+ghost use Rattle.lq_volume.specs.State.{root, record_at, kind_at, is_folder_at, has_entries, reaches};
+ghost use Rattle.lq_volume.specs.Change.{create_refusals, move_refusals, remove_refusals, set_refusals, unset_refusals, write_refusals, other_at};
 ghost use Rattle.lq_volume.specs.Lookup.{children_refusals};
 ghost use Rattle.lq_volume.specs.Plan.{IsLookedUp};
 
 use crate::planned::LookedUp;
 use crate::volume::{ROOT, Volume};
-use lq_value::{AttrName, Kind, Name, Refusal, Value};
+use lq_value::{AttrName, Kind, Name, Refusal};
 use lq_volume_entries::{StoredRecord, records_are_kept};
 
 /// The most bytes of a file: the size is shown as an `i64`.
@@ -42,25 +42,18 @@ pub fn check_create(
     if size > MAX_SIZE {
         return Err(Refusal::TooLong);
     }
-    if volume.is_full() {
-        return Err(Refusal::Exhausted);
-    }
     Ok(())
 }
 
 #[inline(always)]
 pub fn check_remove(volume: &Volume, node: u64) -> Result<&StoredRecord, Refusal>
-    requires { IsVolume volume.now }
-    ensures ok { OnOk result (refused volume.now (Remove node) ≡ None) }
-    ensures err { IfErr result (λ e. refused volume.now (Remove node) ≡ Some e) }
+    ensures ok { OnOk result (first_refusal (remove_refusals volume.now node) ≡ None) }
+    ensures err { IfErr result (λ e. first_refusal (remove_refusals volume.now node) ≡ Some e) }
     ensures record { IfOk result (λ r. record_at volume.now node ≡ Some r.now) }
 {
     let record = entry_at(volume, node)?;
     if is_filled(volume, node, record) {
         return Err(Refusal::NotEmpty);
-    }
-    if volume.is_full() {
-        return Err(Refusal::Exhausted);
     }
     Ok(record)
 }
@@ -73,10 +66,10 @@ pub fn check_move<'a>(
     name: &Name,
     clobber: bool,
 ) -> Result<LookedUp<'a>, Refusal>
-    requires { IsVolume volume.now }
-    ensures ok { OnOk result (refused volume.now (Move moved dir name.now clobber) ≡ None) }
+    ensures ok { OnOk result
+        (first_refusal (move_refusals volume.now moved dir name.now clobber) ≡ None) }
     ensures err { IfErr result (λ e.
-        refused volume.now (Move moved dir name.now clobber) ≡ Some e) }
+        first_refusal (move_refusals volume.now moved dir name.now clobber) ≡ Some e) }
     ensures found { IfOk result (IsLookedUp volume.now (Move moved dir name.now clobber)) }
 {
     let record = entry_at(volume, moved)?;
@@ -96,9 +89,6 @@ pub fn check_move<'a>(
             return Err(Refusal::NotEmpty);
         }
     }
-    if volume.is_full() {
-        return Err(Refusal::Exhausted);
-    }
     Ok(LookedUp {
         stored: Some(record),
         other,
@@ -106,15 +96,9 @@ pub fn check_move<'a>(
 }
 
 #[inline(always)]
-pub fn check_write(
-    volume: &Volume,
-    file: u64,
-    size: u64,
-    time: i64,
-) -> Result<&StoredRecord, Refusal>
-    requires { IsVolume volume.now }
-    ensures ok { OnOk result (refused volume.now (Write file size time) ≡ None) }
-    ensures err { IfErr result (λ e. refused volume.now (Write file size time) ≡ Some e) }
+pub fn check_write(volume: &Volume, file: u64, size: u64) -> Result<&StoredRecord, Refusal>
+    ensures ok { OnOk result (first_refusal (write_refusals volume.now file size) ≡ None) }
+    ensures err { IfErr result (λ e. first_refusal (write_refusals volume.now file size) ≡ Some e) }
     ensures record { IfOk result (λ r. record_at volume.now file ≡ Some r.now) }
 {
     let record = entry_at(volume, file)?;
@@ -124,9 +108,6 @@ pub fn check_write(
     if MAX_SIZE < size {
         return Err(Refusal::TooLong);
     }
-    if volume.is_full() {
-        return Err(Refusal::Exhausted);
-    }
     Ok(record)
 }
 
@@ -135,20 +116,15 @@ pub fn check_set_attr<'a>(
     volume: &'a Volume,
     entry: u64,
     attr: &AttrName,
-    value: &Value,
 ) -> Result<&'a StoredRecord, Refusal>
-    requires { IsVolume volume.now }
-    ensures ok { OnOk result (refused volume.now (SetAttr entry attr.now value.now) ≡ None) }
+    ensures ok { OnOk result (first_refusal (set_refusals volume.now entry attr.now) ≡ None) }
     ensures err { IfErr result (λ e.
-        refused volume.now (SetAttr entry attr.now value.now) ≡ Some e) }
+        first_refusal (set_refusals volume.now entry attr.now) ≡ Some e) }
     ensures record { IfOk result (λ r. record_at volume.now entry ≡ Some r.now) }
 {
     let record = entry_at(volume, entry)?;
     if is_reserved(attr) {
         return Err(Refusal::Reserved);
-    }
-    if volume.is_full() {
-        return Err(Refusal::Exhausted);
     }
     Ok(record)
 }
@@ -159,20 +135,14 @@ pub fn check_remove_attr<'a>(
     owner: u64,
     attr: &AttrName,
 ) -> Result<&'a StoredRecord, Refusal>
-    requires { IsVolume volume.now }
-    ensures ok { OnOk result (refused volume.now (RemoveAttr owner attr.now) ≡ None) }
-    ensures err { IfErr result (λ e. refused volume.now (RemoveAttr owner attr.now) ≡ Some e) }
+    ensures ok { OnOk result (first_refusal (unset_refusals volume.now owner attr.now) ≡ None) }
+    ensures err { IfErr result (λ e.
+        first_refusal (unset_refusals volume.now owner attr.now) ≡ Some e) }
     ensures record { IfOk result (λ r. record_at volume.now owner ≡ Some r.now) }
 {
-    let record = entry_at(volume, owner)?;
-    if is_reserved(attr) {
-        return Err(Refusal::Reserved);
-    }
+    let record = check_set_attr(volume, owner, attr)?;
     if record.attrs().get(attr).is_none() {
         return Err(Refusal::NoAttr);
-    }
-    if volume.is_full() {
-        return Err(Refusal::Exhausted);
     }
     Ok(record)
 }

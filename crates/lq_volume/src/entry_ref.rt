@@ -85,10 +85,7 @@ impl<'a> EntryRef<'a> {
     pub fn attr(&self, attr: &AttrName) -> Option<View<'_>>
         ensures { option_map shown_by result ≡ value_of self.now.attrs attr.now }
     {
-        match self.stored.attrs().get(attr) {
-            None => None,
-            Some(value) => Some(value.view()),
-        }
+        Some(self.stored.attrs().get(attr)?.view())
     }
 
     /// The number of the entry's attributes.
@@ -103,10 +100,8 @@ impl<'a> EntryRef<'a> {
         ensures { option_map (λ p. (p.0.now, shown_by p.1)) result
             ≡ slice_get self.now.attrs place }
     {
-        match self.stored.attrs().at(place) {
-            None => None,
-            Some((name, value)) => Some((name, value.view())),
-        }
+        let (name, value) = self.stored.attrs().at(place)?;
+        Some((name, value.view()))
     }
 
     /// A copy of the whole entry. Refused: `NoMemory`.

@@ -168,10 +168,7 @@ impl<'a> Row for EntryView<'a> {
             Field::Name => Some(View::Text(self.name.as_str())),
             Field::Size => Some(View::Int64(self.small_size() as i64)),
             Field::LastModified => Some(View::Int64(self.time())),
-            Field::Attribute => match self.value(attr) {
-                None => None,
-                Some(value) => Some(value.view()),
-            },
+            Field::Attribute => Some(self.value(attr)?.view()),
         }
     }
 }

@@ -2,7 +2,8 @@
 ghost use Rattle.std.specs.Prelude.{◌≡◌, ◌+◌, Some, None, IfErr, IfOk, IfSome, MatchOption, OnOk};
 ghost use Rattle.std.specs.Option.{option_copied, option_map};
 ghost use Rattle.lq_volume.specs.State.{record_at, IsVolume};
-ghost use Rattle.lq_volume.specs.Change.{after, clobbered, node_of, record_left, refused, IsLawful};
+ghost use Rattle.lq_value.specs.Refusal.{first_refusal};
+ghost use Rattle.lq_volume.specs.Change.{after, clobbered, own_tests, node_of, record_left, refused, IsLawful};
 ghost use Rattle.lq_volume.specs.Plan.{AreWritten, IsLookedUp, IsNoWrite};
 
 use crate::change::{Applied, Change};
@@ -66,7 +67,12 @@ impl Volume {
         ensures value { IfOk result (λ planned.
             planned ≡ record { before = self.now; change = change.now }) }
     {
+        // For its clause `volume`.
+        let _ = self.changes();
         let found = found_by(self, change)?;
+        if self.is_full() {
+            return Err(Refusal::Exhausted);
+        }
         Ok(Planned {
             volume: self,
             change,
@@ -125,10 +131,8 @@ impl<'a> Planned<'a> {
         ensures node { option_map (λ e. e.0) result ≡ clobbered self.now.before self.now.change }
         ensures entry { IfSome result (λ e. record_at self.now.before e.0 ≡ Some e.1.now) }
     {
-        match &self.clobbered {
-            None => None,
-            Some((node, view)) => Some((*node, view)),
-        }
+        let (node, view) = self.clobbered.as_ref()?;
+        Some((*node, view))
     }
 
     /// The numbers that a write finds and leaves, looked up once; `None` where the change is no
@@ -149,15 +153,15 @@ pub struct LookedUp<'a> {
     pub other: Option<(u64, &'a StoredRecord)>,
 }
 
-// Checks a change, and gives what that finds.
+// Checks a change by the tests of its own, and gives what that finds.
 #[inline(always)]
 fn found_by<'a>(volume: &'a Volume, change: &'a Change) -> Result<LookedUp<'a>, Refusal>
-    ensures ok { OnOk result (refused volume.now change.now ≡ None) }
-    ensures err { IfErr result (λ e. refused volume.now change.now ≡ Some e) }
+    requires { IsVolume volume.now }
+    ensures ok { OnOk result (first_refusal (own_tests volume.now change.now) ≡ None) }
+    ensures err { IfErr result (λ e.
+        first_refusal (own_tests volume.now change.now) ≡ Some e) }
     ensures found { IfOk result (IsLookedUp volume.now change.now) }
 {
-    // For its clause `volume`.
-    let _ = volume.changes();
     records_are_kept();
     let stored = match change {
         Change::Create {
@@ -177,8 +181,8 @@ fn found_by<'a>(volume: &'a Volume, change: &'a Change) -> Result<LookedUp<'a>, 
             clobber,
         } => return check_move(volume, *node, *dir, name, *clobber),
         Change::Remove { node } => Some(check_remove(volume, *node)?),
-        Change::Write { node, size, time } => Some(check_write(volume, *node, *size, *time)?),
-        Change::SetAttr { node, attr, value } => Some(check_set_attr(volume, *node, attr, value)?),
+        Change::Write { node, size, .. } => Some(check_write(volume, *node, *size)?),
+        Change::SetAttr { node, attr, .. } => Some(check_set_attr(volume, *node, attr)?),
         Change::RemoveAttr { node, attr } => Some(check_remove_attr(volume, *node, attr)?),
     };
     Ok(LookedUp {

@@ -225,10 +225,7 @@ impl Volume {
         if node == ROOT {
             return Some(Kind::Folder);
         }
-        match self.entries.get(node) {
-            Some(record) => Some(record.kind()),
-            None => None,
-        }
+        Some(self.entries.get(node)?.kind())
     }
 
     pub(crate) fn is_taken(&self, dir: u64, name: &Name) -> bool

@@ -1,12 +1,10 @@
 -- The attributes of an entry: names with their values, in the order in which they were first set.
-use Rattle.std.specs.Prelude.{◌≡◌, ℕ, pos, List, [], ◌∷◌, Bool, false, not, ◌||◌, filter, codes, Option}
+use Rattle.std.specs.Prelude.{◌≡◌, ℕ, List, [], ◌∷◌, Bool, false, not, ◌||◌, filter, codes, Option}
 use Rattle.std.specs.List.{AllByRecursion}
 use Rattle.std.specs.Map.{lookup}
 use Rattle.std.specs.Str.{bytes_eq}
 use Rattle.indexmap.specs.IndexMap.{insert_entry}
-use Rattle.lq_value.specs.PlainValue.{PlainValue, Words, Number}
 use Rattle.lq_value.specs.declared.value.Value.{Value}
-use Rattle.lq_value.specs.declared.value.Value.TheVariants as value
 
 -- the attributes of an entry, each a name with its value
 abbrev pub Attributes : Type 0
@@ -34,11 +32,3 @@ abbrev pub is_reserved : List ℕ → Bool
 is_reserved attr =
     bytes_eq attr (codes "name") || bytes_eq attr (codes "size")
     || bytes_eq attr (codes "last_modified")
-
--- what a value holds
-abbrev pub plain_value : Value → PlainValue
-plain_value (value.Text text) = Words text
-plain_value (value.Int32 number) = Number number
-plain_value (value.Int64 number) = Number number
-plain_value (value.UInt32 number) = Number (pos number)
-plain_value (value.UInt64 number) = Number (pos number)

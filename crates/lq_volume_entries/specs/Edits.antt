@@ -24,24 +24,15 @@ altered node f es = map (altered_at node f) es
 
 -- a record with another place
 abbrev pub at_place : ℕ → List ℕ → Record → Record
-at_place dir name r =
-    record { dir = dir; name = name; kind = r.kind; size = r.size; time = r.time; attrs = r.attrs }
+at_place dir name r = record r { dir = dir; name = name }
 
 -- a record with another size and time
 abbrev pub rewritten : ℕ → ℤ → Record → Record
-rewritten size time r =
-    record { dir = r.dir; name = r.name; kind = r.kind; size = size; time = time; attrs = r.attrs }
+rewritten size time r = record r { size = size; time = time }
 
 -- a record with other attributes
 abbrev pub with_attrs : Attributes → Record → Record
-with_attrs attrs r = record {
-  dir = r.dir;
-  name = r.name;
-  kind = r.kind;
-  size = r.size;
-  time = r.time;
-  attrs = attrs;
-}
+with_attrs attrs r = record r { attrs = attrs }
 
 -- a record with one attribute set
 abbrev pub set_attr : List ℕ → Value → Record → Record

@@ -85,10 +85,10 @@ impl AttrTable {
         ensures { option_map deref_pair result ≡ slice_get self.now place }
     {
         match &self.many {
-            None => match self.few.get(place) {
-                None => None,
-                Some(pair) => Some((&pair.0, &pair.1)),
-            },
+            None => {
+                let pair = self.few.get(place)?;
+                Some((&pair.0, &pair.1))
+            }
             Some(many) => many.get_index(place),
         }
     }

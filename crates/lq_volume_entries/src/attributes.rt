@@ -53,20 +53,14 @@ impl Attributes {
     pub fn get(&self, attr: &AttrName) -> Option<&Value>
         ensures { option_copied result ≡ value_of self.now attr.now }
     {
-        match &self.table {
-            None => None,
-            Some(table) => table.get(attr),
-        }
+        self.table.as_ref()?.get(attr)
     }
 
     /// The name and value at an index, counted from 0.
     pub fn at(&self, place: usize) -> Option<(&AttrName, &Value)>
         ensures { option_map deref_pair result ≡ slice_get self.now place }
     {
-        match &self.table {
-            None => None,
-            Some(table) => table.at(place),
-        }
+        self.table.as_ref()?.at(place)
     }
 
     /// Sets an attribute. Refused: `NoMemory`; a refused call changes nothing.

@@ -73,20 +73,14 @@ impl Places {
     pub fn first(&self, dir: u64, hash: u64) -> Option<u64>
         ensures { result ≡ first_in self.now dir hash }
     {
-        match self.folders.get(&dir) {
-            None => None,
-            Some(names) => names.first.get(&hash).copied(),
-        }
+        self.folders.get(&dir)?.first.get(&hash).copied()
     }
 
     /// The node under a name.
     pub fn other(&self, dir: u64, name: &Name) -> Option<u64>
         ensures { result ≡ other_in self.now dir name.now }
     {
-        match self.folders.get(&dir) {
-            None => None,
-            Some(names) => names.others.get(name).copied(),
-        }
+        self.folders.get(&dir)?.others.get(name).copied()
     }
 
     /// Whether a folder contains a node.
@@ -119,10 +113,7 @@ impl Places {
     pub fn is_first(&self, dir: u64, name: &Name, node: u64) -> bool
         ensures { result ≡ is_first self.now dir name.now node }
     {
-        match self.first(dir, name.hash()) {
-            None => false,
-            Some(there) => there == node,
-        }
+        self.first(dir, name.hash()) == Some(node)
     }
 
     /// Puts a node at a place. A node that is already under the hash stays there, unless it is

@@ -154,15 +154,12 @@ impl Records {
         ensures ok { OnOk result (entries.new.items
             ≡ with_entry entries.old.items (entry_in self.now dir node)) }
     {
-        match self.get(node) {
-            None => Ok(()),
-            Some(record) => {
-                if record.dir() == dir {
-                    entries.push(record.entry(alloc, node)?)?;
-                }
-                Ok(())
+        if let Some(record) = self.get(node) {
+            if record.dir() == dir {
+                entries.push(record.entry(alloc, node)?)?;
             }
         }
+        Ok(())
     }
 
     /// The records with their nodes, by rising node. Refused: `NoMemory`.

@@ -32,22 +32,10 @@ impl Stack {
             return Err(self.misfit());
         }
         match op {
-            StackOp::Not => {
-                let made = self.negation();
-                self.put(1, made)
-            }
-            StackOp::And => {
-                let made = self.both();
-                self.put(2, made)
-            }
-            StackOp::Or => {
-                let made = self.either();
-                self.put(2, made)
-            }
-            _ => {
-                let made = self.comparison(op);
-                self.put(2, made)
-            }
+            StackOp::Not => self.put(1, self.negation()),
+            StackOp::And => self.put(2, self.both()),
+            StackOp::Or => self.put(2, self.either()),
+            _ => self.put(2, self.comparison(op)),
         }
     }
 

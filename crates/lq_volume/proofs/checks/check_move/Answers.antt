@@ -1,5 +1,5 @@
 use Rattle.std.proofs.Common.{◌∙◌, refl, sym, None, Some}
-use Rattle.lq_value.specs.declared.refusal.Refusal.TheVariants.{Exhausted, Exists, KindClash, NotEmpty, WouldLoop}
+use Rattle.lq_value.specs.declared.refusal.Refusal.TheVariants.{Exists, KindClash, NotEmpty, WouldLoop}
 use Rattle.lq_volume.proofs.Rows.{by-later, filled-is, kinds-differ}
 use Rattle.lq_volume.proofs.checks.check_move.Goals as goal
 use Rattle.lq_volume.proofs.checks.check_move.Goals.{in-Some+else-not-clobber+else-is_folder+else-is_filled, in_default}
@@ -39,29 +39,9 @@ returns-then-is_filled-clause-err c =
     (Some c.in-Some.node) (Some NotEmpty) c.in-Some.ensures.node
     (rw (sym c.would_loop.ensures ∙ c.if-would_loop.false, c.if-not-clobber.false, kinds, filled))
 
-pub returns-then-is_full-clause-err : goal.returns-then-is_full-clause-err
-returns-then-is_full-clause-err c =
-    let below = sym c.would_loop.ensures ∙ c.if-would_loop.false in
-    let full = sym c.is_full.ensures ∙ c.if-is_full.true in
-    let decide = by-later c.args.volume.now c.args.moved c.args.dir c.args.name.now c.args.clobber
-    c.in_ok-record.ensures.ok c.in_ok-check_folder.ensures.ok in
-    elim c.match-other.branch [
-      | in-Some+else-not-clobber+else-is_folder+else-is_filled w ↦
-          let kinds = kinds-differ c.args.volume.now w.in-Some.node c.args.moved _ _ _ _ _
-          w.in-Some.ensures.kind c.in_ok-record.ensures.kind
-          w.is_folder.ensures w.is_folder-in-Some.ensures w.if-is_folder.false in
-          let filled = filled-is c.args.volume.now w.in-Some.node _ _ _
-          w.in-Some.ensures.kind w.is_filled.ensures w.if-is_filled.false in
-          decide (Some w.in-Some.node) (Some Exhausted) w.in-Some.ensures.node
-          (rw (below, w.if-not-clobber.false, kinds, filled, full))
-      | in_default w ↦
-          decide None (Some Exhausted) w.in_default.ensures.node (rw (below, full))
-    ]
-
 pub returns-clause-ok : goal.returns-clause-ok
 returns-clause-ok c =
     let below = sym c.would_loop.ensures ∙ c.if-would_loop.false in
-    let full = sym c.is_full.ensures ∙ c.if-is_full.false in
     let decide = by-later c.args.volume.now c.args.moved c.args.dir c.args.name.now c.args.clobber
     c.in_ok-record.ensures.ok c.in_ok-check_folder.ensures.ok in
     elim c.match-other.branch [
@@ -72,14 +52,12 @@ returns-clause-ok c =
           let filled = filled-is c.args.volume.now w.in-Some.node _ _ _
           w.in-Some.ensures.kind w.is_filled.ensures w.if-is_filled.false in
           decide (Some w.in-Some.node) None w.in-Some.ensures.node
-          (rw (below, w.if-not-clobber.false, kinds, filled, full))
-      | in_default w ↦ decide None None w.in_default.ensures.node (rw (below, full))
+          (rw (below, w.if-not-clobber.false, kinds, filled))
+      | in_default w ↦ decide None None w.in_default.ensures.node (rw below)
     ]
 
 pub returns-clause-found : goal.returns-clause-found
 returns-clause-found c = record {
-  volume = c.requires;
-  lawful = returns-clause-ok c;
   stored = sym c.in_ok-record.ensures.record;
   other = c.other_in-other.ensures.node;
   gone = c.other_in-other.ensures.record;

@@ -5,14 +5,11 @@ use Rattle.lq_volume.proofs.planned.found_by.Goals.{in-Create+in_ok-check_create
 pub returns-clause-found : goal.returns-clause-found
 returns-clause-found c =
     let s = c.args.volume.now in
-    let volume = c.changes.ensures.volume in
     elim c.match-change.branch [
       -- no record has the next node yet
       | in-Create+in_ok-check_create-in-Create w ↦ rw (w.in-Create.is, w.stored-is) (record {
-        volume = volume;
-        lawful = w.in_ok-check_create-in-Create.ensures.ok;
         stored = sym
-            (c.records_are_kept.ensures.found.above s.records s.next volume.numbered.below);
+            (c.records_are_kept.ensures.found.above s.records s.next c.requires.numbered.below);
         other = refl;
         gone = tt;
       })
