@@ -27,9 +27,7 @@ module _ {M : Type 0} where
     pub signs : s.author.signs ≡ old.board.free
     pub full : IsFullBook s.book
     pub keeper : new
-        ≡ record {
-          board = old.board;
-          book = old.book;
+        ≡ record old {
           slots = gone_out old.slots slot name;
           register = with_opening old.register;
         }
@@ -47,22 +45,10 @@ module _ {M : Type 0} where
       : Type 0 where
     pub later : Extends t.book s.book
     pub full : IsFullBook t.book
-    pub seat : t
-        ≡ record {
-          board = old.board;
-          slot = s.slot;
-          book = old.book;
-          asks = s.asks;
-          name = name;
-          author = s.author;
-          moments = s.moments;
-        }
+    pub seat : t ≡ record s { board = old.board; book = old.book; name = name }
     pub keeper : new
-        ≡ record {
-          board = old.board;
-          book = old.book;
+        ≡ record old {
           slots = gone_out (come_back old.slots s.slot s.asks s.name) s.slot name;
-          register = old.register;
         }
     pub was_out : WasOut old.slots s
 
@@ -74,18 +60,13 @@ module _ {M : Type 0} where
     pub full : IsFullBook new.book
     pub state : state_of new.book ≡ after (state_of old.book) change
     pub seat : t
-        ≡ record {
+        ≡ record s {
           board = old.board;
-          slot = s.slot;
           book = new.book;
-          asks = s.asks;
-          name = s.name;
           author = with_change s.author number;
-          moments = s.moments;
         }
     pub keeper : new
-        ≡ record {
-          board = old.board;
+        ≡ record old {
           book = grown old.book (change ∷ []);
           slots = go_out (come_back old.slots s.slot s.asks s.name) s.slot s.name;
           register = with_author old.register s.author.number;

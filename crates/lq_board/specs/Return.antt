@@ -20,8 +20,7 @@ module _ {M : Type 0} where
     pub view : me ≡ (Seat v, [])
     pub full : IsFullBook v.book
     pub keeper : new
-        ≡ record {
-          board = old.board;
+        ≡ record old {
           book = v.book;
           slots = go_out (come_back old.slots w.slot w.asks w.name) w.slot v.name;
           register = new.register;

@@ -8,10 +8,6 @@ changes_after n author (a ∷ authors) =
     if a == author then (n + 1) ∷ changes_after (n + 1) author authors
     else changes_after (n + 1) author authors
 
--- the numbers of an author's changes
-abbrev pub changes_by : ℕ → List ℕ → List ℕ
-changes_by author authors = changes_after 0 author authors
-
 -- each of these is one of the seats 1 to n
 abbrev pub AreSeats : ℕ → List ℕ → Type 0
 AreSeats n [] = Unit {0}

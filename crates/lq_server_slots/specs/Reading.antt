@@ -1,5 +1,5 @@
 -- What a reader has received, and what a read does.
-use Rattle.std.specs.Prelude.{◌≡◌, ◌-◌, Bool, true, List, [], ◌∷◌, ◌++◌, length, take, map, Option, Some, None, IsSome, is_some, option_to_list}
+use Rattle.std.specs.Prelude.{◌≡◌, ◌-◌, Bool, List, [], ◌∷◌, ◌++◌, length, take, map, Option, Some, None, IsSome, is_some, option_to_list}
 use Rattle.lq_volume.specs.Book.{Book, state_of}
 use Rattle.lq_volume.specs.Result.{result_of}
 use Rattle.lq_update.specs.declared.message.Message.{Message}
@@ -24,17 +24,6 @@ pub record ReadingHold : Type 0 where
 -- the result at the opening
 abbrev pub opening_of : Opening → Folding
 opening_of f = opened_at f.opened (result_of (query_of f) (state_of (floor_of f)))
-
--- the messages received are those that the port gave, except the one in hand; they are folded
-pub record ReadsPort
-    (e : End Delivery Opening) (result : Folding) (hand : Option Message) (ended : Bool)
-    : Type 0 where
-  pub got : List Message
-  pub legal_list : LegalList e.floor e.taken
-  pub all : messages_in e.taken ≡ got ++ option_to_list hand
-  pub folds : result ≡ folding_after_all (opening_of e.floor) got
-  pub over : ended ≡ is_some (mark_in e.taken)
-  pub no_hand : ended ≡ true → hand ≡ None
 
 -- the book that a reader knows
 abbrev pub known : ReadingHold → Book

@@ -115,16 +115,40 @@ pub record OnlyAt (old new : List (KnownSlot Identity)) (place : ℕ) : Type 0 w
   pub wide : length new ≡ length old
   pub others : (k : ℕ) → k ≢ place → slot_at new k ≡ slot_at old k
 
+-- a call at a slot keeps the board, the openings, the book and what is known of the other slots
+pub record KeepsBook (old new : KeeperToken Identity) (place : ℕ) : Type 0 where
+  pub board : new.board ≡ old.board
+  pub counted : new.register.openings ≡ old.register.openings
+  pub book : new.book ≡ old.book
+  pub only : OnlyAt old.slots new.slots place
+
+-- and its slot, o before and p after, stands on, taken or free as it was, and no asks are added
+pub record KeepsSlot (old new : KeeperToken Identity) (place : ℕ) (o p : Option Subscription)
+    : Type 0 where
+  pub keeper : KeepsBook old new place
+  pub fits : SlotStands p (slot_at new.slots place) new.book
+  pub asks : asks_of p (slot_at new.slots place) ≤ asks_of o (slot_at old.slots place)
+  pub kept : is_some p ≡ is_some o
+
+-- the board and the numbers of openings stay
+pub record KeepsCounts (old new : ServerSlots) : Type 0 where
+  pub board : new.keeper.board ≡ old.keeper.board
+  pub counted : new.keeper.register.openings ≡ old.keeper.register.openings
+  pub openings : new.openings ≡ old.openings
+
+-- and so does the book, over which all slots stand
+pub record KeepsSlots (old new : ServerSlots) : Type 0 where
+  pub counts : KeepsCounts old new
+  pub book : new.keeper.book ≡ old.keeper.book
+  pub holding : AreConsistent new new.keeper.book
+
 -- A slot's seat, s before and t after, met the keeper, which had this number of changes. It knows
 -- the keeper's book, the keeper knows how often it has asked, and both have this name. It was out
 -- under the name that the keeper knew.
 pub record IsSlotMet (old new : KeeperToken Identity) (s t : SeatToken Identity)
     (named : Option Identity) (changes : ℕ) : Type 0 where
   pub number : changes ≡ length old.book.changes
-  pub board : new.board ≡ old.board
-  pub counted : new.register.openings ≡ old.register.openings
-  pub book : new.book ≡ old.book
-  pub only : OnlyAt old.slots new.slots s.slot
+  pub keeper : KeepsBook old new s.slot
   pub place : slot_at new.slots s.slot ≡ record { out = true; asks = s.asks; name = named }
   pub known : (slot_at new.slots s.slot).asks ≡ s.asks
   pub seat : t ≡ record s { book = old.book; name = named }

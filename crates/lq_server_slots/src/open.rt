@@ -1,10 +1,10 @@
 //! An opening under the lock.
-ghost use Rattle.std.specs.Prelude.{◌≡◌, ◌+◌, ◌<◌, ◌≤◌, [], length, ℕ, IfOk, IfErr, OnOk, OnErr, IfSome, IfNone, IsSome, is_none, Some, None, Err, false};
+ghost use Rattle.std.specs.Prelude.{◌≡◌, ◌+◌, ◌<◌, ◌≤◌, ℕ, IfOk, IfErr, OnOk, OnErr, IfSome, IfNone, IsSome, is_none, Some, None, false};
 ghost use Rattle.lq_value.specs.Refusal.{FailsOnlyForMemory};
 ghost use Rattle.lq_volume.specs.Book.{state_of};
-ghost use Rattle.lq_board.specs.Author.{new_author};
 ghost use Rattle.lq_board.specs.Book.{IsFullBook};
-ghost use Rattle.lq_board.specs.Slot.{slot_at, gone_out};
+ghost use Rattle.lq_board.specs.Meeting.{GoesOut};
+ghost use Rattle.lq_board.specs.Slot.{slot_at};
 ghost use Rattle.lq_server_slots.specs.Identity.{identity_of};
 ghost use Rattle.lq_server_slots.specs.declared.identity.Identity.{Identity as IdentityOf};
 ghost use Rattle.lq_server_slots.specs.Slots.{AreUnchanged, AreConsistent, IsConsistentWith, has_no_free, slot_in};
@@ -110,21 +110,7 @@ fn sit(
     requires board { keeper.old.board ≡ board.now }
     requires place { (0 < place) × (place < 65) }
     requires free { (slot_at keeper.old.slots place).out ≡ false }
-    ensures board { keeper.new.board ≡ keeper.old.board }
-    ensures counted { keeper.new.register.openings ≡ keeper.old.register.openings + 1 }
-    ensures book { keeper.new.book ≡ keeper.old.book }
-    ensures slots { keeper.new.slots
-        ≡ gone_out keeper.old.slots place (Some (identity_of slot.now)) }
-    ensures seat { result ≡ record {
-      board = keeper.old.board;
-      slot = place;
-      book = keeper.old.book;
-      asks = (slot_at keeper.old.slots place).asks;
-      name = Some (identity_of slot.now);
-      author = new_author keeper.old.register;
-      moments = [];
-    } }
-    ensures signs { result.author.signs ≡ keeper.old.board.free }
+    ensures { GoesOut keeper.old keeper.new place (Some (identity_of slot.now)) result }
 {
     // For the contract alone, which names the subscription.
     let _ = slot;
