@@ -7,8 +7,7 @@ ghost use Rattle.lq_update.specs.Fold.{EntriesRise, opened_at, folded, last_chan
 ghost use Rattle.lq_update.specs.Updates.{IsSettled};
 ghost use Rattle.lq_port.specs.End.{AreBeside};
 ghost use Rattle.lq_server_slots.specs.Rule.{MayFollow, floor_of, query_of};
-ghost use Rattle.lq_server_slots.specs.Reading.{known, received, is_marked, mark_read, opening_of, IsTold};
-ghost use Rattle.lq_server_slots.specs.ReadStep.{IsReadStep};
+ghost use Rattle.lq_server_slots.specs.Reading.{known, received, is_marked, mark_read, opening_of, IsTold, IsReadStep};
 
 use crate::delivery::Delivery;
 use crate::take_parcel::{keep, take_one};
