@@ -4,7 +4,7 @@ use Rattle.std.specs.Prelude.{◌≡◌, ℕ, ◌+◌, ◌<◌, ◌≤◌, Bool,
 use Rattle.lq_volume.specs.Book.{Book}
 use Rattle.lq_board.specs.declared.token_views.Author.{Author}
 use Rattle.lq_board.specs.declared.token_views.Register.{Register}
-use Rattle.lq_board.specs.Roll.{changes_by, numbers, AreSeats}
+use Rattle.lq_board.specs.Roll.{changes_after, numbers, AreSeats}
 
 -- each change of the book has one author, which is a seat
 pub record IsSigned (book : Book) (r : Register) : Type 0 where
@@ -15,7 +15,7 @@ pub record IsSigned (book : Book) (r : Register) : Type 0 where
 pub record IsAuthor (a : Author) (r : Register) : Type 0 where
   pub least : 0 < a.number
   pub most : a.number ≤ r.seats
-  pub changes : a.changes ≡ changes_by a.number r.authors
+  pub changes : a.changes ≡ changes_after 0 a.number r.authors
   pub free : a.free ≡ r.free
 
 -- no number is in both
@@ -59,16 +59,7 @@ abbrev pub with_opening : Register → Register
 with_opening r = record r { seats = r.seats + 1; openings = r.openings + 1 }
 
 abbrev pub new_author : Register → Author
-new_author r =
-    record {
-      number = r.seats + 1;
-      changes = [];
-      free = r.free;
-      signs = r.free;
-      leads = false;
-      enlisted = [];
-      gathered = [];
-    }
+new_author r = record no_author { number = r.seats + 1; free = r.free; signs = r.free }
 
 -- one change more, by this author, and that author
 abbrev pub with_author : Register → ℕ → Register

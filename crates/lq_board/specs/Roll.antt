@@ -8,10 +8,6 @@ changes_after n author (a ∷ authors) =
     if a == author then (n + 1) ∷ changes_after (n + 1) author authors
     else changes_after (n + 1) author authors
 
--- the numbers of an author's changes
-abbrev pub changes_by : ℕ → List ℕ → List ℕ
-changes_by author authors = changes_after 0 author authors
-
 -- each of these is one of the seats 1 to n
 abbrev pub AreSeats : ℕ → List ℕ → Type 0
 AreSeats n [] = Unit {0}
@@ -33,10 +29,6 @@ others_after n enlisted [] = []
 others_after n enlisted (a ∷ authors) =
     if is_listed a enlisted then others_after (n + 1) enlisted authors
     else (n + 1) ∷ others_after (n + 1) enlisted authors
-
--- the numbers of the changes whose authors are not in the list
-abbrev pub changes_of_others : List ℕ → List ℕ → List ℕ
-changes_of_others enlisted authors = others_after 0 enlisted authors
 
 -- the next k numbers after n
 abbrev pub numbers_after : ℕ → ℕ → List ℕ

@@ -4,7 +4,7 @@ ghost use Rattle.lq_value.specs.Refusal.{FailsOnlyForMemory};
 ghost use Rattle.lq_volume.specs.Book.{Extends};
 ghost use Rattle.lq_board.specs.Author.{IsWhole, leader, leader_register, no_register, with_seat, new_author};
 ghost use Rattle.lq_board.specs.Book.{IsFullBook};
-ghost use Rattle.lq_board.specs.Meeting.{GoesOut};
+ghost use Rattle.lq_board.specs.Meeting.{GoesOut, WasOut};
 ghost use Rattle.lq_board.specs.Slot.{unused_slots, slot_at, come_back, counted};
 ghost use Rattle.lq_board.specs.Token.{counted_board, moment_of};
 
@@ -145,23 +145,17 @@ impl<M> Board<M> {
     /// enlisted, it has gathered all changes. The seat's number is not given out again.
     pub fn join(&self, keeper: &mut Keeper<M>, seat: Seat<M>)
         requires board { (keeper.old.board ≡ self.now) × (seat.board ≡ self.now) }
-        ensures keeper { keeper.new ≡ record {
-          board = keeper.old.board;
-          book = keeper.old.book;
+        ensures keeper { keeper.new ≡ record keeper.old {
           slots = come_back keeper.old.slots seat.slot seat.asks seat.name;
-          register = keeper.old.register;
         } }
         ensures whole { IsWhole seat.author (length keeper.old.book.changes) }
         ensures later { Extends keeper.old.book seat.book }
-        ensures name { 0 < seat.slot → (slot_at keeper.old.slots seat.slot).name ≡ seat.name }
-        ensures asks { 0 < seat.slot → (slot_at keeper.old.slots seat.slot).asks ≤ seat.asks }
-        ensures out { 0 < seat.slot → (slot_at keeper.old.slots seat.slot).out ≡ true }
+        ensures was_out { 0 < seat.slot → WasOut keeper.old.slots seat }
     {
         let Seat { token, slot: _ } = seat;
-        let Some(token) = token else { unreachable!() };
         self.table
             .shared
-            .join_seat::<Back>(&mut keeper.token, token);
+            .join_seat::<Back>(&mut keeper.token, token.unwrap());
         // For the proof: this read tells what holds for the seat.
         self.table.shared.load::<Check>(&mut keeper.token, 0);
     }
@@ -175,11 +169,8 @@ impl<M> Board<M> {
         ensures known { (slot_at keeper.old.slots slot).asks ≤ result }
         ensures idle { (slot_at keeper.old.slots slot).out ≡ false
             → result ≡ (slot_at keeper.old.slots slot).asks }
-        ensures keeper { keeper.new ≡ record {
-          board = keeper.old.board;
-          book = keeper.old.book;
+        ensures keeper { keeper.new ≡ record keeper.old {
           slots = counted keeper.old.slots slot result;
-          register = keeper.old.register;
         } }
     {
         self.table
@@ -199,9 +190,7 @@ impl<M> Board<M> {
         ensures whole { IsWhole seat.new.author result }
         ensures seat { seat.new ≡ record seat.old { book = seat.new.book } }
     {
-        let Some(mut token) = seat.token.take() else {
-            unreachable!()
-        };
+        let mut token = seat.token.take().unwrap();
         let number = self.table.shared.load::<See>(&mut token, 0);
         seat.token = Some(token);
         number
@@ -218,9 +207,7 @@ impl<M> Board<M> {
         ensures seat { seat.new ≡ record seat.old { asks = seat.old.asks + 1 } }
     {
         let slot = seat.slot as usize;
-        let Some(mut token) = seat.token.take() else {
-            unreachable!()
-        };
+        let mut token = seat.token.take().unwrap();
         self.table.shared.fetch_add::<Ask>(&mut token, slot, 1);
         seat.token = Some(token);
     }

@@ -27,10 +27,8 @@ impl<M> Board<M> {
         ensures number { result ≡ length keeper.new.book.changes }
         ensures full { IsFullBook keeper.new.book }
         ensures state { state_of keeper.new.book ≡ after (state_of keeper.old.book) change.now }
-        ensures keeper { keeper.new ≡ record {
-          board = keeper.old.board;
+        ensures keeper { keeper.new ≡ record keeper.old {
           book = grown keeper.old.book (change.now ∷ []);
-          slots = keeper.old.slots;
           register = with_author (with_seat keeper.old.register) (keeper.old.register.seats + 1);
         } }
     {
@@ -52,9 +50,7 @@ impl<M> Board<M> {
         ensures number { result ≡ length keeper.new.book.changes }
         ensures added { HasAdded change.now result keeper.old keeper.new seat.old seat.new }
     {
-        let Some(token) = seat.token.take() else {
-            unreachable!()
-        };
+        let token = seat.token.take().unwrap();
         let (number, again) = self.added::<Brand>(keeper, token, change);
         seat.token = Some(again);
         number
@@ -72,9 +68,7 @@ impl<M> Board<M> {
         ensures seat { seat.new ≡ record seat.old { book = keeper.old.book } }
         ensures keeper { keeper.new ≡ keeper.old }
     {
-        let Some(token) = seat.token.take() else {
-            unreachable!()
-        };
+        let token = seat.token.take().unwrap();
         let (number, again) = self.met::<Brand>(keeper, token);
         seat.token = Some(again);
         number
@@ -92,9 +86,7 @@ impl<M> Board<M> {
         ensures number { result ≡ length seat.new.book.changes }
         ensures met { HasMet keeper.old keeper.new seat.old seat.new (Some name) }
     {
-        let Some(token) = seat.token.take() else {
-            unreachable!()
-        };
+        let token = seat.token.take().unwrap();
         let (number, again) = self.met::<Brand>(keeper, token);
         seat.token = Some(again);
         number
@@ -115,12 +107,8 @@ impl<M> Board<M> {
         } }
     {
         let Seat { token, slot: _ } = self.seat(keeper);
-        let Some(mut first) = token else {
-            unreachable!()
-        };
-        let Some(second) = seat.token.take() else {
-            unreachable!()
-        };
+        let mut first = token.unwrap();
+        let second = seat.token.take().unwrap();
         self.table.shared.join_seat::<Together>(&mut first, second);
         seat.token = Some(self.table.shared.split_seat::<Note>(&mut first));
     }
@@ -136,12 +124,8 @@ impl<M> Board<M> {
         ensures one { one.new ≡ one.old }
         ensures two { two.new ≡ two.old }
     {
-        let Some(mut first) = one.token.take() else {
-            unreachable!()
-        };
-        let Some(second) = two.token.take() else {
-            unreachable!()
-        };
+        let mut first = one.token.take().unwrap();
+        let second = two.token.take().unwrap();
         self.table.shared.join_seat::<Together>(&mut first, second);
         self.table.shared.load::<Compare>(&mut first, 0);
         two.token = Some(self.table.shared.split_seat::<Part>(&mut first));
@@ -164,12 +148,8 @@ impl<M> Board<M> {
           author = with_signs other.old.author true;
         } }
     {
-        let Some(mut first) = head.token.take() else {
-            unreachable!()
-        };
-        let Some(second) = other.token.take() else {
-            unreachable!()
-        };
+        let mut first = head.token.take().unwrap();
+        let second = other.token.take().unwrap();
         self.table.shared.join_seat::<Together>(&mut first, second);
         self.table.shared.load::<Enlist>(&mut first, 0);
         other.token = Some(self.table.shared.split_seat::<Part>(&mut first));
@@ -195,12 +175,8 @@ impl<M> Board<M> {
           author = with_signs other.old.author false;
         } }
     {
-        let Some(mut first) = head.token.take() else {
-            unreachable!()
-        };
-        let Some(second) = other.token.take() else {
-            unreachable!()
-        };
+        let mut first = head.token.take().unwrap();
+        let second = other.token.take().unwrap();
         self.table.shared.join_seat::<Together>(&mut first, second);
         self.table.shared.load::<Dismiss>(&mut first, 0);
         other.token = Some(self.table.shared.split_seat::<Part>(&mut first));

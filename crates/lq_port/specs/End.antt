@@ -1,5 +1,6 @@
 -- What a contract sees of an end of a port.
-use Rattle.std.specs.Prelude.{◌≡◌, ◌≤◌, ℕ, true, false, List, [], ◌∷◌, ◌++◌, length}
+use Rattle.std.specs.Prelude.{◌≡◌, ◌≤◌, ℕ, true, false, List, [], ◌∷◌, ◌++◌, length, Option, IfSome, IfNone}
+use mathlib.Core.List.{IsPrefix}
 use Rattle.atomic_table.specs.Seated.{TableId}
 use Rattle.atomic_table.specs.declared.badge.Badge.{Badge}
 use Rattle.crossbeam_channel.specs.declared.flavors.array.Key.{Key}
@@ -7,6 +8,7 @@ use Rattle.crossbeam_channel.specs.declared.flavors.array.Rows.{Rows}
 use Rattle.crossbeam_channel.specs.declared.flavors.array.Doing.{Doing}
 use Rattle.crossbeam_channel.specs.Claims.{Pass, view}
 use Rattle.lq_port.specs.declared.step_types.Known.{Known}
+use Rattle.lq_port.specs.Port.{IsLegal}
 
 -- the identity of a port
 abbrev pub PortName : Type 0 → Type 0
@@ -36,10 +38,6 @@ module _ {T F : Type 0} where
   IsSamePort old new =
       (new.port ≡ old.port) × (new.places ≡ old.places) × (new.floor ≡ old.floor)
 
-  -- the end knows of no free place
-  abbrev pub IsFull : End T F → Type 0
-  IsFull end = end.places ≤ length end.ahead
-
   -- x was put at the back
   abbrev pub Gains : End T F → T → End T F → Type 0
   Gains old x new = (new.taken ≡ old.taken) × (new.ahead ≡ old.ahead ++ x ∷ [])
@@ -47,6 +45,30 @@ module _ {T F : Type 0} where
   -- x was taken at the front
   abbrev pub Loses : End T F → T → End T F → Type 0
   Loses old x new = (new.taken ≡ old.taken ++ x ∷ []) × IsFront old.ahead x new.ahead
+
+  -- What a take does: it gives the item at the front, which followed all that was taken. It gives
+  -- none only where the end knew of none that waits, and the end is then unchanged.
+  pub record IsTake (follows : List T → F → T → Type 0) (old : End T F) (result : Option T)
+      (new : End T F) : Type 0 where
+    pub some : IfSome result (λ x. Loses old x new)
+    pub legal : IfSome result (λ x. follows old.taken old.floor x)
+    pub port : IsSamePort old new
+    pub empty : IfNone result (old.ahead ≡ [])
+    pub none : IfNone result (new ≡ old)
+
+  -- An end for takes, d before and e after, met the end for puts, i before and j after. Both then
+  -- know all that was put and all that was taken, and this many items wait.
+  pub record AreBeside (follows : List T → F → T → Type 0) (d e i j : End T F) (waiting : ℕ)
+      : Type 0 where
+    pub value : waiting ≡ length e.ahead
+    pub put : all_put e ≡ all_put i
+    pub taken : e.taken ≡ d.taken
+    pub within : waiting ≤ j.places
+    pub known : IsPrefix d.ahead e.ahead
+    pub input : (j.taken ≡ e.taken) × (j.ahead ≡ e.ahead)
+    pub floor : d.floor ≡ i.floor
+    pub legal : IsLegal follows e.floor (all_put e)
+    pub ports : IsSamePort d e × IsSamePort i j
 
   -- what a pass knows
   abbrev pub known_of : Pass T (Known T F) → Known T F
@@ -60,11 +82,6 @@ module _ {T F : Type 0} where
   abbrev pub IsTaker : Known T F → Type 0
   IsTaker v = (v.puts ≡ false) × (v.takes ≡ true)
 
--- the identity of a channel's port
-abbrev pub port_name_of :
-    {T V Q M L A : Type 0} → Rows (Badge (Key T)) (Doing T V) Q M (Key T) L A → PortName T
-port_name_of c = (c.stamps.shared.table_id, c.stamps.shared.key)
-
 -- the end made of a channel and a pass
 abbrev pub end_of :
     {T F Q M L A : Type 0}
@@ -72,7 +89,7 @@ abbrev pub end_of :
     → Pass T (Known T F) → End T F
 end_of c pass =
     record {
-      port = port_name_of c;
+      port = (c.stamps.shared.table_id, c.stamps.shared.key);
       places = c.cap;
       floor = (known_of pass).floor;
       taken = (known_of pass).taken;

@@ -1,9 +1,8 @@
 //! The two ends of a port.
-ghost use Rattle.std.specs.Prelude.{◌≡◌, ◌++◌, ◌≤◌, ℕ, [], length, IfOk, IfErr, IfSome, IfNone, OnOk, OnErr};
-ghost use mathlib.Core.List.{IsPrefix};
+ghost use Rattle.std.specs.Prelude.{◌≡◌, ◌≤◌, ℕ, [], length, IfOk, IfErr, OnOk, OnErr};
 ghost use Rattle.lq_value.specs.Refusal.{IsRefusedBy};
-ghost use Rattle.lq_port.specs.End.{all_put, IsSamePort, IsFull, Gains, Loses};
-ghost use Rattle.lq_port.specs.Port.{IsLegal, port_refusal};
+ghost use Rattle.lq_port.specs.End.{all_put, IsSamePort, Gains, IsTake, AreBeside};
+ghost use Rattle.lq_port.specs.Port.{port_refusal};
 
 use crate::channel::{PortPass, PortReceiver, PortSender, meet, wait_for_ever};
 use crate::item_law::Follows;
@@ -150,7 +149,7 @@ impl<T: Follows + Drop> PortIn<T> {
 
         // `Err` gives the item back, where this end knows of no free place in the port.
         ensures back { IfErr result (λ back. back ≡ item) }
-        ensures full { OnErr result (IsFull self.old) }
+        ensures full { OnErr result (self.old.places ≤ length self.old.ahead) }
         ensures err { OnErr result (self.new ≡ self.old) }
     {
         if self.count == u64::MAX {
@@ -175,13 +174,7 @@ impl<T: Follows + Drop> PortOut<T> {
     /// says that the port was empty at some moment of the call. As the code says, it may wait for a
     /// step of the other end, but not for an item. It takes no memory.
     pub fn take<R: Wait>(&mut self, rt: &R) -> Option<T>
-        ensures some { IfSome result (λ item. Loses self.old item self.new) }
-        ensures follows { IfSome result (λ item. T.follows self.old.taken self.old.floor item) }
-        ensures port { IsSamePort self.old self.new }
-
-        // This end knew of no waiting item.
-        ensures empty { IfNone result (self.old.ahead ≡ []) }
-        ensures none { IfNone result (self.new ≡ self.old) }
+        ensures { IsTake T.follows self.old result self.new }
     {
         if self.count == u64::MAX {
             wait_for_ever(rt);
@@ -198,13 +191,7 @@ impl<T: Follows + Drop> PortOut<T> {
     /// `None` only where this end knows of no waiting item; the end is then unchanged. Tests show
     /// that its `PortIn` is gone then. It takes no memory.
     pub fn take_waiting<R: Wait>(&mut self, rt: &R) -> Option<T>
-        ensures some { IfSome result (λ item. Loses self.old item self.new) }
-        ensures follows { IfSome result (λ item. T.follows self.old.taken self.old.floor item) }
-        ensures port { IsSamePort self.old self.new }
-
-        // This end knew of no waiting item.
-        ensures empty { IfNone result (self.old.ahead ≡ []) }
-        ensures none { IfNone result (self.new ≡ self.old) }
+        ensures { IsTake T.follows self.old result self.new }
     {
         if self.count == u64::MAX {
             wait_for_ever(rt);
@@ -232,17 +219,7 @@ impl<T: Follows + Drop> PortOut<T> {
     /// knew before. It doesn't wait and takes no memory.
     pub fn beside(&mut self, input: &mut PortIn<T>) -> u64
         requires port { self.old.port ≡ input.old.port }
-        ensures value { result ≡ length self.new.ahead }
-        ensures put { all_put self.new ≡ all_put input.old }
-        ensures taken { self.new.taken ≡ self.old.taken }
-        ensures within { result ≤ input.new.places }
-        ensures known { IsPrefix self.old.ahead self.new.ahead }
-        ensures input { (input.new.taken ≡ self.new.taken) × (input.new.ahead ≡ self.new.ahead) }
-
-        // Both ends have the same floor, and each item follows.
-        ensures floor { self.old.floor ≡ input.old.floor }
-        ensures legal { IsLegal T.follows self.new.floor (all_put self.new) }
-        ensures ports { IsSamePort self.old self.new × IsSamePort input.old input.new }
+        ensures { AreBeside T.follows self.old self.new input.old input.new result }
     {
         meet(&input.sender, &mut input.pass, &mut self.pass);
         input.count - self.count

@@ -8,8 +8,7 @@ use Rattle.lq_update.specs.declared.parcel.Parcel.{Parcel}
 use Rattle.lq_update.specs.declared.parcel.Parcel.TheVariants.{Update, Fin}
 use Rattle.lq_desk_sub.specs.Held.{Held, Prepared, next_parcel, without_parcel, with_back}
 use Rattle.lq_desk_sub.specs.Laws.{PuttingBackUndoes}
-use Rattle.lq_port.specs.End.{End, all_put, IsSamePort, Gains}
-use Rattle.lq_port.specs.Port.{IsLegal}
+use Rattle.lq_port.specs.End.{End, all_put, IsSamePort, Gains, AreBeside}
 use Rattle.lq_server_slots.specs.declared.delivery.Delivery.{Delivery}
 use Rattle.lq_server_slots.specs.declared.delivery.Opening.{Opening}
 use Rattle.lq_server_slots.specs.declared.identity.FirstClose.{FirstClose}
@@ -194,19 +193,15 @@ drains_none s d book stands port = let known = prefix_self d.ahead in grind arit
 
 -- a look at both ends, as a port is drained, is one since the drain began
 module _ (s t : Subscription) (c d e input : End Delivery Opening) (book : Book) (n : ℕ)
-    (at : Drains s t c d book) (value : n ≡ length e.ahead) (put : all_put e ≡ all_put t.input)
-    (taken : e.taken ≡ d.taken) (known : IsPrefix d.ahead e.ahead)
-    (ends : (input.taken ≡ e.taken) × (input.ahead ≡ e.ahead)) (floor : d.floor ≡ t.input.floor)
-    (legal : IsLegal MayFollow e.floor (all_put e)) (room : n ≤ input.places)
-    (ports : IsSamePort d e × IsSamePort t.input input) where
+    (at : Drains s t c d book) (ends : AreBeside MayFollow d e t.input input n) where
   -- the two ends were seen side by side
   pub looks : SideBySide s (record t { input = input }) c e book n
   looks =
-      let all : all_put input ≡ all_put t.input = rw (ends.0, ends.1) put in
+      let all : all_put input ≡ all_put t.input = rw (ends.input.0, ends.input.1) ends.put in
       let stands : IsConsistentAt (record t { input = input }) book =
-      same_put t.sub.held t.input input t.places t.told.value t.first_close book ports.1 all
+      same_put t.sub.held t.input input t.places t.told.value t.first_close book ends.ports.1 all
       at.stands in
-      let later = prefix_trans c.ahead d.ahead e.ahead at.known known in
+      let later = prefix_trans c.ahead d.ahead e.ahead at.known ends.known in
       grind arith
 
   -- and with a put behind that the port is drained further

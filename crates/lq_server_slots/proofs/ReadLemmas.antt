@@ -1,6 +1,6 @@
 -- The steps of a read.
-use Rattle.std.proofs.Common.{◌≡◌, ◌↔◌, ◌-◌, ◌≤◌, Bool, true, false, List, [], ◌∷◌, ◌++◌, length, map, Option, Some, None, refl, sym, ap, ◌∙◌, arith, append_assoc, append-nil, length-append}
-use Rattle.std.specs.Prelude.{IfSome, is_some, option_to_list, Result, Ok, Err, OnErr, OnOk, IfOk}
+use Rattle.std.proofs.Common.{◌≡◌, ◌↔◌, ◌-◌, ◌≤◌, Bool, true, false, true≢false, List, [], ◌∷◌, ◌++◌, length, map, Option, Some, None, refl, sym, ap, ◌∙◌, arith, append_assoc, append-nil, length-append}
+use Rattle.std.specs.Prelude.{IfSome, IsSome, is_some, option_to_list, Result, Ok, Err, OnErr, OnOk, IfOk}
 use Rattle.std.proofs.lemmas.List.{take_at}
 use mathlib.Core.List.{IsPrefix}
 use Rattle.lq_value.specs.declared.refusal.Refusal.{Refusal}
@@ -23,8 +23,7 @@ use Rattle.lq_server_slots.specs.declared.delivery.Opening.{Opening}
 use Rattle.lq_server_slots.specs.Updates.{updates}
 use Rattle.lq_server_slots.specs.Rule.{floor_of, query_of, message_of, mark_or, messages_in, mark_in, all_updates, IsMark, MayFollow}
 use Rattle.lq_server_slots.specs.LegalList.{known_by, LegalList}
-use Rattle.lq_server_slots.specs.Reading.{ReadingHold, ReadsPort, opening_of, known, received, ready, mark_read, what_of, IsTold}
-use Rattle.lq_server_slots.specs.ReadStep.{IsReadStep}
+use Rattle.lq_server_slots.specs.Reading.{ReadingHold, opening_of, known, received, ready, mark_read, what_of, IsTold, IsReadStep}
 use Rattle.lq_server_slots.proofs.Books.{extends_length, extends_self}
 use Rattle.lq_server_slots.proofs.PortLemmas.{prefix_trans, messages_in-snoc, mark_in-append, last_book-snoc, legal_list-none, legal_list-step}
 
@@ -41,17 +40,14 @@ received_is r got all =
     let o : List Message = option_to_list r.hand in
     rw all (take_at got o (length (got ++ o) - length o) (omega (arith, length-append got o)))
 
--- what is so of each reading, in what contracts see of it
-pub told_now : (e : End Delivery Opening) (hand : Option Message) (result : Folding) (ended : Bool)
-    → ReadsPort e result hand ended → IsTold (hold e hand result)
-told_now e hand result ended r =
-    let got = received_is (hold e hand result) r.got r.all in
-    record {
-      legal_list = r.legal_list;
-      all = rw got r.all;
-      folds = rw got r.folds;
-      no_hand = λ some. r.no_hand (r.over ∙ some);
-    }
+-- what is so of a reading that has folded these messages
+told_by : (r : ReadingHold) (got : List Message) → LegalList r.port.floor r.port.taken
+    → messages_in r.port.taken ≡ got ++ option_to_list r.hand
+    → r.result ≡ folding_after_all (opening_of r.port.floor) got
+    → (IsSome (mark_read r) → r.hand ≡ None) → IsTold r
+told_by r got list all folds no_hand =
+    let is = received_is r got all in
+    record { legal_list = list; all = rw is all; folds = rw is folds; no_hand = no_hand }
 
 -- what was received is a front of the updates over the known book
 received_front : (r : ReadingHold) → IsTold r
@@ -118,28 +114,19 @@ module _ (old : ReadingHold) (e : End Delivery Opening) (m : Message) (next : Is
       rw next.folds (fold_fits law e.floor e.taken (received old) m next.legal_list next.all)
 
   -- it was folded, or stays in hand
-  pub next_reads : (ended : Bool) (result : Folding) (hand : Option Message)
-      (read : Result Read Refusal) → ended ≡ is_some (mark_read old)
+  pub next_reads : (result : Folding) (hand : Option Message) (read : Result Read Refusal)
       → OnOk read ((result ≡ folding_after old.result m) × (hand ≡ None))
-      → OnErr read ((result ≡ old.result) × (hand ≡ Some m)) → ReadsPort e result hand ended
-  next_reads ended result hand (Ok a) over ok err =
-      record {
-        got = received old ++ m ∷ [];
-        legal_list = next.legal_list;
-        all = rw (ok.1, append-nil) next.all;
-        folds = rw (ok.0, folds-snoc, ← next.folds);
-        over = over ∙ ap is_some (next.was_live ∙ sym next.live);
-        no_hand = λ _. ok.1;
-      }
-  next_reads ended result hand (Err x) over ok err =
-      record {
-        got = received old;
-        legal_list = next.legal_list;
-        all = rw err.1 next.all;
-        folds = rw err.0 next.folds;
-        over = over ∙ ap is_some (next.was_live ∙ sym next.live);
-        no_hand = grind arith;
-      }
+      → OnErr read ((result ≡ old.result) × (hand ≡ Some m)) → IsTold (hold e hand result)
+  next_reads result hand (Ok a) ok err =
+      told_by (hold e hand result) (received old ++ m ∷ []) next.legal_list
+      (rw (ok.1, append-nil) next.all) (rw (ok.0, folds-snoc, ← next.folds)) (λ _. ok.1)
+  next_reads result hand (Err x) ok err =
+      told_by (hold e hand result) (received old) next.legal_list (rw err.1 next.all)
+      (rw err.0 next.folds) (λ some. absurd (true≢false (sym some ∙ ap is_some next.live)))
+
+  -- and the mark is still to come
+  pub still_live : is_some (mark_read old) ≡ is_some (mark_in e.taken)
+  still_live = ap is_some (next.was_live ∙ sym next.live)
 
   -- so the read gives it, or fails and loses nothing
   pub next_step : (w : Bool) (result : Folding) (hand : Option Message)
@@ -148,12 +135,12 @@ module _ (old : ReadingHold) (e : End Delivery Opening) (m : Message) (next : Is
       → OnErr read ((result ≡ old.result) × (hand ≡ Some m)) → IfOk read (λ a. a ≡ Update m)
       → IsReadStep w old (hold e hand result) read
   next_step w result hand read refused ok err gave =
-      let reads = next_reads (is_some (mark_read old)) result hand read refl ok err in
+      let reads = next_reads result hand read ok err in
       let folds : hand ≡ None → received (hold e hand result) ≡ received old ++ m ∷ [] =
       λ none. received_is (hold e hand result) _ (rw (none, append-nil) next.all) in
       let stays : hand ≡ Some m → received (hold e hand result) ≡ received old =
       λ some. received_is (hold e hand result) _ (rw some next.all) in
-      let received = received_front (hold e hand result) (told_now e hand result _ reads) in
+      let received = received_front (hold e hand result) reads in
       grind arith
 
 -- a message in hand comes next
@@ -193,7 +180,7 @@ module _ (old : ReadingHold) (told : IsTold old) (none : old.hand ≡ None)
       rw (loses.0, messages_in-snoc) (ap (λ (l : List Message). l ++ message_of x.what) bare)
 
   -- the mark that was taken is the parcel's, if it is one
-  mark_then : mark_in e.taken ≡ mark_or x.what None
+  pub mark_then : mark_in e.taken ≡ mark_or x.what None
   mark_then = rw (loses.0, mark_in-append old.port.taken (x ∷ []) comes.open_yet)
 
   -- the parcel stood in front of those that wait
@@ -211,22 +198,17 @@ module _ (old : ReadingHold) (told : IsTold old) (none : old.hand ≡ None)
       grind arith
 
   -- when the mark is taken, the reader has ended
-  pub took_mark : (k : Mark) → x.what ≡ told_fin k → ReadsPort e old.result old.hand true
-  took_mark k is = record {
-    got = received old;
-    legal_list = legal_list_then;
-    all = messages_then ∙ rw (is, none);
-    folds = rw same.2 told.folds;
-    over = ap is_some (sym (rw is at mark_then));
-    no_hand = λ _. none;
-  }
+  pub took_mark : (k : Mark) → x.what ≡ told_fin k → IsTold (hold e old.hand old.result)
+  took_mark k is =
+      told_by (hold e old.hand old.result) (received old) legal_list_then
+      (messages_then ∙ rw (is, none)) (rw same.2 told.folds) (λ _. none)
 
   -- and the read gives it
   pub mark_step : (w : Bool) (k : Mark) → x.what ≡ told_fin k
       → IsReadStep w old (hold e old.hand old.result) (Ok (Fin k))
   mark_step w k is =
       let now = hold e old.hand old.result in
-      let reads = told_now e old.hand old.result true (took_mark k is) in
+      let reads = took_mark k is in
       let all : messages_in e.taken ≡ received now = reads.all ∙ rw (none, append-nil) in
       let got : received now ≡ received old =
       received_is now (received old) (messages_then ∙ rw (is, none)) in
@@ -261,16 +243,10 @@ module _ (w : Bool) (old : ReadingHold) (told : IsTold old) where
 -- a new reading received nothing
 pub reads_new : (e : End Delivery Opening) (result : Folding) → e.taken ≡ []
     → e.floor.opened ≡ length (floor_of e.floor).changes → IsFullBook (floor_of e.floor)
-    → result ≡ opening_of e.floor → ReadsPort e result None false
+    → result ≡ opening_of e.floor → IsTold (hold e None result)
 reads_new e result taken opening full is =
-    record {
-      got = [];
-      legal_list = rw taken (legal_list-none e.floor opening full);
-      all = rw taken;
-      folds = is;
-      over = rw taken;
-      no_hand = λ _. refl;
-    }
+    told_by (hold e None result) [] (rw taken (legal_list-none e.floor opening full)) (rw taken) is
+    (λ _. refl)
 
 -- ---- the result
 

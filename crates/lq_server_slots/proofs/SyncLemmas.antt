@@ -1,5 +1,5 @@
 -- What a reader does under the lock.
-use Rattle.std.proofs.Common.{◌≡◌, ℕ, zero, suc, ◌<◌, ◌≤◌, true, false, List, [], ◌∷◌, length, Option, Some, refl, sym, ap, ◌∙◌, arith, get_or-set_same, slice_set, set-set}
+use Rattle.std.proofs.Common.{◌≡◌, ℕ, zero, suc, ◌<◌, ◌≤◌, Bool, true, false, List, [], ◌∷◌, length, Option, Some, refl, sym, ap, ◌∙◌, arith, get_or-set_same, slice_set, set-set}
 use Rattle.std.specs.Prelude.{IsSome, IsSomeAnd}
 use Rattle.std.proofs.lemmas.List.{set-get_or}
 use Rattle.lq_volume.specs.declared.change.Change.{Change}
@@ -11,16 +11,16 @@ use Rattle.lq_board.specs.Meeting.{HasAdded, HasMet}
 use Rattle.lq_port.specs.End.{End}
 use Rattle.lq_server_slots.specs.declared.delivery.Delivery.{Delivery}
 use Rattle.lq_server_slots.specs.declared.delivery.Opening.{Opening}
+use Rattle.lq_server_slots.specs.declared.ghost_copy.GhostCopy.{GhostCopy}
 use Rattle.lq_server_slots.specs.declared.identity.Identity.{Identity}
+use Rattle.lq_server_slots.specs.declared.identity.Told.{Told}
 use Rattle.lq_server_slots.specs.declared.subscription.Subscription.{Subscription}
 use Rattle.lq_server_slots.specs.Marking.{hung_mark}
 use Rattle.lq_server_slots.specs.Identity.{identity_of, port_id_inj}
 use Rattle.lq_server_slots.specs.Reading.{ReadingHold}
-use Rattle.lq_server_slots.specs.Standing.{IsConsistentAt, IsSeen, CannotPut, SameButHeld, told_by}
-use Rattle.lq_server_slots.specs.Slots.{IsTakenSlot, SlotStands, IsSlotMet, asks_of, OnlyAt}
-use Rattle.lq_server_slots.specs.Opening.{IdentityFits, name_or}
-use Rattle.lq_server_slots.specs.Progress.{IsShown}
-use Rattle.lq_server_slots.specs.declared.sync.Progress.{Progress}
+use Rattle.lq_server_slots.specs.Standing.{IsConsistentAt, IsDrained, IsSeen, CannotPut, SameButHeld, SideBySide, told_by}
+use Rattle.lq_server_slots.specs.Slots.{IsTakenSlot, SlotStands, IsSlotMet, KeepsBook, asks_of, OnlyAt}
+use Rattle.lq_server_slots.specs.Opening.{IdentityFits, asks_after, name_or}
 use Rattle.lq_server_slots.proofs.Books.{extends_self}
 use Rattle.lq_server_slots.proofs.EndLemmas.{told_now}
 use Rattle.lq_server_slots.proofs.SlotLemmas.{only_set, stuck_filled}
@@ -71,32 +71,35 @@ slot_met_same old new s t n met counts same place some =
     let name = some_name s.name some in
     rw name at (slot_met old new s t (Some (name_or s.name)) n met counts same place)
 
--- two changes at one place
-pub only_trans : (ps qs rs : List (KnownSlot Identity)) (k : ℕ) → OnlyAt ps qs k → OnlyAt qs rs k
-    → OnlyAt ps rs k
-only_trans ps qs rs k a b =
-    record { wide = b.wide ∙ a.wide; others = λ j ne. b.others j ne ∙ a.others j ne }
-
--- two changes at one place, which is known as an equation for the second
-pub only_then : (ps qs rs : List (KnownSlot Identity)) (k j : ℕ) → OnlyAt ps qs k → OnlyAt qs rs j
-    → j ≡ k → OnlyAt ps rs k
-only_then ps qs rs k j a b e = only_trans ps qs rs k a (rw e at b)
+-- two calls at one slot, which is known as an equation for the second
+pub keeps_then : (old mid new : KeeperToken Identity) (k j : ℕ) → KeepsBook old mid k
+    → KeepsBook mid new j → j ≡ k → KeepsBook old new k
+keeps_then old mid new k j a b e =
+    let c : KeepsBook mid new k = rw e at b in
+    record {
+      board = c.board ∙ a.board;
+      counted = c.counted ∙ a.counted;
+      book = c.book ∙ a.book;
+      only = record {
+        wide = c.only.wide ∙ a.only.wide;
+        others = λ j ne. c.only.others j ne ∙ a.only.others j ne;
+      };
+    }
 
 -- a taken slot stands on once its port is filled and its reader told, and its seat has its new name
-pub taken_shown : (s t : Subscription) (p q : KnownSlot Identity) (n : ℕ) (book : Book)
-    (d e : ReadingHold) (x : Progress) → IsTakenSlot s p book → IsShown s t d e book x → p.asks ≤ n
-    → q ≡ record { out = true; asks = n; name = Some (identity_of t) } → IsTakenSlot t q book
-taken_shown s t p q n book d e x taken shown le is =
-    let m : Subscription = shown.m in
-    let u : Subscription = record m { told = t.told } in
-    let seen : ℕ = length e.port.taken in
-    let told : t.told.value ≡ told_by (length book.changes) seen m.sub.held.mark =
-    rw shown.number at shown.told in
+pub taken_shown : (s m : Subscription) (told : GhostCopy Told) (p q : KnownSlot Identity)
+    (n : ℕ) (book : Book) (d e : ReadingHold) (waiting : ℕ) → IsTakenSlot s p book
+    → SideBySide s m d.port e.port book waiting → IsDrained m waiting
+    → told.value ≡ told_by (length book.changes) (length e.port.taken) m.sub.held.mark → p.asks ≤ n
+    → q ≡ record { out = true; asks = n; name = Some (identity_of (record m { told = told })) }
+    → IsTakenSlot (record m { told = told }) q book
+taken_shown s m told p q n book d e waiting taken between drained is le known =
+    let u : Subscription = record m { told = told } in
     let stands : IsConsistentAt u book =
-    rw told (told_now m.sub.held m.input m.places m.told.value m.first_close book seen
-    shown.between.stands) in
+    rw is (told_now m.sub.held m.input m.places m.told.value m.first_close book
+    (length e.port.taken) between.stands) in
     let few : IsSeen u = grind arith in
-    let stuck : CannotPut u = rw shown.between.ahead shown.drained in
+    let stuck : CannotPut u = rw (between.ends.input.1, ← between.ends.value) drained in
     let filled = stuck_filled u book stands few stuck in
     grind arith
 
@@ -108,6 +111,30 @@ pub taken_closed : (s t : Subscription) (p q : KnownSlot Identity) (n : ℕ) (bo
     → p.asks ≤ n → q ≡ record { out = true; asks = n; name = Some (identity_of t) }
     → IsTakenSlot t q book
 taken_closed s t p q n book taken stands others messages hung le is = grind arith
+
+-- a slot's seat came back
+pub seat_joined : (old new : KeeperToken Identity) (k n : ℕ) (name : Option Identity)
+    → new ≡ record old { slots = come_back old.slots k n name } → 0 < k → k < length old.slots
+    → KeepsBook old new k
+    × (slot_at new.slots k ≡ record { out = false; asks = n; name = name })
+seat_joined old new zero n name is pos lt = absurd (omega arith)
+seat_joined old new (suc j) n name is pos lt =
+    let q : KnownSlot Identity = record { out = false; asks = n; name = name } in
+    let slots : new.slots ≡ slice_set old.slots (suc j) q = rw is refl in (
+      record {
+        board = rw is refl;
+        counted = rw is refl;
+        book = rw is refl;
+        only = rw slots (only_set old.slots (suc j) q);
+      },
+      rw slots (get_or-set_same old.slots (suc j) q unused lt),
+    )
+
+-- and had asked no more often than its slot counts
+pub joined_asks : (o : Option Subscription) (p : KnownSlot Identity) (book : Book)
+    (name : Option Identity) (asks : ℕ) (flag : Bool) → SlotStands o p book → p.out ≡ true
+    → p.name ≡ name → IsSomeAnd name (λ t. asks ≡ asks_after t.asks flag) → asks ≤ asks_of o p
+joined_asks o p book name asks flag fits out is had = grind arith
 
 -- the lock's port is that of the reader's name
 pub same_port : (s : Subscription) (name : Option Identity) (e : End Delivery Opening)

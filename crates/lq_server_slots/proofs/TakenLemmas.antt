@@ -7,12 +7,12 @@ use native.Mathlib.Decide.{ℕ_discrete}
 use Rattle.lq_board.specs.declared.token_views.KnownSlot.{KnownSlot}
 use Rattle.lq_volume.specs.Book.{Book}
 use Rattle.lq_board.specs.Slot.{slot_at}
-use Rattle.lq_board.specs.Token.{KeeperToken}
 use Rattle.lq_desk_sub.specs.SlotSet.{has, IsEmpty}
 use Rattle.lq_desk_sub.specs.declared.slot_index.SlotIndex.{SlotIndex}
 use Rattle.lq_server_slots.specs.declared.identity.Identity.{Identity}
+use Rattle.lq_server_slots.specs.declared.slots.ServerSlots.{ServerSlots}
 use Rattle.lq_server_slots.specs.declared.subscription.Subscription.{Subscription}
-use Rattle.lq_server_slots.specs.Slots.{AllStand, MarksTaken, OnlyAt, SlotStands, asks_of, slot_in, all_taken, has_no_free}
+use Rattle.lq_server_slots.specs.Slots.{AreConsistent, MarksTaken, KeepsSlot, KeepsSlots, OnlyAt, SlotStands, slot_in, all_taken, has_no_free}
 use Rattle.lq_server_slots.proofs.SlotLemmas.{all_stand-step, set_cases}
 
 -- a slot that isn't taken is free
@@ -61,24 +61,44 @@ marks-put old new slots i k o marks wide lt is here others j within =
     (λ (e : j + 1 ≡ k). let same : j ≡ i = omega arith in rw same here)
     (λ (ne : j + 1 ≢ k). others j (λ (e : j ≡ i). ne (ap (λ n. n + 1) e ∙ is)) ∙ marks j within)
 
--- one slot was set, which was read as `was` and stays taken or free, j beside k for the place of
--- its seat, and no asks were added
-pub slots_stand-step : (keeper keeper' : KeeperToken Identity) (slots : List (Option Subscription))
-    (taken j k openings : ℕ) (was o : Option Subscription) (book book' : Book)
-    → AllStand keeper slots openings book × MarksTaken taken slots → 0 < k → k < 65 → j ≡ k
-    → book' ≡ book → was ≡ slice_index_or slots k was → OnlyAt keeper.slots keeper'.slots j
-    → SlotStands o (slot_at keeper'.slots j) book'
-    → asks_of o (slot_at keeper'.slots j) ≤ asks_of was (slot_at keeper.slots j)
-    → is_some o ≡ is_some was
-    → AllStand keeper' (slice_set slots k o) openings book' × MarksTaken taken (slice_set slots k o)
-slots_stand-step keeper keeper' slots taken j k openings was o book book' h pos within e same value
-    only fits asks kept =
-    let wide = h.0.wide in
-    let read : was ≡ slot_in slots k = get_or_read slots k was (omega arith) value None in (
-      all_stand-step keeper keeper' slots j k openings o book book' h.0 pos within e same only fits
-          (rw read at asks),
-      marks-kept taken slots k o h.1 wide within (rw read at kept),
-    )
+-- slots that stay are kept
+pub slots_stay : (slots : ServerSlots) → AreConsistent slots slots.keeper.book
+    → KeepsSlots slots slots
+slots_stay slots h =
+    record {
+      counts = record { board = refl; counted = refl; openings = refl };
+      book = refl;
+      holding = h;
+    }
+
+-- after all slots were kept, one was set, which was read as `was`, j beside k for the place of its
+-- seat, where a call kept its slot
+pub slots_kept-step : (first old new : ServerSlots) (j k : ℕ) (was o : Option Subscription)
+    → KeepsSlots first old → 0 < k → k < 65 → j ≡ k
+    → was ≡ slice_index_or old.subscriptions.items k was → KeepsSlot old.keeper new.keeper j was o
+    → new.subscriptions.items ≡ slice_set old.subscriptions.items k o → new.taken ≡ old.taken
+    → new.openings ≡ old.openings → KeepsSlots first new
+slots_kept-step first old new j k was o h pos within e value keeps set taken openings =
+    let kept = keeps.keeper in
+    let items = old.subscriptions.items in
+    let wide = h.holding.0.wide in
+    let read : was ≡ slot_in items k = get_or_read items k was (omega arith) value None in
+    record {
+      counts = record {
+        board = kept.board ∙ h.counts.board;
+        counted = kept.counted ∙ h.counts.counted;
+        openings = openings ∙ h.counts.openings;
+      };
+      book = kept.book ∙ h.book;
+      holding = (
+        rw (set, openings)
+            (all_stand-step old.keeper new.keeper items j k old.openings o old.keeper.book
+            new.keeper.book h.holding.0 pos within e kept.book kept.only keeps.fits
+            (rw read at keeps.asks)),
+        rw (set, taken)
+            (marks-kept old.taken.word items k o h.holding.1 wide within (rw read at keeps.kept)),
+      );
+    }
 
 -- ---- whether a slot is free
 

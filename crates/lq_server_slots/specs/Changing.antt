@@ -13,7 +13,7 @@ use Rattle.lq_board.specs.Slot.{slot_at}
 use Rattle.lq_board.specs.Token.{SeatToken}
 use Rattle.lq_server_slots.specs.declared.identity.Identity.{Identity}
 use Rattle.lq_server_slots.specs.declared.slots.ServerSlots.{ServerSlots}
-use Rattle.lq_server_slots.specs.Slots.{AllReady, IsNoticed, SlotsAre, AreConsistent}
+use Rattle.lq_server_slots.specs.Slots.{AllReady, IsNoticed, SlotsAre, KeepsSlots}
 
 -- A change was made, or refused. The volume was v and is w, the book b and d, the author's seat s
 -- and t. Refused, the book and the seat's own changes stay. Made, it is the last of the book, under
@@ -40,10 +40,6 @@ pub record IsPrepared (v : State) (change : Change) (result : Result (Unit {0}) 
   pub lawful : OnOk result (refused v change ≡ None)
   pub ready : OnOk result (AllReady new.subscriptions.items v change)
   pub noticed : OnOk result (SlotsAre IsNoticed new.subscriptions.items new.keeper.slots)
-  pub board : new.keeper.board ≡ old.keeper.board
-  pub counted : new.keeper.register.openings ≡ old.keeper.register.openings
-  pub book : new.keeper.book ≡ old.keeper.book
-  pub openings : new.openings ≡ old.openings
-  pub holding : AreConsistent new new.keeper.book
+  pub keeps : KeepsSlots old new
   pub rises : (k : ℕ) → (slot_at old.keeper.slots k).asks ≤ (slot_at new.keeper.slots k).asks
   pub refused : IsRefusedBy result (refused v change)

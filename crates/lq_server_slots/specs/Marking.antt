@@ -1,21 +1,14 @@
 -- What a notice and a close do to the mark.
-use Rattle.std.specs.Prelude.{ℕ, Bool, true, false, ◌&&◌, Option, IsSomeAnd, if◌then◌else◌}
+use Rattle.std.specs.Prelude.{◌≡◌, ℕ, Bool, true, false, ◌&&◌, Option, IsSomeAnd, if◌then◌else◌}
 use Rattle.lq_desk_sub.specs.Held.{Held, Prepared, is_live, after_messages, ended_by}
 use Rattle.lq_server_slots.specs.declared.identity.FirstClose.{FirstClose}
 use Rattle.lq_server_slots.specs.declared.identity.FirstClose.TheVariants.{Never, At, Late}
 use Rattle.lq_update.specs.declared.mark.Mark.{Mark}
-use Rattle.lq_update.specs.declared.mark.Cause.{Cause}
-use Rattle.lq_update.specs.declared.mark.Cause.TheVariants.{Closed, HungUp, Overrun}
-
--- the cause where the reader asked for the end
-abbrev pub IsHung : Cause → Type 0
-IsHung Closed = ⊥
-IsHung HungUp = Unit {0}
-IsHung Overrun = ⊥
+use Rattle.lq_update.specs.declared.mark.Cause.TheVariants.{Closed, HungUp}
 
 -- the subscription has ended because its reader asked
 abbrev pub hung_mark : Option Mark → Type 0
-hung_mark o = IsSomeAnd o (λ k. IsHung k.cause)
+hung_mark o = IsSomeAnd o (λ k. k.cause ≡ HungUp)
 
 -- the answer of the first close, after one more close
 abbrev pub after_close : FirstClose → Bool → ℕ → FirstClose

@@ -1,7 +1,7 @@
 -- What the lock shows of a subscription.
 use Rattle.std.specs.Prelude.{◌≡◌, ◌<◌, ◌≤◌, length, Some, IsSome}
 use mathlib.Core.List.{IsPrefix}
-use Rattle.lq_volume.specs.Book.{Book, Extends}
+use Rattle.lq_volume.specs.Book.{Extends}
 use Rattle.lq_board.specs.Token.{SeatToken}
 use Rattle.lq_port.specs.End.{IsSamePort, all_put}
 use Rattle.lq_port.specs.Port.{IsLegal}
@@ -11,7 +11,7 @@ use Rattle.lq_server_slots.specs.Rule.{MayFollow}
 use Rattle.lq_server_slots.specs.Marking.{hung_mark}
 use Rattle.lq_server_slots.specs.Identity.{identity_of}
 use Rattle.lq_server_slots.specs.Reading.{ReadingHold}
-use Rattle.lq_server_slots.specs.Standing.{IsConsistentAt, IsDrained, SideBySide, told_by}
+use Rattle.lq_server_slots.specs.Standing.{IsConsistentAt, IsDrained, told_by}
 use Rattle.lq_server_slots.specs.declared.sync.Progress.{Progress}
 
 -- What a sync shows of a subscription; s is the subscription under the lock, once its port is
@@ -43,20 +43,3 @@ pub record ShowsProgress (s : Subscription) (seat0 seat1 : SeatToken Identity) (
   pub out : x.out ≡ s.sub.held.mark_out
   pub hung : hung_mark s.sub.held.mark → s.asks < seat1.asks
   pub ended : s.asks < seat1.asks → IsSome s.sub.held.mark
-
--- From s to t the port of a subscription was filled, with its two ends side by side, d before and e
--- after, and its reader was told x. In between it was m.
-pub record IsShown (s t : Subscription) (d e : ReadingHold) (book : Book) (x : Progress)
-    : Type 0 where
-  pub m : Subscription
-  pub between : SideBySide s m d.port e.port book (length e.port.ahead)
-  pub drained : IsDrained m (length e.port.ahead)
-  pub rest : t ≡ record m { told = t.told }
-  pub told : t.told.value ≡ told_by x.change (length e.port.taken) m.sub.held.mark
-  pub hand : e.hand ≡ d.hand
-  pub result : e.result ≡ d.result
-  pub number : x.change ≡ length book.changes
-  pub waiting : x.waiting ≡ length e.port.ahead
-  pub held : x.held ≡ length m.sub.held.messages
-  pub mark : x.mark ≡ m.sub.held.mark
-  pub out : x.out ≡ m.sub.held.mark_out

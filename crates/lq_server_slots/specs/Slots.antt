@@ -25,14 +25,6 @@ pub record IsTakenSlot (s : Subscription) (p : KnownSlot Identity) (book : Book)
   pub name : p.name ≡ Some (identity_of s)
   pub hung : hung_mark s.sub.held.mark → s.asks < p.asks
 
--- the same, while its port is still to be filled
-pub record IsToFill (s : Subscription) (p : KnownSlot Identity) (book : Book) : Type 0 where
-  pub stands : IsConsistentAt s book
-  pub seen : IsSeen s
-  pub out : p.out ≡ true
-  pub name : p.name ≡ Some (identity_of s)
-  pub hung : hung_mark s.sub.held.mark → s.asks < p.asks
-
 -- a slot that may be free
 abbrev pub SlotStands : Option Subscription → KnownSlot Identity → Book → Type 0
 SlotStands None p book = p.out ≡ false
@@ -94,13 +86,6 @@ abbrev pub SlotsAre :
 SlotsAre P slots known =
     (k : ℕ) → 0 < k → k < 65 → SlotIs P (slot_in slots k) (slot_at known k)
 
--- the keeper, the subscriptions, the set of the taken slots and the number of openings stay
-pub record AreUnchanged (old new : ServerSlots) : Type 0 where
-  pub keeper : new.keeper ≡ old.keeper
-  pub subscriptions : new.subscriptions ≡ old.subscriptions
-  pub taken : new.taken ≡ old.taken
-  pub openings : new.openings ≡ old.openings
-
 -- only what the keeper knows of the slots may differ, and how many seats have a number
 pub record SameButKnown (old new : ServerSlots) : Type 0 where
   pub board : new.keeper.board ≡ old.keeper.board
@@ -115,16 +100,40 @@ pub record OnlyAt (old new : List (KnownSlot Identity)) (place : ℕ) : Type 0 w
   pub wide : length new ≡ length old
   pub others : (k : ℕ) → k ≢ place → slot_at new k ≡ slot_at old k
 
+-- a call at a slot keeps the board, the openings, the book and what is known of the other slots
+pub record KeepsBook (old new : KeeperToken Identity) (place : ℕ) : Type 0 where
+  pub board : new.board ≡ old.board
+  pub counted : new.register.openings ≡ old.register.openings
+  pub book : new.book ≡ old.book
+  pub only : OnlyAt old.slots new.slots place
+
+-- and its slot, o before and p after, stands on, taken or free as it was, and no asks are added
+pub record KeepsSlot (old new : KeeperToken Identity) (place : ℕ) (o p : Option Subscription)
+    : Type 0 where
+  pub keeper : KeepsBook old new place
+  pub fits : SlotStands p (slot_at new.slots place) new.book
+  pub asks : asks_of p (slot_at new.slots place) ≤ asks_of o (slot_at old.slots place)
+  pub kept : is_some p ≡ is_some o
+
+-- the board and the numbers of openings stay
+pub record KeepsCounts (old new : ServerSlots) : Type 0 where
+  pub board : new.keeper.board ≡ old.keeper.board
+  pub counted : new.keeper.register.openings ≡ old.keeper.register.openings
+  pub openings : new.openings ≡ old.openings
+
+-- and so does the book, over which all slots stand
+pub record KeepsSlots (old new : ServerSlots) : Type 0 where
+  pub counts : KeepsCounts old new
+  pub book : new.keeper.book ≡ old.keeper.book
+  pub holding : AreConsistent new new.keeper.book
+
 -- A slot's seat, s before and t after, met the keeper, which had this number of changes. It knows
 -- the keeper's book, the keeper knows how often it has asked, and both have this name. It was out
 -- under the name that the keeper knew.
 pub record IsSlotMet (old new : KeeperToken Identity) (s t : SeatToken Identity)
     (named : Option Identity) (changes : ℕ) : Type 0 where
   pub number : changes ≡ length old.book.changes
-  pub board : new.board ≡ old.board
-  pub counted : new.register.openings ≡ old.register.openings
-  pub book : new.book ≡ old.book
-  pub only : OnlyAt old.slots new.slots s.slot
+  pub keeper : KeepsBook old new s.slot
   pub place : slot_at new.slots s.slot ≡ record { out = true; asks = s.asks; name = named }
   pub known : (slot_at new.slots s.slot).asks ≡ s.asks
   pub seat : t ≡ record s { book = old.book; name = named }
@@ -142,21 +151,6 @@ all_taken (Some s ∷ slots) = all_taken slots
 -- no slot, 1 to 64, is free
 abbrev pub has_no_free : List (Option Subscription) → Bool
 has_no_free slots = all_taken (drop 1 slots)
-
--- a fact of each slot that isn't in a set, and of each that is
-abbrev pub Outside :
-    (Option Subscription → KnownSlot Identity → Type 0) → ℕ → List (Option Subscription)
-    → List (KnownSlot Identity)
-    → Type 0
-Outside P word slots known =
-    (i : ℕ) → i < 64 → has word i ≡ false → P (slot_in slots (i + 1)) (slot_at known (i + 1))
-
-abbrev pub Inside :
-    (Option Subscription → KnownSlot Identity → Type 0) → ℕ → List (Option Subscription)
-    → List (KnownSlot Identity)
-    → Type 0
-Inside P word slots known =
-    (i : ℕ) → i < 64 → has word i ≡ true → P (slot_in slots (i + 1)) (slot_at known (i + 1))
 
 -- the messages of a change are prepared for the slot
 abbrev pub IsReadyAt : Option Subscription → State → Change → Type 0
@@ -176,15 +170,3 @@ pub record IsGrown (b : Book) (c : Change) : Type 0 where
   pub book : b ≡ grown (before_of b) (c ∷ [])
   pub lawful : IsLawful (state_of (before_of b)) c
   pub full : IsFullBook b
-
--- the slots of a set, which are taken, stand over the keeper's book without its last change, and
--- the others over that book
-pub record PartlyCommitted (keeper : KeeperToken Identity) (slots : List (Option Subscription))
-    (left : ℕ) (openings : ℕ) (c : Change) : Type 0 where
-  pub known : length keeper.slots ≡ 65
-  pub wide : length slots ≡ 65
-  pub outside : Outside (λ o p. SlotStands o p keeper.book) left slots keeper.slots
-  pub inside : Inside (λ o p. SlotStands o p (before_of keeper.book)
-      × IsReadyAt o (state_of (before_of keeper.book)) c) left slots keeper.slots
-  pub asks : (k : ℕ) → 0 < k → k < 65
-      → asks_of (slot_in slots k) (slot_at keeper.slots k) ≤ openings

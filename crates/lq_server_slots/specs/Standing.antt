@@ -1,5 +1,5 @@
 -- What the lock knows of a subscription.
-use Rattle.std.specs.Prelude.{◌≡◌, ℕ, ◌+◌, ◌*◌, ◌<◌, ◌≤◌, ◌⊎◌, Bool, true, false, List, [], ◌++◌, length, Option, Some, None, IfSome, IsSome, IsSomeAnd}
+use Rattle.std.specs.Prelude.{◌≡◌, ◌≢◌, ℕ, ◌+◌, ◌*◌, ◌<◌, ◌≤◌, ◌⊎◌, Bool, true, false, List, [], ◌++◌, length, Option, Some, None, IfSome, IsSome, IsSomeAnd, if◌then◌else◌}
 use Rattle.lq_predicate.specs.Query.{Query}
 use Rattle.lq_volume.specs.State.{State}
 use Rattle.lq_volume.specs.Book.{Book, Extends}
@@ -7,13 +7,10 @@ use Rattle.lq_volume.specs.declared.change.Change.{Change}
 use Rattle.lq_board.specs.Book.{IsFullBook}
 use Rattle.lq_update.specs.declared.message.Message.{Message}
 use Rattle.lq_update.specs.declared.mark.Mark.{Mark}
-use Rattle.lq_update.specs.declared.mark.Cause.{Cause}
-use Rattle.lq_update.specs.declared.mark.Cause.TheVariants.{Closed, HungUp, Overrun}
+use Rattle.lq_update.specs.declared.mark.Cause.TheVariants.{Closed, Overrun}
 use Rattle.lq_update.specs.Updates.{step_of}
 use Rattle.lq_desk_sub.specs.Held.{Held, Prepared}
-use Rattle.lq_port.specs.End.{End, all_put, IsSamePort}
-use mathlib.Core.List.{IsPrefix}
-use Rattle.lq_port.specs.Port.{IsLegal}
+use Rattle.lq_port.specs.End.{End, all_put, IsSamePort, AreBeside}
 use Rattle.lq_server_slots.specs.declared.identity.FirstClose.{FirstClose}
 use Rattle.lq_server_slots.specs.declared.identity.FirstClose.TheVariants.{Never, At, Late}
 use Rattle.lq_server_slots.specs.declared.identity.Told.{Told}
@@ -39,17 +36,11 @@ abbrev pub moved_mark : Bool → Option Mark → Option Mark
 moved_mark true o = o
 moved_mark false o = None
 
--- a cause other than a close
-abbrev pub NotClosed : Cause → Type 0
-NotClosed Closed = ⊥
-NotClosed HungUp = Unit {0}
-NotClosed Overrun = Unit {0}
-
 -- the answer of the first close agrees with the mark
 abbrev pub FirstCloseFits : FirstClose → Option Mark → Type 0
-FirstCloseFits Never o = IfSome o (λ k. NotClosed k.cause)
+FirstCloseFits Never o = IfSome o (λ k. k.cause ≢ Closed)
 FirstCloseFits (At n) o = IsSomeAnd o (λ k. (k.cause ≡ Closed) × (k.change ≡ n))
-FirstCloseFits Late o = IsSomeAnd o (λ k. NotClosed k.cause)
+FirstCloseFits Late o = IsSomeAnd o (λ k. k.cause ≢ Closed)
 
 -- what a reader is told after this many changes, where it has taken this many parcels
 abbrev pub told_by : ℕ → ℕ → Option Mark → Told
@@ -145,14 +136,9 @@ pub record SameButPuts (s t : Subscription) : Type 0 where
   pub first_close : t.first_close ≡ s.first_close
   pub given_same : messages_given t.sub.held t.input ≡ messages_given s.sub.held s.input
 
--- whether the mark is left to put, as a count
-abbrev pub mark_count : Bool → ℕ
-mark_count true = 0
-mark_count false = 1
-
 -- the most parcels that are left to put
 abbrev pub left_of : Held → ℕ
-left_of h = length h.messages + mark_count h.mark_out
+left_of h = length h.messages + (if h.mark_out then 0 else 1)
 
 -- and for a subscription under the lock
 abbrev pub left_to_put : Subscription → ℕ
@@ -172,16 +158,7 @@ pub record SideBySide
     : Type 0 where
   pub stands : IsConsistentAt t book
   pub alike : SameButPuts s t
-  pub port : IsSamePort d e
-  pub floor : e.floor ≡ t.input.floor
-  pub taken : e.taken ≡ d.taken
-  pub ahead : t.input.ahead ≡ e.ahead
-  pub met : t.input.taken ≡ e.taken
-  pub all : all_put e ≡ all_put t.input
-  pub known : IsPrefix d.ahead e.ahead
-  pub value : waiting ≡ length e.ahead
-  pub within : waiting ≤ t.places
-  pub legal : IsLegal MayFollow e.floor (all_put e)
+  pub ends : AreBeside MayFollow d e t.input t.input waiting
 
 -- nothing is left to put, or the port is full
 abbrev pub IsDrained : Subscription → ℕ → Type 0

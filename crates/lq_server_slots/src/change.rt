@@ -1,13 +1,11 @@
 //! A change under the lock.
-ghost use Rattle.std.specs.Prelude.{◌≡◌, ◌<◌, ◌≤◌, [], ◌∷◌, length, true, None, IfOk, OnOk, OnErr};
-ghost use Rattle.lq_value.specs.Refusal.{IsRefusedBy};
-ghost use Rattle.lq_volume.specs.Book.{grown, state_of};
-ghost use Rattle.lq_volume.specs.Change.{refused, node_of};
-ghost use Rattle.lq_board.specs.Author.{with_change};
+ghost use Rattle.std.specs.Prelude.{◌≡◌, ◌<◌, ◌≤◌, true, None, OnOk};
+ghost use Rattle.lq_volume.specs.Book.{state_of};
+ghost use Rattle.lq_volume.specs.Change.{refused};
 ghost use Rattle.lq_board.specs.Book.{IsFullBook};
 ghost use Rattle.lq_board.specs.Slot.{slot_at};
 ghost use Rattle.lq_server_slots.specs.Changing.{IsChangeMade, IsPrepared};
-ghost use Rattle.lq_server_slots.specs.Slots.{AreConsistent, IsConsistentWith, AllReady, IsNoticed, IsServed, SlotsAre};
+ghost use Rattle.lq_server_slots.specs.Slots.{AreConsistent, IsConsistentWith, AllReady, IsNoticed, IsServed, SlotsAre, KeepsCounts};
 
 use crate::identity::Identity;
 use crate::prepare_commit::{commit_all, ready_all};
@@ -45,10 +43,7 @@ pub fn change_in<R: Wait>(
     requires stands { IsConsistentWith slots.old volume.old }
     ensures made { IsChangeMade change.now result volume.old volume.new
         slots.old.keeper.book slots.new.keeper.book seat.old seat.new }
-    ensures board { slots.new.keeper.board ≡ slots.old.keeper.board }
-    ensures counted { slots.new.keeper.register.openings
-        ≡ slots.old.keeper.register.openings }
-    ensures openings { slots.new.openings ≡ slots.old.openings }
+    ensures counts { KeepsCounts slots.old slots.new }
     ensures stands { IsConsistentWith slots.new volume.new }
     ensures served { SlotsAre IsServed slots.new.subscriptions.items slots.new.keeper.slots }
 {
@@ -79,9 +74,7 @@ fn add(
     requires met { seat.old.book ≡ slots.old.keeper.book }
     requires known { 0 < seat.old.slot
         → seat.old.asks ≤ (slot_at slots.old.keeper.slots seat.old.slot).asks }
-    requires volume { volume.old ≡ state_of slots.old.keeper.book }
-    requires full { IsFullBook slots.old.keeper.book }
-    requires holding { AreConsistent slots.old slots.old.keeper.book }
+    requires stands { IsConsistentWith slots.old volume.old }
     ensures made { IsChangeMade change.now result volume.old volume.new
         slots.old.keeper.book slots.new.keeper.book seat.old seat.new }
     ensures lawful { OnOk result (refused volume.old change.now ≡ None) }
@@ -89,10 +82,7 @@ fn add(
         (state_of slots.old.keeper.book) change.now) }
     ensures noticed { OnOk result
         (SlotsAre IsNoticed slots.new.subscriptions.items slots.new.keeper.slots) }
-    ensures board { slots.new.keeper.board ≡ slots.old.keeper.board }
-    ensures counted { slots.new.keeper.register.openings
-        ≡ slots.old.keeper.register.openings }
-    ensures openings { slots.new.openings ≡ slots.old.openings }
+    ensures counts { KeepsCounts slots.old slots.new }
     ensures volume { volume.new ≡ state_of slots.new.keeper.book }
     ensures full { IsFullBook slots.new.keeper.book }
     ensures holding { AreConsistent slots.new slots.old.keeper.book }
@@ -114,8 +104,7 @@ fn prepare(
     change: &Change,
 ) -> Result<(), Refusal>
     requires board { slots.old.keeper.board ≡ board.now }
-    requires volume { volume.now ≡ state_of slots.old.keeper.book }
-    requires holding { AreConsistent slots.old slots.old.keeper.book }
+    requires stands { IsConsistentWith slots.old volume.now }
     ensures { IsPrepared volume.now change.now result slots.old slots.new }
 {
     if slots.taken.is_empty() {
@@ -134,8 +123,7 @@ fn prepare_taken(
     change: &Change,
 ) -> Result<(), Refusal>
     requires board { slots.old.keeper.board ≡ board.now }
-    requires volume { volume.now ≡ state_of slots.old.keeper.book }
-    requires holding { AreConsistent slots.old slots.old.keeper.book }
+    requires stands { IsConsistentWith slots.old volume.now }
     ensures { IsPrepared volume.now change.now result slots.old slots.new }
 {
     let planned = volume.plan(change)?;

@@ -1,13 +1,13 @@
 //! An opening under the lock.
-ghost use Rattle.std.specs.Prelude.{◌≡◌, ◌+◌, ◌<◌, ◌≤◌, [], length, ℕ, IfOk, IfErr, OnOk, OnErr, IfSome, IfNone, IsSome, is_none, Some, None, Err, false};
+ghost use Rattle.std.specs.Prelude.{◌≡◌, ◌+◌, ◌<◌, ◌≤◌, ℕ, IfOk, OnOk, OnErr, IfSome, IsSome, is_none, Some, None, false};
 ghost use Rattle.lq_value.specs.Refusal.{FailsOnlyForMemory};
 ghost use Rattle.lq_volume.specs.Book.{state_of};
-ghost use Rattle.lq_board.specs.Author.{new_author};
 ghost use Rattle.lq_board.specs.Book.{IsFullBook};
-ghost use Rattle.lq_board.specs.Slot.{slot_at, gone_out};
+ghost use Rattle.lq_board.specs.Meeting.{GoesOut};
+ghost use Rattle.lq_board.specs.Slot.{slot_at};
 ghost use Rattle.lq_server_slots.specs.Identity.{identity_of};
 ghost use Rattle.lq_server_slots.specs.declared.identity.Identity.{Identity as IdentityOf};
-ghost use Rattle.lq_server_slots.specs.Slots.{AreUnchanged, AreConsistent, IsConsistentWith, has_no_free, slot_in};
+ghost use Rattle.lq_server_slots.specs.Slots.{AreConsistent, IsConsistentWith, has_no_free, slot_in};
 ghost use Rattle.lq_server_slots.specs.Opening.{IsNewSubscription, IsOpened, IsOpeningAnswer};
 
 use crate::delivery::{Delivery, Opening};
@@ -110,21 +110,7 @@ fn sit(
     requires board { keeper.old.board ≡ board.now }
     requires place { (0 < place) × (place < 65) }
     requires free { (slot_at keeper.old.slots place).out ≡ false }
-    ensures board { keeper.new.board ≡ keeper.old.board }
-    ensures counted { keeper.new.register.openings ≡ keeper.old.register.openings + 1 }
-    ensures book { keeper.new.book ≡ keeper.old.book }
-    ensures slots { keeper.new.slots
-        ≡ gone_out keeper.old.slots place (Some (identity_of slot.now)) }
-    ensures seat { result ≡ record {
-      board = keeper.old.board;
-      slot = place;
-      book = keeper.old.book;
-      asks = (slot_at keeper.old.slots place).asks;
-      name = Some (identity_of slot.now);
-      author = new_author keeper.old.register;
-      moments = [];
-    } }
-    ensures signs { result.author.signs ≡ keeper.old.board.free }
+    ensures { GoesOut keeper.old keeper.new place (Some (identity_of slot.now)) result }
 {
     // For the contract alone, which names the subscription.
     let _ = slot;
@@ -191,7 +177,7 @@ pub fn open_in(
     ensures book { slots.new.keeper.book ≡ slots.old.keeper.book }
     ensures limit { slots.new.openings ≤ volume.now.limit }
     ensures openings { OnOk result (slots.new.openings ≡ slots.old.openings + 1) }
-    ensures err { OnErr result (AreUnchanged slots.old slots.new) }
+    ensures err { OnErr result (slots.new ≡ slots.old) }
     ensures holding { AreConsistent slots.new slots.new.keeper.book }
     ensures opened { IfOk result (λ o. IsOpened o slots.old.keeper.board slots.old.keeper.book
         request.now.predicate.now request.now.moved request.now.port request.now.backlog) }

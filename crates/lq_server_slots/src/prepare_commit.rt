@@ -1,9 +1,11 @@
 //! The two passes of a change over the slots: its messages are prepared, and then committed.
-ghost use Rattle.std.specs.Prelude.{◌≡◌, ◌<◌, ◌≤◌, ℕ, length, is_some, OnOk};
+ghost use Rattle.std.specs.Prelude.{◌≡◌, ◌<◌, ◌≤◌, length, is_some, OnOk, None};
 ghost use Rattle.lq_value.specs.Refusal.{FailsOnlyForMemory};
 ghost use Rattle.lq_volume.specs.Book.{state_of};
+ghost use Rattle.lq_volume.specs.Change.{refused};
 ghost use Rattle.lq_board.specs.Slot.{slot_at};
-ghost use Rattle.lq_server_slots.specs.Slots.{SlotStands, asks_of, AreConsistent, OnlyAt, IsReadyAt, AllReady, before_of, IsGrown, IsNoticed, IsServed, SlotIs, SlotsAre};
+ghost use Rattle.lq_server_slots.specs.Changing.{IsPrepared};
+ghost use Rattle.lq_server_slots.specs.Slots.{SlotStands, asks_of, AreConsistent, KeepsSlot, IsReadyAt, AllReady, before_of, IsGrown, IsNoticed, IsServed, SlotIs, SlotsAre};
 
 use crate::fill_port::fill;
 use crate::identity::Identity;
@@ -28,15 +30,8 @@ fn ready_at(
     requires state { planned.now.before ≡ state_of keeper.old.book }
     requires fits { SlotStands slot.old (slot_at keeper.old.slots place) keeper.old.book }
     ensures refused { FailsOnlyForMemory result }
-    ensures board { keeper.new.board ≡ keeper.old.board }
-    ensures counted { keeper.new.register.openings ≡ keeper.old.register.openings }
-    ensures book { keeper.new.book ≡ keeper.old.book }
-    ensures only { OnlyAt keeper.old.slots keeper.new.slots place }
-    ensures fits { SlotStands slot.new (slot_at keeper.new.slots place) keeper.new.book }
-    ensures asks { asks_of slot.new (slot_at keeper.new.slots place)
-        ≤ asks_of slot.old (slot_at keeper.old.slots place) }
+    ensures keeps { KeepsSlot keeper.old keeper.new place slot.old slot.new }
     ensures rises { (slot_at keeper.old.slots place).asks ≤ (slot_at keeper.new.slots place).asks }
-    ensures kept { is_some slot.new ≡ is_some slot.old }
     ensures ready { OnOk result
         (IsReadyAt slot.new planned.now.before planned.now.change) }
     ensures noticed { SlotIs IsNoticed slot.new (slot_at keeper.new.slots place) }
@@ -45,7 +40,7 @@ fn ready_at(
         return Ok(());
     };
     let number = planned.applied().change - 1;
-    notice_slot(board, keeper, taken, place, number);
+    notice_slot(board, keeper, taken, place as u64, number);
     ready(taken, planned)
 }
 
@@ -59,19 +54,8 @@ pub(crate) fn ready_all(
     requires board { slots.old.keeper.board ≡ board.now }
     requires state { planned.now.before ≡ state_of slots.old.keeper.book }
     requires holding { AreConsistent slots.old slots.old.keeper.book }
-    ensures refused { FailsOnlyForMemory result }
-    ensures board { slots.new.keeper.board ≡ slots.old.keeper.board }
-    ensures counted { slots.new.keeper.register.openings
-        ≡ slots.old.keeper.register.openings }
-    ensures book { slots.new.keeper.book ≡ slots.old.keeper.book }
-    ensures openings { slots.new.openings ≡ slots.old.openings }
-    ensures holding { AreConsistent slots.new slots.new.keeper.book }
-    ensures rises { (k : ℕ) → (slot_at slots.old.keeper.slots k).asks
-        ≤ (slot_at slots.new.keeper.slots k).asks }
-    ensures ready { OnOk result (AllReady slots.new.subscriptions.items
-        planned.now.before planned.now.change) }
-    ensures noticed { OnOk result
-        (SlotsAre IsNoticed slots.new.subscriptions.items slots.new.keeper.slots) }
+    requires lawful { refused planned.now.before planned.now.change ≡ None }
+    ensures { IsPrepared planned.now.before planned.now.change result slots.old slots.new }
 {
     let mut rest = slots.taken;
     while let Some(index) = rest.take_one() {

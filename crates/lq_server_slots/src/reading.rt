@@ -1,16 +1,13 @@
 //! Reading: the end of a subscription that takes its parcels and folds them.
-ghost use Rattle.std.specs.Prelude.{◌≡◌, ◌≤◌, Bool, [], length, IfSome, None, is_some, IsSome, IsTrue, true, false, ◌↔◌};
-ghost use mathlib.Core.List.{IsPrefix};
+ghost use Rattle.std.specs.Prelude.{◌≡◌, Bool, [], length, IfSome, None, is_some, IsSome, IsTrue, true, false, ◌↔◌};
 ghost use Rattle.lq_volume.specs.Book.{state_of, state_at};
 ghost use Rattle.lq_volume.specs.Result.{result_of};
 ghost use Rattle.lq_board.specs.Book.{IsFullBook};
 ghost use Rattle.lq_update.specs.Fold.{EntriesRise, opened_at, folded, last_change};
 ghost use Rattle.lq_update.specs.Updates.{IsSettled};
-ghost use Rattle.lq_port.specs.End.{IsSamePort, all_put};
-ghost use Rattle.lq_port.specs.Port.{IsLegal};
+ghost use Rattle.lq_port.specs.End.{AreBeside};
 ghost use Rattle.lq_server_slots.specs.Rule.{MayFollow, floor_of, query_of};
-ghost use Rattle.lq_server_slots.specs.Reading.{known, received, is_marked, mark_read, opening_of, IsTold};
-ghost use Rattle.lq_server_slots.specs.ReadStep.{IsReadStep};
+ghost use Rattle.lq_server_slots.specs.Reading.{known, received, is_marked, mark_read, opening_of, IsTold, IsReadStep};
 
 use crate::delivery::Delivery;
 use crate::take_parcel::{keep, take_one};
@@ -50,8 +47,9 @@ impl Drop for Reading {
 }
 
 impl Model for Reading {
-    ghost use Rattle.lq_server_slots.specs.Reading.{ReadingHold, ReadsPort};
-    ghost use Rattle.std.specs.Prelude.{◌≡◌};
+    ghost use Rattle.lq_server_slots.specs.Reading.{ReadingHold, IsTold};
+    ghost use Rattle.lq_server_slots.specs.Rule.{mark_in};
+    ghost use Rattle.std.specs.Prelude.{◌≡◌, is_some};
     ghost use Rattle.std.specs.Coded.{codes};
     ghost use Rattle.lq_port.specs.contracts.ends.PortOut as port_out;
     ghost use Rattle.lq_server_slots.specs.contracts.delivery.Delivery as delivery;
@@ -67,7 +65,8 @@ impl Model for Reading {
 
     ghost view = { λ r. record { port = r.output; hand = r.hand; result = r.rebuild } };
 
-    ghost invariant = { λ r. ReadsPort r.output r.rebuild r.hand r.ended
+    ghost invariant = { λ r. IsTold (record { port = r.output; hand = r.hand; result = r.rebuild })
+        × (r.ended ≡ is_some (mark_in r.output.taken))
         × (r.opened ≡ r.output.floor.opened) };
 }
 
@@ -241,16 +240,7 @@ impl Reading {
     /// takes memory.
     pub fn beside(&mut self, input: &mut PortIn<Delivery>) -> u64
         requires port { self.old.port.port ≡ input.old.port }
-        ensures value { result ≡ length self.new.port.ahead }
-        ensures put { all_put self.new.port ≡ all_put input.old }
-        ensures taken { self.new.port.taken ≡ self.old.port.taken }
-        ensures within { result ≤ input.new.places }
-        ensures known { IsPrefix self.old.port.ahead self.new.port.ahead }
-        ensures input { (input.new.taken ≡ self.new.port.taken)
-            × (input.new.ahead ≡ self.new.port.ahead) }
-        ensures floor { self.old.port.floor ≡ input.old.floor }
-        ensures legal { IsLegal MayFollow self.new.port.floor (all_put self.new.port) }
-        ensures ports { IsSamePort self.old.port self.new.port × IsSamePort input.old input.new }
+        ensures beside { AreBeside MayFollow self.old.port self.new.port input.old input.new result }
         ensures hand { self.new.hand ≡ self.old.hand }
         ensures result { self.new.result ≡ self.old.result }
     {

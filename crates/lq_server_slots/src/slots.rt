@@ -1,9 +1,9 @@
 //! The slots under the lock, one or all.
-ghost use Rattle.std.specs.Prelude.{◌≡◌, ◌<◌, ◌≤◌, ℕ, length, None, IsSome, is_some, IfOk};
+ghost use Rattle.std.specs.Prelude.{◌≡◌, ◌<◌, ◌≤◌, ℕ, length, None, IsSome, IfOk};
 ghost use Rattle.lq_value.specs.Refusal.{FailsOnlyForMemory};
 ghost use Rattle.lq_board.specs.Slot.{slot_at, counted};
 ghost use Rattle.lq_server_slots.specs.Standing.{SameButHeld};
-ghost use Rattle.lq_server_slots.specs.Slots.{IsTakenSlot, SlotStands, asks_of, AreConsistent, OnlyAt, slot_in, IsNoticed, IsServed, SlotIs, SlotsAre};
+ghost use Rattle.lq_server_slots.specs.Slots.{IsTakenSlot, SlotStands, AreConsistent, KeepsBook, KeepsSlot, KeepsSlots, slot_in, IsNoticed, IsServed, SlotIs, SlotsAre};
 
 use crate::fill_port::fill;
 use crate::identity::Identity;
@@ -68,16 +68,14 @@ pub(crate) fn notice_slot(
     board: &Board<Identity>,
     keeper: &mut Keeper<Identity>,
     slot: &mut Subscription,
-    place: usize,
+    place: u64,
     number: u64,
 ) -> u64
     requires board { keeper.old.board ≡ board.now }
     requires place { (0 < place) × (place < 65) × (length keeper.old.slots ≡ 65) }
     requires number { number ≡ length keeper.old.book.changes }
     requires taken { IsTakenSlot slot.old (slot_at keeper.old.slots place) keeper.old.book }
-    ensures board { keeper.new.board ≡ keeper.old.board }
-    ensures counted { keeper.new.register.openings ≡ keeper.old.register.openings }
-    ensures book { keeper.new.book ≡ keeper.old.book }
+    ensures keeper { KeepsBook keeper.old keeper.new place }
     ensures slots { keeper.new.slots ≡ counted keeper.old.slots place result }
     ensures asks { (slot_at keeper.old.slots place).asks ≤ result }
     ensures taken { IsTakenSlot slot.new (slot_at keeper.new.slots place) keeper.new.book }
@@ -87,7 +85,7 @@ pub(crate) fn notice_slot(
     ensures still { IsSome slot.old.sub.held.mark
         → slot.new.sub.held.mark ≡ slot.old.sub.held.mark }
 {
-    let asks = board.asks(keeper, place as u64);
+    let asks = board.asks(keeper, place);
     let hang_up_asked = asks > slot.asks;
     notice(slot, hang_up_asked, number);
     asks
@@ -107,20 +105,13 @@ fn serve_at<R: Wait>(
     requires place { (0 < place) × (place < 65) × (length keeper.old.slots ≡ 65) }
     requires number { number ≡ length keeper.old.book.changes }
     requires fits { SlotStands slot.old (slot_at keeper.old.slots place) keeper.old.book }
-    ensures board { keeper.new.board ≡ keeper.old.board }
-    ensures counted { keeper.new.register.openings ≡ keeper.old.register.openings }
-    ensures book { keeper.new.book ≡ keeper.old.book }
-    ensures only { OnlyAt keeper.old.slots keeper.new.slots place }
-    ensures fits { SlotStands slot.new (slot_at keeper.new.slots place) keeper.new.book }
-    ensures asks { asks_of slot.new (slot_at keeper.new.slots place)
-        ≤ asks_of slot.old (slot_at keeper.old.slots place) }
-    ensures kept { is_some slot.new ≡ is_some slot.old }
+    ensures keeps { KeepsSlot keeper.old keeper.new place slot.old slot.new }
     ensures served { SlotIs IsServed slot.new (slot_at keeper.new.slots place) }
 {
     let Some(taken) = slot else {
         return;
     };
-    notice_slot(board, keeper, taken, place, number);
+    notice_slot(board, keeper, taken, place as u64, number);
     fill(rt, keeper, taken);
 }
 
@@ -134,12 +125,7 @@ pub(crate) fn serve_all<R: Wait>(
     requires board { slots.old.keeper.board ≡ board.now }
     requires number { number ≡ length slots.old.keeper.book.changes }
     requires holding { AreConsistent slots.old slots.old.keeper.book }
-    ensures board { slots.new.keeper.board ≡ slots.old.keeper.board }
-    ensures counted { slots.new.keeper.register.openings
-        ≡ slots.old.keeper.register.openings }
-    ensures book { slots.new.keeper.book ≡ slots.old.keeper.book }
-    ensures openings { slots.new.openings ≡ slots.old.openings }
-    ensures holding { AreConsistent slots.new slots.new.keeper.book }
+    ensures keeps { KeepsSlots slots.old slots.new }
     ensures served { SlotsAre IsServed slots.new.subscriptions.items slots.new.keeper.slots }
 {
     let mut rest = slots.taken;

@@ -1,5 +1,5 @@
 //! A subscription under a lock: what a change does to it, and how it ends.
-ghost use Rattle.std.specs.Prelude.{◌≡◌, ◌+◌, ◌<◌, ◌^◌, ◌⊎◌, [], ◌∷◌, length, true, is_none, IsSome, OnOk};
+ghost use Rattle.std.specs.Prelude.{◌≡◌, ◌<◌, ◌^◌, ◌⊎◌, [], ◌∷◌, length, true, is_none, is_some, IsSome, IfSome, OnOk};
 ghost use Rattle.lq_value.specs.Refusal.{FailsOnlyForMemory};
 ghost use Rattle.lq_volume.specs.Book.{Book, grown, state_of};
 ghost use Rattle.lq_volume.specs.Change.{IsLawful};
@@ -121,11 +121,12 @@ pub fn notice(slot: &mut Subscription, hang_up_asked: bool, number: u64)
     slot.sub.finish_with(Cause::HungUp, number);
 }
 
-/// Ends the subscription as `Closed` where it is live, and answers whether it did.
+/// Ends the subscription as `Closed` where it is live, and then answers the number of changes,
+/// `number`.
 ///
-/// `number` is the number of changes. A subscription that has ended keeps its mark. The answer of
-/// the first close is kept in `first_close`. It takes no memory.
-pub fn close(slot: &mut Subscription, number: u64) -> bool
+/// A subscription that has ended keeps its mark. The answer of the first close is kept in
+/// `first_close`. It takes no memory.
+pub fn close(slot: &mut Subscription, number: u64) -> Option<u64>
     requires fits { FirstCloseFits slot.old.first_close slot.old.sub.held.mark }
     requires few { slot.old.sub.held.sent < 2 ^ 63 }
     ensures stands { (book : Book) → IsConsistentAt slot.old book → number ≡ length book.changes
@@ -134,17 +135,19 @@ pub fn close(slot: &mut Subscription, number: u64) -> bool
     ensures others { SameButHeld slot.old slot.new }
     ensures messages { slot.new.sub.held.messages ≡ slot.old.sub.held.messages }
     ensures hung { hung_mark slot.new.sub.held.mark → hung_mark slot.old.sub.held.mark }
-    ensures first_close { slot.new.first_close ≡ after_close slot.old.first_close result number }
-    ensures closes { result ≡ is_none slot.old.sub.held.mark }
+    ensures first_close { slot.new.first_close
+        ≡ after_close slot.old.first_close (is_some result) number }
+    ensures closes { is_some result ≡ is_none slot.old.sub.held.mark }
+    ensures number { IfSome result (λ n. n ≡ number) }
     ensures ended { IsSome slot.new.sub.held.mark }
 {
     if !slot.sub.is_live() {
         if slot.first_close == FirstClose::Never {
             slot.first_close = FirstClose::Late;
         }
-        return false;
+        return None;
     }
     slot.sub.finish_with(Cause::Closed, number);
     slot.first_close = FirstClose::At(number);
-    true
+    Some(number)
 }

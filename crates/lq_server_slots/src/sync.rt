@@ -1,14 +1,14 @@
 //! A reader's calls under the lock.
-ghost use Rattle.std.specs.Prelude.{◌≡◌, ◌<◌, ◌≤◌, length, IsSome, IsSomeAnd, Some, is_some};
+ghost use Rattle.std.specs.Prelude.{◌≡◌, ◌<◌, ◌≤◌, length, IsSome, IsSomeAnd, Some};
 ghost use Rattle.lq_volume.specs.Book.{Extends};
 ghost use Rattle.lq_board.specs.Slot.{slot_at};
 ghost use Rattle.lq_server_slots.specs.Identity.{identity_of};
-ghost use Rattle.lq_server_slots.specs.Standing.{SameButHeld, IsConsistentAt, told_by};
+ghost use Rattle.lq_server_slots.specs.Standing.{told_by};
 ghost use Rattle.lq_server_slots.specs.declared.subscription.Subscription.{Subscription as SubscriptionOf};
 ghost use Rattle.lq_server_slots.specs.declared.identity.Identity.{Identity as IdentityOf};
-ghost use Rattle.lq_server_slots.specs.Slots.{IsTakenSlot, SlotStands, AreConsistent, OnlyAt, SameButKnown, IsSlotMet, asks_of};
+ghost use Rattle.lq_server_slots.specs.Slots.{SlotStands, AreConsistent, KeepsSlot, KeepsSlots, SameButKnown, IsSlotMet, asks_of};
 ghost use Rattle.lq_server_slots.specs.Opening.{IdentityFits};
-ghost use Rattle.lq_server_slots.specs.Progress.{IsShown, ShowsProgress};
+ghost use Rattle.lq_server_slots.specs.Progress.{ShowsProgress};
 
 use crate::fill_port::drain;
 use crate::ghost_copy::GhostCopy;
@@ -74,58 +74,6 @@ pub(crate) fn meet_slot_at(
     board.meet_slot(keeper, seat)
 }
 
-// Ends a subscription where its reader asked for that, at the slot of its seat.
-pub(crate) fn notice_by(
-    board: &Board<Identity>,
-    keeper: &mut Keeper<Identity>,
-    slot: &mut Subscription,
-    seat: &Seat<Identity>,
-    number: u64,
-)
-    requires board { keeper.old.board ≡ board.now }
-    requires place { (0 < seat.now.slot) × (seat.now.slot < 65)
-        × (length keeper.old.slots ≡ 65) }
-    requires number { number ≡ length keeper.old.book.changes }
-    requires taken { IsTakenSlot slot.old (slot_at keeper.old.slots seat.now.slot) keeper.old.book }
-    requires known { (slot_at keeper.old.slots seat.now.slot).asks ≡ seat.now.asks }
-    ensures board { keeper.new.board ≡ keeper.old.board }
-    ensures counted { keeper.new.register.openings ≡ keeper.old.register.openings }
-    ensures book { keeper.new.book ≡ keeper.old.book }
-    ensures only { OnlyAt keeper.old.slots keeper.new.slots seat.now.slot }
-    ensures taken { IsTakenSlot slot.new (slot_at keeper.new.slots seat.now.slot) keeper.new.book }
-    ensures ended { slot.old.asks < seat.now.asks → IsSome slot.new.sub.held.mark }
-    ensures others { SameButHeld slot.old slot.new × (slot.new.first_close ≡ slot.old.first_close) }
-{
-    let place = seat.slot() as usize;
-    notice_slot(board, keeper, slot, place, number);
-}
-
-// The rest of a sync, after the subscription has ended where its reader asked for that: fills its
-// port, and answers its progress.
-fn show<R: Wait>(
-    rt: &R,
-    keeper: &Keeper<Identity>,
-    slot: &mut Subscription,
-    reading: &mut Reading,
-    number: u64,
-) -> Progress
-    requires stands { IsConsistentAt slot.old keeper.now.book }
-    requires number { number ≡ length keeper.now.book.changes }
-    requires port { reading.old.port.port ≡ slot.old.input.port }
-    ensures { IsShown slot.old slot.new reading.old reading.new keeper.now.book result }
-{
-    let waiting = drain(rt, keeper, slot, reading);
-    let mark = slot.sub.mark();
-    slot.told = GhostCopy::of(&told_after(number, reading.taken(), mark));
-    Progress {
-        change: number,
-        waiting,
-        held: slot.sub.held(),
-        mark,
-        out: slot.sub.is_marked(),
-    }
-}
-
 // What a sync answers its reader after this many changes, where this many parcels were taken: that
 // the subscription is live, or how it ended.
 fn told_after(change: u64, seen: u64, mark: Option<Mark>) -> Told
@@ -151,24 +99,25 @@ fn sync_at<R: Wait>(
         × (length keeper.old.slots ≡ 65) }
     requires seat { IsSomeAnd seat.old.name (λ t. IdentityFits t reading.old.port) }
     requires fits { SlotStands slot.old (slot_at keeper.old.slots seat.old.slot) keeper.old.book }
-    ensures board { keeper.new.board ≡ keeper.old.board }
-    ensures counted { keeper.new.register.openings ≡ keeper.old.register.openings }
-    ensures book { keeper.new.book ≡ keeper.old.book }
-    ensures only { OnlyAt keeper.old.slots keeper.new.slots seat.old.slot }
-    ensures fits { SlotStands slot.new (slot_at keeper.new.slots seat.old.slot) keeper.new.book }
-    ensures asks { asks_of slot.new (slot_at keeper.new.slots seat.old.slot)
-        ≤ asks_of slot.old (slot_at keeper.old.slots seat.old.slot) }
-    ensures kept { is_some slot.new ≡ is_some slot.old }
+    ensures keeps { KeepsSlot keeper.old keeper.new seat.old.slot slot.old slot.new }
     ensures seat { seat.new.book ≡ keeper.old.book }
     ensures progress { (s : SubscriptionOf)
         × ShowsProgress s seat.old seat.new reading.old reading.new result }
 {
     let number = meet_slot_at(board, keeper, slot, seat);
     let Some(taken) = slot else { unreachable!() };
-    notice_by(board, keeper, taken, seat, number);
-    let progress = show(rt, keeper, taken, reading, number);
+    notice_slot(board, keeper, taken, seat.slot(), number);
+    let waiting = drain(rt, keeper, taken, reading);
+    let mark = taken.sub.mark();
+    taken.told = GhostCopy::of(&told_after(number, reading.taken(), mark));
     meet_under(board, keeper, seat, taken);
-    progress
+    Progress {
+        change: number,
+        waiting,
+        held: taken.sub.held(),
+        mark,
+        out: taken.sub.is_marked(),
+    }
 }
 
 /// The number of changes in the keeper's book, which the seat of a slot then knows.
@@ -199,12 +148,7 @@ pub fn sync_in<R: Wait>(
     requires seat { (0 < seat.old.slot)
         × IsSomeAnd seat.old.name (λ t. IdentityFits t reading.old.port) }
     requires holding { AreConsistent slots.old slots.old.keeper.book }
-    ensures board { slots.new.keeper.board ≡ slots.old.keeper.board }
-    ensures counted { slots.new.keeper.register.openings
-        ≡ slots.old.keeper.register.openings }
-    ensures book { slots.new.keeper.book ≡ slots.old.keeper.book }
-    ensures openings { slots.new.openings ≡ slots.old.openings }
-    ensures holding { AreConsistent slots.new slots.new.keeper.book }
+    ensures keeps { KeepsSlots slots.old slots.new }
     ensures seat { seat.new.book ≡ slots.old.keeper.book }
     ensures progress { (s : SubscriptionOf)
         × ShowsProgress s seat.old seat.new reading.old reading.new result }

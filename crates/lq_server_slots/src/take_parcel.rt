@@ -1,8 +1,8 @@
 //! Taking a parcel, and folding a message.
-ghost use Rattle.std.specs.Prelude.{◌≡◌, [], IfOk, IfSome, IfNone, OnOk, OnErr, Ok, Some, None, IsSome, true};
+ghost use Rattle.std.specs.Prelude.{◌≡◌, IfOk, OnOk, OnErr, Some, None, IsSome, true};
 ghost use Rattle.lq_value.specs.Refusal.{FailsOnlyForMemory, first_refusal};
 ghost use Rattle.lq_update.specs.Fold.{fold_refusals, folding_after};
-ghost use Rattle.lq_port.specs.End.{IsSamePort, Loses};
+ghost use Rattle.lq_port.specs.End.{IsTake};
 ghost use Rattle.lq_server_slots.specs.Rule.{MayFollow};
 
 use crate::delivery::Delivery;
@@ -43,11 +43,7 @@ pub(crate) fn take_one<R: Wait>(
     rt: &R,
     waits: bool,
 ) -> Option<Delivery>
-    ensures some { IfSome result (λ item. Loses output.old item output.new) }
-    ensures follows { IfSome result (λ item. MayFollow output.old.taken output.old.floor item) }
-    ensures port { IsSamePort output.old output.new }
-    ensures empty { IfNone result (output.old.ahead ≡ []) }
-    ensures none { IfNone result (output.new ≡ output.old) }
+    ensures take { IsTake MayFollow output.old result output.new }
     ensures waits { waits ≡ true → IsSome result }
 {
     if !waits {

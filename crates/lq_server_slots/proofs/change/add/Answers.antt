@@ -22,13 +22,13 @@ returns-in_err-applied-clause-holding c =
     let r = c.prepare.ensures in
     let slots = c.prepare.new.slots in (
       all_stand-alike slots.keeper slots.keeper slots.subscriptions.items slots.openings
-          slots.keeper.book c.args.slots.now.keeper.book r.holding.0 refl r.book,
-      r.holding.1,
+          slots.keeper.book c.args.slots.now.keeper.book r.keeps.holding.0 refl r.keeps.book,
+      r.keeps.holding.1,
     )
 
 pub returns-clause-volume : goal.returns-clause-volume
 returns-clause-volume c =
-    rw (c.add_by.ensures.added.state, c.prepare.ensures.book, ← c.requires.volume)
+    rw (c.add_by.ensures.added.state, c.prepare.ensures.keeps.book, ← c.requires.stands.state)
     c.in_ok-applied.ensures.ok
 
 pub returns-clause-holding : goal.returns-clause-holding
@@ -37,12 +37,12 @@ returns-clause-holding c =
     let slots = c.prepare.new.slots in
     let within = c.slot.ensures.within in
     let value = c.slot.ensures.value in
-    let wide = r.holding.0.known in
+    let wide = r.keeps.holding.0.known in
     let same = slots_added _ _ _ _ _ _ c.add_by.ensures.added (omega (arith, within, value, wide))
     (λ pos. omega (arith, c.requires.known pos, r.rises c.args.seat.now.slot)) in (
       all_stand-alike slots.keeper _ slots.subscriptions.items slots.openings slots.keeper.book
-          c.args.slots.now.keeper.book r.holding.0 same r.book,
-      r.holding.1,
+          c.args.slots.now.keeper.book r.keeps.holding.0 same r.keeps.book,
+      r.keeps.holding.1,
     )
 
 pub returns-clause-noticed : goal.returns-clause-noticed

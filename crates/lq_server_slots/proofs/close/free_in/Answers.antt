@@ -1,36 +1,53 @@
-use Rattle.std.proofs.Common.{None, sym, arith, rules}
-use Rattle.std.proofs.lemmas.List.{get_or_read}
+use Rattle.std.proofs.Common.{ℕ, ◌≤◌, None, refl, sym, subst, arith, rules}
+use Rattle.lq_board.specs.Slot.{slot_at}
+use Rattle.lq_server_slots.specs.Slots.{asks_of, slot_in}
 use Rattle.lq_server_slots.proofs.SlotLemmas.{all_stand-step, in_here, in_else}
-use Rattle.lq_server_slots.proofs.TakenLemmas.{marks-put}
+use Rattle.lq_server_slots.proofs.SyncLemmas.{seat_joined, joined_asks}
+use Rattle.lq_server_slots.proofs.TakenLemmas.{marks-put, taken_out}
 use Rattle.lq_server_slots.proofs.close.free_in.Goals as goal
 
-pub returns-clause-holding : goal.returns-clause-holding
-returns-clause-holding c =
+pub returns-clause-keeps : goal.returns-clause-keeps
+returns-clause-keeps c =
     let was = c.args.slots.now in
     let h = c.requires.holding.0 in
-    let f = c.free_at.ensures in
+    let f = c.join.ensures in
     let items = was.subscriptions.items in
+    let seat = c.args.seat in
     let place = c.slot-place.result in
     let low = c.requires.seat.0 in
     let value = c.slot-place.ensures.value in
-    let wide = h.wide in
     let within = c.slot-place.ensures.within in
-    let read = get_or_read items place _ (omega arith) c.index_mut.ensures.value None in (
-      all_stand-step was.keeper c.free_at.new.keeper items c.args.seat.slot place was.openings
-          c.free_at.new.slot was.keeper.book c.free_at.new.keeper.book h
-          (omega (arith, low, value)) within (sym value) f.book f.only (rw f.free f.back)
-          (rw f.free (rw read at f.asks)),
-      rw f.free
-          (marks-put was.taken.word c.put.new.self.word items c.at.result.place place None
-          c.requires.holding.1 wide c.at.result.within (omega (arith, c.at.ensures, low, value))
-          c.put.ensures.here c.put.ensures.others),
-    )
+    let back = seat_joined was.keeper c.join.new.keeper seat.slot seat.asks seat.name f.keeper low
+    (omega (arith, within, value, h.known)) in
+    let fits = h.each seat.slot low (omega (arith, within, value)) in
+    record {
+      counts = record { board = back.0.board; counted = back.0.counted; openings = refl };
+      book = back.0.book;
+      holding = (
+        all_stand-step was.keeper c.join.new.keeper items seat.slot place was.openings None
+            was.keeper.book c.join.new.keeper.book h (omega (arith, low, value)) within (sym value)
+            back.0.book back.0.only (rw back.1 refl)
+            (rw back.1
+            (subst (λ (n : ℕ). seat.asks
+            ≤ asks_of (slot_in items n) (slot_at was.keeper.slots seat.slot)) (sym value)
+            (joined_asks _ _ _ seat.name seat.asks c.args.hang_up_asked fits (f.was_out low).out
+            (f.was_out low).name c.requires.seat.1))),
+        marks-put was.taken.word c.put.new.self.word items c.at.result.place place None
+            c.requires.holding.1 h.wide c.at.result.within
+            (omega (arith, c.at.ensures, low, value)) c.put.ensures.here c.put.ensures.others,
+      );
+    }
 
 pub returns-clause-freed : goal.returns-clause-freed
 returns-clause-freed c = search (rules, arith, in_here)
 
 pub returns-clause-taken : goal.returns-clause-taken
-returns-clause-taken c = search (rules, arith, get_or_read)
+returns-clause-taken c =
+    let low = c.requires.seat.0 in
+    let within = c.slot-place.ensures.within in
+    let value = c.slot-place.ensures.value in
+    taken_out _ _ _ (c.requires.holding.0.each c.args.seat.slot low (omega (arith, within, value)))
+    (c.join.ensures.was_out low).out
 
 pub returns-clause-others : goal.returns-clause-others
 returns-clause-others c = search (rules, arith, in_else)

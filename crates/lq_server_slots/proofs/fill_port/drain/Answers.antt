@@ -23,8 +23,7 @@ returns-then-not-put_one-clause-between g c =
     let b = c.beside-waiting.ensures in
     beside_stays _ _ _ _ _ _ _
     (looks _ _ _ _ c.beside-waiting.new.self.port c.beside-waiting.new.input _
-    c.beside-waiting.result c.loop-slot.invariant.0 b.value b.put b.taken b.known b.input b.floor
-    b.legal b.within b.ports)
+    c.beside-waiting.result c.loop-slot.invariant.0 b.beside)
     c.put_one.ensures.stands c.put_one.ensures.alike c.if-not-put_one.ensures.moved.0
 
 pub returns-then-not-put_one-clause-drained : goal.returns-then-not-put_one-clause-drained

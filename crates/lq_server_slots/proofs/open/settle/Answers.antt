@@ -24,14 +24,16 @@ returns-clause-holding c =
       first_close = c.args.slot.first_close;
     } in
     let keeper = c.asks-asks.ensures.keeper in
-    let book = sym (c.sit-seat.ensures.book ∙ ap (λ (k : KeeperToken Identity). k.book) keeper) in (
+    let seated = c.sit-seat.ensures.keeper in
+    let book = sym (ap (λ (k : KeeperToken Identity). k.book) seated
+    ∙ ap (λ (k : KeeperToken Identity). k.book) keeper) in (
       subst (AllStand c.sit-seat.new.keeper (slice_set was.subscriptions.items place (Some s))
           (was.openings + 1)) book
           (settled was.keeper c.asks-asks.new.keeper c.sit-seat.new.keeper was.subscriptions.items
           place was.openings c.asks-asks.result s was.keeper.book h (omega arith)
           (omega (arith, c.place-place.ensures.within)) (rw value c.requires.free)
           (ap (λ (k : KeeperToken Identity). k.slots) keeper) c.asks-asks.ensures.idle
-          c.sit-seat.ensures.slots refl b.stands
+          (ap (λ (k : KeeperToken Identity). k.slots) seated) refl b.stands
           (begun_seen c.args.slot c.args.reading was.keeper.book _ _ _ _ b) b.messages b.live),
       marks-put was.taken.word c.put.new.self.word was.subscriptions.items index.place place
           (Some s) c.requires.holding.1 h.wide index.within (omega (arith, value))

@@ -1,27 +1,27 @@
-use Rattle.std.proofs.Common.{◌+◌, ◌∙◌, ap, sym, refl, arith}
+use Rattle.std.proofs.Common.{◌+◌, ap, sym, refl, arith, rules}
 use Rattle.lq_server_slots.specs.Slots.{IsReadyAt, SlotIs, IsNoticed}
 use Rattle.lq_server_slots.proofs.SlotLemmas.{only_self}
-use Rattle.lq_server_slots.proofs.TakenLemmas.{slots_stand-step, asks_rise}
+use Rattle.lq_server_slots.proofs.TakenLemmas.{slots_kept-step, asks_rise}
 use Rattle.lq_server_slots.proofs.CommitLemmas.{outside-all, outside-more}
 use Rattle.lq_server_slots.proofs.prepare_commit.ready_all.Goals as goal
 
-pub returns-in_err-ready_at-clause-holding : goal.returns-in_err-ready_at-clause-holding
-returns-in_err-ready_at-clause-holding c =
+pub returns-in_err-ready_at : goal.returns-in_err-ready_at
+returns-in_err-ready_at c =
+    let i = c.loop-index.invariant in
     let was = c.loop-index.slots in
     let k = c.place-place.result + 1 in
     let f = c.ready_at.ensures in
-    slots_stand-step was.keeper c.ready_at.new.keeper was.subscriptions.items was.taken.word k k
-    was.openings c.index_mut.result.now c.ready_at.new.slot was.keeper.book
-    c.ready_at.new.keeper.book c.loop-index.invariant.holding (omega arith)
-    (omega (arith, c.place-place.ensures.within)) refl f.book c.index_mut.ensures.value f.only
-    f.fits f.asks f.kept
-
-pub returns-in_err-ready_at-clause-rises : goal.returns-in_err-ready_at-clause-rises
-returns-in_err-ready_at-clause-rises c =
-    let f = c.ready_at.ensures in
-    asks_rise c.args.slots.now.keeper.slots c.loop-index.slots.keeper.slots
-    c.ready_at.new.keeper.slots (c.place-place.result + 1) f.only f.rises
-    c.loop-index.invariant.rises
+    record {
+      lawful = search (rules, arith);
+      ready = search (rules, arith);
+      noticed = search (rules, arith);
+      keeps = slots_kept-step c.args.slots.now was _ k k c.index_mut.result.now
+          c.ready_at.new.slot i.keeps (omega arith) (omega (arith, c.place-place.ensures.within))
+          refl c.index_mut.ensures.value f.keeps refl refl refl;
+      rises = asks_rise c.args.slots.now.keeper.slots was.keeper.slots c.ready_at.new.keeper.slots k
+          f.keeps.keeper.only f.rises i.rises;
+      refused = search (rules, arith);
+    }
 
 pub loop-index-preserved : goal.loop-index-preserved
 loop-index-preserved c =
@@ -34,38 +34,37 @@ loop-index-preserved c =
     let k = c.place-place.result + 1 in
     let is = ap (λ n. n + 1) (sym c.place-place.ensures.value) in
     let out = c.in-Some.ensures in
+    let wide = i.keeps.holding.0.wide in
     let f = c.ready_at.ensures in
     record {
-      board = f.board ∙ i.board;
-      counted = f.counted ∙ i.counted;
-      book = f.book ∙ i.book;
-      openings = i.openings;
-      holding = slots_stand-step was.keeper c.ready_at.new.keeper items was.taken.word k k
-          was.openings c.index_mut.result.now c.ready_at.new.slot was.keeper.book
-          c.ready_at.new.keeper.book i.holding (omega arith)
-          (omega (arith, c.place-place.ensures.within)) refl f.book c.index_mut.ensures.value
-          f.only f.fits f.asks f.kept;
+      keeps = slots_kept-step c.args.slots.now was _ k k c.index_mut.result.now
+          c.ready_at.new.slot i.keeps (omega arith) (omega (arith, c.place-place.ensures.within))
+          refl c.index_mut.ensures.value f.keeps refl refl refl;
       ready = outside-more
           (λ z _. IsReadyAt z c.args.planned.now.before c.args.planned.now.change) items old new
           index.place k c.ready_at.new.slot is out was.keeper.slots was.keeper.slots
-          i.holding.0.wide index.within (only_self was.keeper.slots k)
+          wide index.within (only_self was.keeper.slots k)
           c.in_ok-ready_at.ensures.ready i.ready;
       noticed = outside-more (SlotIs IsNoticed) items old new index.place k c.ready_at.new.slot is
-          out was.keeper.slots c.ready_at.new.keeper.slots i.holding.0.wide index.within f.only
-          f.noticed i.noticed;
+          out was.keeper.slots c.ready_at.new.keeper.slots wide index.within
+          f.keeps.keeper.only f.noticed i.noticed;
       rises = asks_rise c.args.slots.now.keeper.slots was.keeper.slots c.ready_at.new.keeper.slots k
-          f.only f.rises i.rises;
+          f.keeps.keeper.only f.rises i.rises;
     }
 
-pub returns-clause-ready : goal.returns-clause-ready
-returns-clause-ready c =
+pub returns : goal.returns
+returns c =
     let l = c.loop-index in
-    outside-all (λ z _. IsReadyAt z c.args.planned.now.before c.args.planned.now.change)
-    l.slots.subscriptions.items l.rest.word l.slots.keeper.slots c.in_default.ensures
-    l.invariant.ready
-
-pub returns-clause-noticed : goal.returns-clause-noticed
-returns-clause-noticed c =
-    let l = c.loop-index in
-    outside-all (SlotIs IsNoticed) l.slots.subscriptions.items l.rest.word l.slots.keeper.slots
-    c.in_default.ensures l.invariant.noticed
+    let i = l.invariant in
+    let items = l.slots.subscriptions.items in
+    record {
+      lawful = c.requires.lawful;
+      ready = outside-all
+          (λ z _. IsReadyAt z c.args.planned.now.before c.args.planned.now.change) items
+          l.rest.word l.slots.keeper.slots c.in_default.ensures i.ready;
+      noticed = outside-all (SlotIs IsNoticed) items l.rest.word l.slots.keeper.slots
+          c.in_default.ensures i.noticed;
+      keeps = i.keeps;
+      rises = i.rises;
+      refused = rw c.requires.lawful (refl, tt);
+    }

@@ -1,15 +1,12 @@
-use Rattle.std.proofs.Common.{◌≡◌, ℕ, ◌≤◌}
+use Rattle.std.proofs.Common.{ℕ, ◌≤◌}
 use Rattle.lq_board.specs.Slot.{slot_at}
-use Rattle.lq_server_slots.specs.Slots.{AreConsistent, IsReadyAt, Outside, SlotIs, IsNoticed}
+use Rattle.lq_server_slots.specs.Slots.{KeepsSlots, IsReadyAt, SlotIs, IsNoticed}
+use Rattle.lq_server_slots.proofs.CommitLemmas.{Outside}
 use Rattle.lq_server_slots.proofs.prepare_commit.ready_all.Given as goal
 
 abbrev pub invariant-loop-index : goal.invariant-loop-index
 invariant-loop-index l = record {
-  board : l.slots.keeper.board ≡ l.fn.slots.keeper.board;
-  counted : l.slots.keeper.register.openings ≡ l.fn.slots.keeper.register.openings;
-  book : l.slots.keeper.book ≡ l.fn.slots.keeper.book;
-  openings : l.slots.openings ≡ l.fn.slots.openings;
-  holding : AreConsistent l.slots l.slots.keeper.book;
+  keeps : KeepsSlots l.fn.slots l.slots;
   ready : Outside (λ o _. IsReadyAt o l.planned.before l.planned.change) l.rest.word
       l.slots.subscriptions.items l.slots.keeper.slots;
   noticed : Outside (SlotIs IsNoticed) l.rest.word l.slots.subscriptions.items

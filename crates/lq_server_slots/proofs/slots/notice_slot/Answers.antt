@@ -1,8 +1,11 @@
 use Rattle.std.proofs.Common.{arith, rules}
 use Rattle.std.proofs.lemmas.Bool.{lt-ltb, ltb-true}
-use Rattle.lq_server_slots.proofs.SlotLemmas.{taken_noticed, counted_here}
+use Rattle.lq_server_slots.proofs.SlotLemmas.{taken_noticed, counted_here, only_set}
 use Rattle.lq_server_slots.proofs.CommitLemmas.{noticed_then}
 use Rattle.lq_server_slots.proofs.slots.notice_slot.Goals as goal
+
+pub returns-clause-keeper : goal.returns-clause-keeper
+returns-clause-keeper c = search (rules, arith, only_set)
 
 pub returns-clause-taken : goal.returns-clause-taken
 returns-clause-taken c = search (rules, arith, counted_here, ltb-true, taken_noticed)

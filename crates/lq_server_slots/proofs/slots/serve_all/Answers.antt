@@ -1,6 +1,6 @@
-use Rattle.std.proofs.Common.{◌+◌, ◌∙◌, ap, sym, refl, arith}
+use Rattle.std.proofs.Common.{◌+◌, ap, sym, refl, arith}
 use Rattle.lq_server_slots.specs.Slots.{SlotIs, IsServed}
-use Rattle.lq_server_slots.proofs.TakenLemmas.{slots_stand-step}
+use Rattle.lq_server_slots.proofs.TakenLemmas.{slots_kept-step}
 use Rattle.lq_server_slots.proofs.CommitLemmas.{outside-all, outside-more}
 use Rattle.lq_server_slots.proofs.slots.serve_all.Goals as goal
 
@@ -12,20 +12,14 @@ loop-index-preserved g c =
     let k = c.place-place.result + 1 in
     let f = c.serve_at.ensures in
     record {
-      board = f.board ∙ i.board;
-      counted = f.counted ∙ i.counted;
-      book = f.book ∙ i.book;
-      openings = i.openings;
-      holding = slots_stand-step was.keeper c.serve_at.new.keeper items was.taken.word k k
-          was.openings c.index_mut.result.now c.serve_at.new.slot was.keeper.book
-          c.serve_at.new.keeper.book i.holding (omega arith)
-          (omega (arith, c.place-place.ensures.within)) refl f.book c.index_mut.ensures.value
-          f.only f.fits f.asks f.kept;
+      keeps = slots_kept-step c.args.slots.now was _ k k c.index_mut.result.now
+          c.serve_at.new.slot i.keeps (omega arith) (omega (arith, c.place-place.ensures.within))
+          refl c.index_mut.ensures.value f.keeps refl refl refl;
       served = outside-more (SlotIs IsServed) items c.loop-index.rest.word c.take_one.new.self.word
           c.in-Some.index.place k c.serve_at.new.slot
           (ap (λ n. n + 1) (sym c.place-place.ensures.value)) c.in-Some.ensures
-          was.keeper.slots c.serve_at.new.keeper.slots i.holding.0.wide c.in-Some.index.within
-          f.only f.served i.served;
+          was.keeper.slots c.serve_at.new.keeper.slots i.keeps.holding.0.wide
+          c.in-Some.index.within f.keeps.keeper.only f.served i.served;
     }
 
 pub returns-clause-served : goal.returns-clause-served

@@ -9,17 +9,17 @@ use Rattle.lq_board.proofs.board.Board.compare.Goals as goal
 pub join_seat-requires : goal.join_seat-requires
 join_seat-requires g c =
     let one =
-    lent (sym c.take.ensures.value ∙ c.in-Some.is) c.one.invariant.0 c.one.view_is
+    lent (sym c.take.ensures.value ∙ c.unwrap-first.ensures) c.one.invariant.0 c.one.view_is
     c.requires.board.0 c.self.view_is in
     let two =
-    lent (sym c.take-2.ensures.value ∙ c.in-Some-take.is) c.two.invariant.0 c.two.view_is
+    lent (sym c.take-2.ensures.value ∙ c.unwrap-second.ensures) c.two.invariant.0 c.two.view_is
     c.requires.board.1 c.self.view_is in
     pair_may _ _ one.0 two.0 c.self.invariant.0 one.1 two.1
 
 pub load-requires : goal.load-requires
 load-requires g c =
     let one =
-    lent (sym c.take.ensures.value ∙ c.in-Some.is) c.one.invariant.0 c.one.view_is
+    lent (sym c.take.ensures.value ∙ c.unwrap-first.ensures) c.one.invariant.0 c.one.view_is
     c.requires.board.0 c.self.view_is in (
       c.join_seat.ensures.0 ∙ one.0,
       omega (arith, c.self.invariant.0),
@@ -29,7 +29,7 @@ load-requires g c =
 pub split_seat-requires : goal.split_seat-requires
 split_seat-requires g c =
     let one =
-    lent (sym c.take.ensures.value ∙ c.in-Some.is) c.one.invariant.0 c.one.view_is
+    lent (sym c.take.ensures.value ∙ c.unwrap-first.ensures) c.one.invariant.0 c.one.view_is
     c.requires.board.0 c.self.view_is in (
       c.load.ensures.0 ∙ c.join_seat.ensures.0 ∙ one.0,
       omega (arith, c.self.invariant.0),

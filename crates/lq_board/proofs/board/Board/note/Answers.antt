@@ -11,10 +11,10 @@ pub join_seat-requires : goal.join_seat-requires
 join_seat-requires g c =
     let board = ap (λ (s : SeatToken g.row.M.Denot). s.board) c.seat.ensures.seat in
     let one =
-    lent c.in-Some.is c.token.invariant.0 c.token.view_is (board ∙ c.requires.board.0)
+    lent c.unwrap-first.ensures c.token.invariant.0 c.token.view_is (board ∙ c.requires.board.0)
     c.self.view_is in
     let two =
-    lent (sym c.take.ensures.value ∙ c.in-Some-take.is) c.seat-2.invariant.0 c.seat-2.view_is
+    lent (sym c.take.ensures.value ∙ c.unwrap-second.ensures) c.seat-2.invariant.0 c.seat-2.view_is
     c.requires.board.1 c.self.view_is in
     pair_may _ _ one.0 two.0 c.self.invariant.0 one.1 two.1
 
@@ -22,7 +22,7 @@ pub split_seat-requires : goal.split_seat-requires
 split_seat-requires g c =
     let board = ap (λ (s : SeatToken g.row.M.Denot). s.board) c.seat.ensures.seat in
     let one =
-    lent c.in-Some.is c.token.invariant.0 c.token.view_is (board ∙ c.requires.board.0)
+    lent c.unwrap-first.ensures c.token.invariant.0 c.token.view_is (board ∙ c.requires.board.0)
     c.self.view_is in (
       c.join_seat.ensures.0 ∙ one.0,
       omega (arith, c.self.invariant.0),

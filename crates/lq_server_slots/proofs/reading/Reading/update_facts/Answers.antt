@@ -1,5 +1,4 @@
-use Rattle.lq_server_slots.proofs.ReadLemmas.{told_now}
 use Rattle.lq_server_slots.proofs.reading.Reading.update_facts.Goals as goal
 
 pub returns : goal.returns
-returns c = rw (← c.self.view_is) (told_now _ _ _ _ c.self.invariant.0)
+returns c = rw (← c.self.view_is) c.self.invariant.0

@@ -1,6 +1,6 @@
 -- The seat gets the name of the subscription that is passed.
 use Rattle.lq_server_slots.specs.Identity.{identity_of}
-use Rattle.lq_server_slots.proofs.close.close_slot.Given as goal
+use Rattle.lq_server_slots.proofs.close.close_at.Given as goal
 
 abbrev pub ghost-meet_under : goal.ghost-meet_under
 ghost-meet_under a = identity_of a.slot.now
