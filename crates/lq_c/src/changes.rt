@@ -1,12 +1,14 @@
 //! Changes of the volume.
 ghost use Rattle.lq_value.specs.declared.value.Value.TheVariants.{Int32, Int64, UInt32, UInt64};
-ghost use Rattle.lq_script_request.specs.Request.{asks_remove, asks_write, request_for};
+ghost use Rattle.lq_script_request.specs.Asked.{given};
+ghost use Rattle.lq_script_request.specs.Request.{asks_remove, asks_write, given_number, request_for};
 ghost use Rattle.lq_embed.specs.Calls.{Changes};
 ghost use Rattle.lq_embed.specs.Requests.{create_request, move_request, set_request, set_text_request, unset_request};
 ghost use Rattle.lq_c.specs.Held.{held_state};
 
 use crate::handle::Lq;
 use lq_embed::AppliedOut;
+use lq_value::View;
 
 /// As `Embedded::create`, whose status it answers.
 #[unsafe(no_mangle)]
@@ -87,7 +89,7 @@ pub extern "C" fn lqp_set_text(
     handle.served_mut().embedded.set_text(node, attr, text, out)
 }
 
-/// As `Embedded::set_int32`, whose status it answers.
+/// As `Embedded::set_attr` with a number, whose status it answers.
 #[unsafe(no_mangle)]
 pub extern "C" fn lqp_set_int32(
     handle: &mut Lq,
@@ -97,15 +99,12 @@ pub extern "C" fn lqp_set_int32(
     out: &mut AppliedOut,
 ) -> u32
     ensures { Changes (held_state handle.old) (held_state handle.new)
-        (set_request node attr.now (Int32 value)) result out.old out.new }
+        (set_request node attr.now (given_number (Int32 value))) result out.old out.new }
 {
-    handle
-        .served_mut()
-        .embedded
-        .set_int32(node, attr, value, out)
+    set_attr(handle, node, attr, View::Int32(value), out)
 }
 
-/// As `Embedded::set_int64`, whose status it answers.
+/// As `Embedded::set_attr` with a number, whose status it answers.
 #[unsafe(no_mangle)]
 pub extern "C" fn lqp_set_int64(
     handle: &mut Lq,
@@ -115,15 +114,12 @@ pub extern "C" fn lqp_set_int64(
     out: &mut AppliedOut,
 ) -> u32
     ensures { Changes (held_state handle.old) (held_state handle.new)
-        (set_request node attr.now (Int64 value)) result out.old out.new }
+        (set_request node attr.now (given_number (Int64 value))) result out.old out.new }
 {
-    handle
-        .served_mut()
-        .embedded
-        .set_int64(node, attr, value, out)
+    set_attr(handle, node, attr, View::Int64(value), out)
 }
 
-/// As `Embedded::set_uint32`, whose status it answers.
+/// As `Embedded::set_attr` with a number, whose status it answers.
 #[unsafe(no_mangle)]
 pub extern "C" fn lqp_set_uint32(
     handle: &mut Lq,
@@ -133,15 +129,12 @@ pub extern "C" fn lqp_set_uint32(
     out: &mut AppliedOut,
 ) -> u32
     ensures { Changes (held_state handle.old) (held_state handle.new)
-        (set_request node attr.now (UInt32 value)) result out.old out.new }
+        (set_request node attr.now (given_number (UInt32 value))) result out.old out.new }
 {
-    handle
-        .served_mut()
-        .embedded
-        .set_uint32(node, attr, value, out)
+    set_attr(handle, node, attr, View::UInt32(value), out)
 }
 
-/// As `Embedded::set_uint64`, whose status it answers.
+/// As `Embedded::set_attr` with a number, whose status it answers.
 #[unsafe(no_mangle)]
 pub extern "C" fn lqp_set_uint64(
     handle: &mut Lq,
@@ -151,12 +144,9 @@ pub extern "C" fn lqp_set_uint64(
     out: &mut AppliedOut,
 ) -> u32
     ensures { Changes (held_state handle.old) (held_state handle.new)
-        (set_request node attr.now (UInt64 value)) result out.old out.new }
+        (set_request node attr.now (given_number (UInt64 value))) result out.old out.new }
 {
-    handle
-        .served_mut()
-        .embedded
-        .set_uint64(node, attr, value, out)
+    set_attr(handle, node, attr, View::UInt64(value), out)
 }
 
 /// As `Embedded::unset`, whose status it answers.
@@ -166,4 +156,15 @@ pub extern "C" fn lqp_unset(handle: &mut Lq, node: u64, attr: &[u8], out: &mut A
         result out.old out.new }
 {
     handle.served_mut().embedded.unset(node, attr, out)
+}
+
+// Sets an attribute to a value.
+fn set_attr(handle: &mut Lq, node: u64, attr: &[u8], value: View<'_>, out: &mut AppliedOut) -> u32
+    ensures { Changes (held_state handle.old) (held_state handle.new)
+        (set_request node attr.now (given value.entry)) result out.old out.new }
+{
+    handle
+        .served_mut()
+        .embedded
+        .set_attr(node, attr, value, out)
 }

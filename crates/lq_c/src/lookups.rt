@@ -1,6 +1,7 @@
 //! Looks at the volume.
 ghost use Rattle.std.specs.Prelude.{◌≡◌, Ok};
-ghost use Rattle.lq_script_request.specs.declared.request.Request.TheVariants as request;
+ghost use Rattle.lq_script_request.specs.declared.request.Request.TheVariants.{Look};
+ghost use Rattle.lq_script_request.specs.declared.request.Look.TheVariants as look;
 ghost use Rattle.lq_embed.specs.Calls.{Fetches, FindsNode, Rebuilds, ShowsEntry};
 ghost use Rattle.lq_embed.specs.PathNames.{FindsPath};
 ghost use Rattle.lq_embed.specs.Requests.{fetch_request, find_request};
@@ -54,8 +55,7 @@ pub extern "C" fn lqp_find_path(handle: &mut Lq, dir: u64, path: &[u8], node: &m
 #[unsafe(no_mangle)]
 pub extern "C" fn lqp_result(handle: &mut Lq, made: &mut u64, slot: u64, out: &mut Rebuilt) -> u32
     ensures rebuilds { Rebuilds (held_state handle.old) (held_state handle.new)
-        (Ok (request.Rebuilt slot))
-        result out.old.rebuilt out.new.rebuilt }
+        (Ok (Look (look.Rebuilt slot))) result out.old.rebuilt out.new.rebuilt }
     ensures made { made.new ≡ made_after result made.old }
     ensures number { out.new.result ≡ shown_after result made.old out.old.result }
 {
@@ -68,8 +68,8 @@ pub extern "C" fn lqp_result(handle: &mut Lq, made: &mut u64, slot: u64, out: &m
 /// As `Embedded::entry`, whose status it answers.
 #[unsafe(no_mangle)]
 pub extern "C" fn lqp_entry(handle: &mut Lq, node: u64, out: &mut InfoOut) -> u32
-    ensures { ShowsEntry (held_state handle.old) (held_state handle.new) (Ok (request.Entry node))
-        result out.old out.new }
+    ensures { ShowsEntry (held_state handle.old) (held_state handle.new)
+        (Ok (Look (look.Entry node))) result out.old out.new }
 {
     handle.served_mut().embedded.entry(node, out)
 }

@@ -1,12 +1,13 @@
 //! Queries by pushes in postfix order.
 ghost use Rattle.std.specs.Prelude.{◌≡◌, Ok};
-ghost use Rattle.std.specs.Fmt.{decimal, signed_decimal};
-ghost use Rattle.lq_predicate.specs.Stack.{only_part, text_pushed};
+ghost use Rattle.lq_predicate.specs.Stack.{attr_pushed, only_part, text_pushed};
 ghost use Rattle.lq_predicate.specs.Stacked.{new_stack};
 ghost use Rattle.lq_embed.specs.Calls.{Fetches};
 ghost use Rattle.lq_embed.specs.Numbers.{op_numbered};
 ghost use Rattle.lq_embed.specs.Opening.{OpensBy, backlog_of};
-ghost use Rattle.lq_embed.specs.Requests.{fetch_pushed, left_by, open_pushed, push_attr_outcome, push_op_outcome, push_text_outcome};
+ghost use Rattle.lq_embed.specs.Pushed.{push_op_outcome, push_outcome};
+ghost use Rattle.lq_embed.specs.Requests.{fetch_pushed, in_utf8, left_by, open_pushed};
+ghost use Rattle.lq_embed.specs.declared.pushes.Push.TheVariants.{Int32, Int64, UInt32, UInt64};
 ghost use Rattle.lq_embed.specs.SessionState.{with_pushed};
 ghost use Rattle.lq_c.specs.Held.{held_state};
 ghost use Rattle.lq_c.specs.Numbers.{PushesIn, after_take, has_room, made_after, shown_after};
@@ -14,108 +15,88 @@ ghost use Rattle.lq_c.specs.Numbers.{PushesIn, after_take, has_room, made_after,
 use crate::handle::Lq;
 use crate::numbers::{MISUSE, count_push, count_taken, has_room, number_result};
 use crate::outs::{Fetched, Opening};
-use lq_embed::OpenOptions;
+use lq_embed::{OpenOptions, Push};
 
-/// As `Embedded::push_attr`, whose status it answers; 40 where `pushes`, the count of those that
-/// were accepted, is 4,096.
+/// As `Embedded::push`, whose status it answers; 40 where `pushes`, the count of those that were
+/// accepted, is 4,096.
 #[unsafe(no_mangle)]
 pub extern "C" fn lqp_push_attr(handle: &mut Lq, pushes: &mut u32, name: &[u8]) -> u32
     ensures { PushesIn (has_room pushes.old) (held_state handle.old) (held_state handle.new)
-        (push_attr_outcome name.now (held_state handle.old).pushed) result pushes.old pushes.new }
+        (in_utf8 name.now (Ok (attr_pushed name.now (held_state handle.old).pushed)))
+        result pushes.old pushes.new }
 {
-    if !has_room(*pushes) {
-        return MISUSE;
-    }
-    let status = handle.served_mut().embedded.push_attr(name);
-    count_push(pushes, status);
-    status
+    push(handle, pushes, Push::Attr(name))
 }
 
-/// As `Embedded::push_text`, with the count as at `lqp_push_attr`.
+/// As `lqp_push_attr`.
 #[unsafe(no_mangle)]
 pub extern "C" fn lqp_push_text(handle: &mut Lq, pushes: &mut u32, text: &[u8]) -> u32
     ensures { PushesIn (has_room pushes.old) (held_state handle.old) (held_state handle.new)
-        (push_text_outcome text.now (held_state handle.old).pushed) result pushes.old pushes.new }
+        (in_utf8 text.now (Ok (text_pushed text.now (held_state handle.old).pushed)))
+        result pushes.old pushes.new }
 {
-    if !has_room(*pushes) {
-        return MISUSE;
-    }
-    let status = handle.served_mut().embedded.push_text(text);
-    count_push(pushes, status);
-    status
+    push(handle, pushes, Push::Text(text))
 }
 
-/// As `Embedded::push_int32`, with the count as at `lqp_push_attr`.
+/// As `lqp_push_attr`.
 #[unsafe(no_mangle)]
 pub extern "C" fn lqp_push_int32(handle: &mut Lq, pushes: &mut u32, value: i32) -> u32
     ensures { PushesIn (has_room pushes.old) (held_state handle.old) (held_state handle.new)
-        (Ok (text_pushed (signed_decimal value) (held_state handle.old).pushed))
-        result pushes.old pushes.new }
+        (push_outcome (Int32 value) (held_state handle.old).pushed) result pushes.old
+        pushes.new }
 {
-    if !has_room(*pushes) {
-        return MISUSE;
-    }
-    let status = handle.served_mut().embedded.push_int32(value);
-    count_push(pushes, status);
-    status
+    push(handle, pushes, Push::Int32(value))
 }
 
-/// As `Embedded::push_int64`, with the count as at `lqp_push_attr`.
+/// As `lqp_push_attr`.
 #[unsafe(no_mangle)]
 pub extern "C" fn lqp_push_int64(handle: &mut Lq, pushes: &mut u32, value: i64) -> u32
     ensures { PushesIn (has_room pushes.old) (held_state handle.old) (held_state handle.new)
-        (Ok (text_pushed (signed_decimal value) (held_state handle.old).pushed))
-        result pushes.old pushes.new }
+        (push_outcome (Int64 value) (held_state handle.old).pushed) result pushes.old
+        pushes.new }
 {
-    if !has_room(*pushes) {
-        return MISUSE;
-    }
-    let status = handle.served_mut().embedded.push_int64(value);
-    count_push(pushes, status);
-    status
+    push(handle, pushes, Push::Int64(value))
 }
 
-/// As `Embedded::push_uint32`, with the count as at `lqp_push_attr`.
+/// As `lqp_push_attr`.
 #[unsafe(no_mangle)]
 pub extern "C" fn lqp_push_uint32(handle: &mut Lq, pushes: &mut u32, value: u32) -> u32
     ensures { PushesIn (has_room pushes.old) (held_state handle.old) (held_state handle.new)
-        (Ok (text_pushed (decimal value) (held_state handle.old).pushed)) result pushes.old
+        (push_outcome (UInt32 value) (held_state handle.old).pushed) result pushes.old
         pushes.new }
 {
-    if !has_room(*pushes) {
-        return MISUSE;
-    }
-    let status = handle.served_mut().embedded.push_uint32(value);
-    count_push(pushes, status);
-    status
+    push(handle, pushes, Push::UInt32(value))
 }
 
-/// As `Embedded::push_uint64`, with the count as at `lqp_push_attr`.
+/// As `lqp_push_attr`.
 #[unsafe(no_mangle)]
 pub extern "C" fn lqp_push_uint64(handle: &mut Lq, pushes: &mut u32, value: u64) -> u32
     ensures { PushesIn (has_room pushes.old) (held_state handle.old) (held_state handle.new)
-        (Ok (text_pushed (decimal value) (held_state handle.old).pushed)) result pushes.old
+        (push_outcome (UInt64 value) (held_state handle.old).pushed) result pushes.old
         pushes.new }
 {
-    if !has_room(*pushes) {
-        return MISUSE;
-    }
-    let status = handle.served_mut().embedded.push_uint64(value);
-    count_push(pushes, status);
-    status
+    push(handle, pushes, Push::UInt64(value))
 }
 
-/// As `Embedded::push_op`, with the count as at `lqp_push_attr`.
+/// As `lqp_push_attr`.
 #[unsafe(no_mangle)]
 pub extern "C" fn lqp_push_op(handle: &mut Lq, pushes: &mut u32, op: u32) -> u32
     ensures { PushesIn (has_room pushes.old) (held_state handle.old) (held_state handle.new)
         (push_op_outcome (op_numbered op) (held_state handle.old).pushed) result pushes.old
         pushes.new }
 {
+    push(handle, pushes, Push::Op(op))
+}
+
+// A push where there is room for it.
+fn push(handle: &mut Lq, pushes: &mut u32, push: Push<'_>) -> u32
+    ensures { PushesIn (has_room pushes.old) (held_state handle.old) (held_state handle.new)
+        (push_outcome push.entry (held_state handle.old).pushed) result pushes.old pushes.new }
+{
     if !has_room(*pushes) {
         return MISUSE;
     }
-    let status = handle.served_mut().embedded.push_op(op);
+    let status = handle.served_mut().embedded.push(push);
     count_push(pushes, status);
     status
 }

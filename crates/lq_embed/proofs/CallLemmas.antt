@@ -1,23 +1,26 @@
 -- What a call did, from what its parts did.
 use Rattle.std.proofs.Common.{◌≡◌, ◌∙◌, ℕ, List, refl, sym, ap, subst, true, false, inl, inr}
-use Rattle.std.specs.Prelude.{Bool, Option, Result, Err, if◌then◌else◌}
+use Rattle.std.specs.Prelude.{Bool, ◌==◌, Option, None, Some, unwrap_or, Result, Ok, Err, if◌then◌else◌}
 use Rattle.std.specs.Str.{IsUtf8, is_utf8}
 use Rattle.std.proofs.lemmas.Str.{IsUtf8-from_is_utf8, is_utf8-from_IsUtf8}
 use Rattle.lq_value.specs.declared.refusal.Refusal.{Refusal}
-use Rattle.lq_value.specs.declared.refusal.Refusal.TheVariants.{NotUtf8}
+use Rattle.lq_value.specs.declared.refusal.Refusal.TheVariants.{BadQuery, NotUtf8}
 use Rattle.lq_value.specs.Refusal.{code_of}
 use Rattle.lq_predicate.specs.Stacked.{Stacked}
 use Rattle.lq_script_desk.specs.Session.{Session}
-use Rattle.lq_desk_world.specs.Events.{Answer, Refused}
+use Rattle.lq_desk_world.specs.Events.{Answer, Opened, Refused}
 use Rattle.lq_script_request.specs.declared.request.Request.{Request}
 use Rattle.lq_script_desk.specs.Response.{Response, Refuses}
 use Rattle.lq_embed.specs.declared.out_structs.AppliedOut.{AppliedOut}
 use Rattle.lq_embed.specs.declared.out_structs.OpeningOut.{OpeningOut}
 use Rattle.lq_embed.specs.declared.out_structs.FetchedOut.{FetchedOut}
-use Rattle.lq_embed.specs.Calls.{Asks, Changes, Fetches, FindsNode, Opens, Pushes, Responds}
+use Rattle.lq_script_desk.specs.Answered.{Responds}
+use Rattle.lq_embed.specs.Calls.{Asks, Changes, Fetches, FindsNode, Opens, Pushes, state_after_fetch, state_after_opening, state_after_refusal}
+use Rattle.lq_embed.specs.Opening.{kept_by}
+use Rattle.lq_embed.specs.Pushed.{PutsOn}
 use Rattle.lq_embed.specs.Requests.{in_utf8}
-use Rattle.lq_embed.specs.Outs.{entries_after, fault_after, fetched_after, fetched_entries, looked_fault, opening_after}
-use Rattle.lq_embed.specs.SessionState.{SessionState, with_session}
+use Rattle.lq_embed.specs.Outs.{fetched_after, opening_after}
+use Rattle.lq_embed.specs.SessionState.{SessionState, with_pushed, with_session}
 use Rattle.lq_embed.specs.Status.{response_status, status_of}
 
 -- ---- texts that have to be UTF-8
@@ -84,35 +87,39 @@ opens-not_utf8 is code = opens-as is (record {
   asks = (inl refl, refl);
   code = code;
   out = refl;
-  entries = refl;
-  fault = refl;
-  text = refl;
-  pushed = refl;
+  kept = refl;
 })
+
+-- what is kept of an answer leaves the session
+opened-session : (answer : Answer) (s : SessionState)
+    → (state_after_opening answer s).session ≡ s.session
+opened-session (Opened slot at result) s = refl
+opened-session (Refused (BadQuery place)) s = refl
+opened-session (Refused refusal) s = refl
+opened-session answer s = refl
 
 -- an opening, from what its turn did and what was kept of its reply
 pub opens-made : {old mid new : SessionState} {p : Result Request Refusal} {status : ℕ}
     {before after : OpeningOut} (answer : Answer) → Asks old.session mid.session p answer
     → mid ≡ with_session old mid.session → status ≡ status_of answer
-    → after ≡ opening_after answer before
-    → new ≡ record mid {
-      entries = entries_after answer mid.entries;
-      fault = fault_after answer mid.fault;
-    }
+    → after ≡ opening_after answer before → new ≡ state_after_opening answer mid
     → Opens old new old.pushed p status before after
-opens-made {old = old} {p = p} answer asks beside code out kept = record {
-  answer = answer;
-  asks = subst (λ (s : Session). Asks old.session s p answer)
-      (sym (ap (λ (s : SessionState). s.session) kept)) asks;
-  code = code;
-  out = out;
-  entries = ap (λ (s : SessionState). s.entries) kept
-      ∙ ap (λ (s : SessionState). entries_after answer s.entries) beside;
-  fault = ap (λ (s : SessionState). s.fault) kept
-      ∙ ap (λ (s : SessionState). fault_after answer s.fault) beside;
-  text = ap (λ (s : SessionState). s.text) kept ∙ ap (λ (s : SessionState). s.text) beside;
-  pushed = ap (λ (s : SessionState). s.pushed) kept ∙ ap (λ (s : SessionState). s.pushed) beside;
-}
+opens-made {old = old} {mid = mid} {new = new} {p = p} answer asks beside code out kept =
+    let same : mid.session ≡ new.session =
+    sym (ap (λ (s : SessionState). s.session) kept ∙ opened-session answer mid) in
+    record {
+      answer = answer;
+      asks = subst (λ (s : Session). Asks old.session s p answer) same asks;
+      code = code;
+      out = out;
+      kept = kept ∙ ap (state_after_opening answer) (beside ∙ ap (with_session old) same);
+    }
+
+-- a refused opening keeps what there was
+pub kept-refused : (no_result : Bool) (status slot : ℕ) (s : SessionState)
+    → (status == 0) ≡ false → kept_by no_result status slot s ≡ s
+kept-refused false status slot s is = refl
+kept-refused true status slot s is = rw is refl
 
 -- ---- looks
 
@@ -148,40 +155,71 @@ fetches-not_utf8 is code = fetches-as is (record {
   responds = inr refl;
   code = code;
   out = refl;
-  entries = refl;
-  fault = refl;
-  session = refl;
-  text = refl;
-  pushed = refl;
+  kept = refl;
 })
 
 -- a fetch, from its response and what was kept of it
 pub fetches-made : {old mid new : SessionState} {response : Response} {p : Result Request Refusal}
     {status : ℕ} {before after : FetchedOut} → Responds old.session p response → mid ≡ old
     → status ≡ response_status response → after ≡ fetched_after response before
-    → new ≡ record mid {
-      entries = fetched_entries response mid.entries;
-      fault = looked_fault response mid.fault;
-    }
-    → Fetches old new old.pushed p status before after
+    → new ≡ state_after_fetch response mid → Fetches old new old.pushed p status before after
 fetches-made {response = response} responds stays code out kept = record {
   response = response;
   responds = responds;
   code = code;
   out = out;
-  entries = ap (λ (s : SessionState). s.entries) kept
-      ∙ ap (λ (s : SessionState). fetched_entries response s.entries) stays;
-  fault = ap (λ (s : SessionState). s.fault) kept
-      ∙ ap (λ (s : SessionState). looked_fault response s.fault) stays;
-  session = ap (λ (s : SessionState). s.session) kept ∙ ap (λ (s : SessionState). s.session) stays;
-  text = ap (λ (s : SessionState). s.text) kept ∙ ap (λ (s : SessionState). s.text) stays;
-  pushed = ap (λ (s : SessionState). s.pushed) kept ∙ ap (λ (s : SessionState). s.pushed) stays;
+  kept = kept ∙ ap (state_after_fetch response) stays;
 }
 
 -- ---- pushes
 
--- a push with the outcome of another
-pub pushes-as : (old new : SessionState) (status : ℕ) {q p : Result (Option Stacked) Refusal}
-    → q ≡ p → Pushes old new p status → Pushes old new q status
-pushes-as old new status same was =
-    subst (λ (r : Result (Option Stacked) Refusal). Pushes old new r status) (sym same) was
+-- a push to a stack with the outcome of another
+pub puts-as : (old new : Stacked) (result : Result (Unit {0}) Refusal)
+    {q p : Result (Option Stacked) Refusal} → q ≡ p → PutsOn old new p result
+    → PutsOn old new q result
+puts-as old new result same was =
+    subst (λ (r : Result (Option Stacked) Refusal). PutsOn old new r result) (sym same) was
+
+-- what is Ok isn't refused, and what is none isn't there
+ok-is : {e : Refusal} → ◌≡◌ {A = Result (Unit {0}) Refusal} (Ok tt) (Err e) → ⊥
+ok-is is = let no : ⊥ = cc in no
+
+none-is : {stack : Stacked} → ◌≡◌ {A = Option Stacked} None (Some stack) → ⊥
+none-is is = let no : ⊥ = cc in no
+
+refused-is : {r e : Refusal} → ◌≡◌ {A = Result (Unit {0}) Refusal} (Err r) (Err e) → r ≡ e
+refused-is is = cc
+
+-- a push that its stack took
+pub pushes-done : (old new : SessionState) (outcome : Result (Option Stacked) Refusal)
+    → PutsOn old.pushed new.pushed outcome (Ok tt) → new ≡ with_pushed old new.pushed
+    → Pushes old new outcome 0
+pushes-done old new (Err e) puts beside = absurd (ok-is puts.0)
+pushes-done old new (Ok None) puts beside = absurd (none-is puts.0)
+pushes-done old new (Ok (Some stack)) puts beside = inl (
+  refl,
+  beside ∙ ap (with_pushed old)
+      (ap (λ (o : Option Stacked). unwrap_or o stack) (sym puts.0)),
+)
+
+-- one that it refused
+pub pushes-refused : (old mid new : SessionState) (status : ℕ)
+    (outcome : Result (Option Stacked) Refusal) (r : Refusal)
+    → PutsOn old.pushed mid.pushed outcome (Err r) → mid ≡ with_pushed old mid.pushed
+    → status ≡ code_of r → new ≡ state_after_refusal r mid → Pushes old new outcome status
+pushes-refused old mid new status (Err e) r puts beside code kept =
+    let same : r ≡ e = refused-is puts.0 in (
+      code ∙ ap code_of same,
+      kept ∙ ap (state_after_refusal r) (beside ∙ ap (with_pushed old) puts.1)
+          ∙ ap (λ (x : Refusal). state_after_refusal x old) same,
+    )
+pushes-refused old mid new status (Ok None) r puts beside code kept = (
+  code ∙ ap code_of puts.1.1,
+  kept ∙ ap (state_after_refusal r) (beside ∙ ap (with_pushed old) puts.2)
+      ∙ ap (λ (x : Refusal). state_after_refusal x old) puts.1.1,
+)
+pushes-refused old mid new status (Ok (Some stack)) r puts beside code kept = inr (
+  code ∙ ap code_of puts.1.1,
+  kept ∙ ap (state_after_refusal r) (beside ∙ ap (with_pushed old) puts.2)
+      ∙ ap (λ (x : Refusal). state_after_refusal x old) puts.1.1,
+)

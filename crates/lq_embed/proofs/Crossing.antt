@@ -7,11 +7,11 @@ use Rattle.std.specs.contracts.impls.GlobalAllocator.TheImpl.{ghosts as ghosts_o
 use Rattle.std.specs.contracts.vec.IntoIter as into_iter
 use Rattle.lq_value.specs.contracts.entry.Entry as entry
 use Rattle.lq_predicate.specs.contracts.stack.Stack as stack
-use Rattle.lq_script_request.specs.contracts.scratch.Scratch as scratch
+use Rattle.lq_script_request.specs.contracts.scratch.RecentAttrs as attrs
 use Rattle.lq_script_desk.specs.contracts.session.Session as session
 use Rattle.lq_embed.specs.contracts.embedded.Embedded as embedded
 
-pub embedded_send : IsSend session.the_row → IsSend scratch.the_row
+pub embedded_send : IsSend session.the_row → IsSend attrs.the_row
     → IsSend (into_iter.the_row entry.the_row global.the_row ghosts_of_global)
     → IsSend stack.the_row → IsSend embedded.the_row
 embedded_send s x e t =

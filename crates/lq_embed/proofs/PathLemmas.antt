@@ -9,13 +9,13 @@ use Rattle.lq_value.specs.Name.{is_name}
 use Rattle.lq_value.specs.Refusal.{code_of, first_refusal}
 use Rattle.lq_volume.specs.Folder.{Leads}
 use Rattle.lq_volume.specs.Lookup.{find_refusals}
-use Rattle.lq_volume.specs.State as volume
 use Rattle.lq_volume.specs.State.{Record, node_in}
-use Rattle.lq_script_request.specs.declared.request.Request.TheVariants.{Find}
-use Rattle.lq_script_desk.specs.Answered.{answered, found_answer}
+use Rattle.lq_script_request.specs.declared.request.Request.TheVariants.{Look}
+use Rattle.lq_script_request.specs.declared.request.Look.TheVariants.{Find}
+use Rattle.lq_script_desk.specs.Answered.{Responds, answered, found_answer}
 use Rattle.lq_script_desk.specs.Response.{Response, Refuses, Found}
 use Rattle.lq_embed.proofs.CallLemmas.{finds-as}
-use Rattle.lq_embed.specs.Calls.{FindsNode, Responds}
+use Rattle.lq_embed.specs.Calls.{FindsNode}
 use Rattle.lq_embed.specs.Outs.{node_after}
 use Rattle.lq_embed.specs.PathNames.{name_length, named_request, names_among, names_in, path_parts, with_byte}
 use Rattle.lq_embed.specs.SessionState.{SessionState, volume_in}
@@ -166,7 +166,8 @@ IsThere response es dir name =
     → (node : ℕ) × (response ≡ Found node) × (node_in es dir name ≡ Some node)
 
 there-found : (es : List (ℕ × Record)) (dir : ℕ) (name : List ℕ) (refusal : Option Refusal)
-    (at : Option ℕ) → node_in es dir name ≡ at → IsThere (found_answer refusal at) es dir name
+    (at : Option ℕ) → node_in es dir name ≡ at
+    → IsThere (found_answer refusal NoEntry Found at) es dir name
 there-found es dir name (Some e) at is ok = absurd (coded e ok)
 there-found es dir name None None is ok = absurd (coded NoEntry ok)
 there-found es dir name None (Some node) is ok = (node, refl, is)
@@ -178,7 +179,8 @@ there-refused es dir name e ok = absurd (coded e ok)
 -- the response to the request of a name, whatever the tests of its bytes give
 named-there : (old : SessionState) (dir : ℕ) (name : List ℕ) (long utf8 valid : Bool)
     → IsThere (answered old.session (if long then Err BadName
-    else (if utf8 then (if valid then Ok (Find dir name) else Err BadName) else Err NotUtf8))).0
+    else (if utf8 then (if valid then Ok (Look (Find dir name)) else Err BadName)
+    else Err NotUtf8))).0
     (volume_in old).records dir name
 named-there old dir name true utf8 valid =
     there-refused (volume_in old).records dir name BadName

@@ -6,8 +6,9 @@ use Rattle.lq_value.specs.declared.refusal.Refusal.{Refusal}
 use Rattle.lq_desk_world.specs.Events.{Answer}
 use Rattle.lq_desk_world.specs.Events as answer
 use Rattle.lq_embed.specs.declared.out_structs.MessageOut.{MessageOut}
-use Rattle.lq_embed.specs.Reads.{IsStopped, ReadsEach, ReadsOne, last_count, last_status, place_after, read_outcome}
+use Rattle.lq_embed.specs.Reads.{IsStopped, ReadsEach, ReadsOne, last_count, place_after, read_outcome}
 use Rattle.lq_embed.specs.SessionState.{SessionState}
+use Rattle.lq_embed.specs.Status.{outcome_status}
 
 -- one more read, in the next place
 each-more : {slot : ℕ} {last new : SessionState} {place read : MessageOut} (old : SessionState)
@@ -103,7 +104,7 @@ pub read-stop : {slot : ℕ} {first now new : SessionState} {i : ℕ} {before pl
     {place read : MessageOut} {outcome : Result Bool Refusal} {status got_before got : ℕ}
     (d : MessageOut) → AreRead slot first now i before places → i < length before
     → i < length places → place ≡ get_or places i d → ReadsOne now new slot outcome place read
-    → outcome ≢ Ok true → status ≡ last_status outcome → got ≡ last_count outcome got_before i
+    → outcome ≢ Ok true → status ≡ outcome_status outcome → got ≡ last_count outcome got_before i
     → IsStopped first new slot status before (set places i read) got_before got
 read-stop {slot = slot} {now = now} {new = new} {i = i} {before = before} {places = places}
     {place = place} {read = read} {outcome = outcome} {got_before = got_before} d was lt inside

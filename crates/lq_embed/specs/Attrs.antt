@@ -1,12 +1,12 @@
 -- The attributes of an entry, by index and by name.
-use Rattle.std.specs.Prelude.{◌≡◌, ◌⊎◌, ℕ, List, Option, Some, None, Result, Ok, Err, option_and_then, slice_get, if◌then◌else◌}
+use Rattle.std.specs.Prelude.{◌≡◌, ◌⊎◌, ℕ, List, Option, Some, None, Result, Ok, Err, ok_or, option_and_then, slice_get, if◌then◌else◌}
 use Rattle.std.specs.Option.{option_map}
 use Rattle.std.specs.Str.{is_utf8}
 use Rattle.lq_value.specs.declared.refusal.Refusal.{Refusal}
 use Rattle.lq_value.specs.declared.refusal.Refusal.TheVariants.{BadName, NoAttr, NoMemory, NotUtf8}
 use Rattle.lq_value.specs.declared.value.Value.{Value}
 use Rattle.lq_value.specs.Name.{is_attr_name}
-use Rattle.lq_value.specs.Refusal.{code_of, first_refusal}
+use Rattle.lq_value.specs.Refusal.{first_refusal}
 use Rattle.lq_volume.specs.State as volume
 use Rattle.lq_volume.specs.State.{Record, record_at}
 use Rattle.lq_volume.specs.Attributes.{value_of}
@@ -14,17 +14,13 @@ use Rattle.lq_volume.specs.Lookup.{entry_refusals}
 use Rattle.lq_embed.specs.declared.out_structs.AttrOut.{AttrOut}
 use Rattle.lq_embed.specs.Outs.{attr_after}
 use Rattle.lq_embed.specs.SessionState.{SessionState}
+use Rattle.lq_embed.specs.Status.{outcome_status}
 
--- an attribute, if it is there
-abbrev pub attr_or : Option (List ℕ × Value) → Result (List ℕ × Value) Refusal
-attr_or None = Err NoAttr
-attr_or (Some attr) = Ok attr
-
--- an attribute of an entry, unless the look-up of the entry is refused
+-- an attribute of an entry, if it is there, unless the look-up of the entry is refused
 abbrev pub unless_refused : Option Refusal → Option (List ℕ × Value)
     → Result (List ℕ × Value) Refusal
 unless_refused (Some refusal) attr = Err refusal
-unless_refused None attr = attr_or attr
+unless_refused None attr = ok_or attr NoAttr
 
 -- the attribute at an index, from 0
 abbrev pub attr_by_index : volume.State → ℕ → ℕ → Result (List ℕ × Value) Refusal
@@ -43,11 +39,7 @@ attr_by_name s node bytes =
     then (if is_attr_name bytes then attr_with_name s node bytes else Err BadName)
     else Err NotUtf8
 
--- the status of a look at an attribute, and what it writes
-abbrev pub attr_status : Result (List ℕ × Value) Refusal → ℕ
-attr_status (Err refusal) = code_of refusal
-attr_status (Ok attr) = 0
-
+-- what a look at an attribute writes
 abbrev pub attr_out : Result (List ℕ × Value) Refusal → AttrOut → AttrOut
 attr_out (Err refusal) out = out
 attr_out (Ok attr) out = attr_after attr.0 attr.1 out
@@ -55,7 +47,7 @@ attr_out (Ok attr) out = attr_after attr.0 attr.1 out
 -- a look at an attribute
 pub record ShowsAttr (old new : SessionState) (attr : Result (List ℕ × Value) Refusal) (status : ℕ)
     (before after : AttrOut) : Type 0 where
-  pub code : status ≡ attr_status attr
+  pub code : status ≡ outcome_status attr
   pub out : after ≡ attr_out attr before
   pub stays : new ≡ old
 

@@ -2,18 +2,18 @@
 use Rattle.std.specs.Prelude.{◌≡◌, ◌⊎◌, ℕ, List, [], ◌∷◌, Bool, true, false, Option, Some, None, Result, Ok, Err}
 use Rattle.lq_value.specs.declared.entry.Entry.{Entry}
 use Rattle.lq_value.specs.declared.refusal.Refusal.{Refusal}
-use Rattle.lq_value.specs.declared.refusal.Refusal.TheVariants.{NoMemory, BadLine}
+use Rattle.lq_value.specs.declared.refusal.Refusal.TheVariants.{NoMemory, BadLine, BadQuery}
 use Rattle.lq_value.specs.Refusal.{code_of}
 use Rattle.lq_predicate.specs.Stacked.{Stacked}
 use Rattle.lq_desk_world.specs.declared.event.Event.{Event as Event_}
-use Rattle.lq_desk_world.specs.Events.{Answer, Refused}
+use Rattle.lq_desk_world.specs.Events.{Answer, Opened, Refused}
 use Rattle.lq_desk.specs.Ready.{TellsReady}
 use Rattle.lq_script_request.specs.declared.request.Request.{Request}
-use Rattle.lq_script_request.specs.declared.request.Request.TheVariants.{Event}
-use Rattle.lq_script_desk.specs.Response.{Response, Refuses}
+use Rattle.lq_script_request.specs.declared.request.Request.TheVariants.{Event, Look}
+use Rattle.lq_script_desk.specs.Response.{Response, Fetched, Rebuilt, Refuses}
 use Rattle.lq_script_desk.specs.Session.{Session}
 use Rattle.lq_script_desk.specs.Keeps.{without_fold}
-use Rattle.lq_script_desk.specs.Answered.{answered}
+use Rattle.lq_script_desk.specs.Answered.{Responds, answered}
 use Rattle.lq_script_desk.specs.Turned.{Turned}
 use Rattle.lq_embed.specs.declared.out_structs.AppliedOut.{AppliedOut}
 use Rattle.lq_embed.specs.declared.out_structs.OpeningOut.{OpeningOut}
@@ -22,7 +22,7 @@ use Rattle.lq_embed.specs.declared.out_structs.RebuiltOut.{RebuiltOut}
 use Rattle.lq_embed.specs.declared.out_structs.RowOut.{RowOut}
 use Rattle.lq_embed.specs.declared.out_structs.MessageOut.{MessageOut}
 use Rattle.lq_embed.specs.declared.out_structs.InfoOut.{InfoOut}
-use Rattle.lq_embed.specs.Outs.{applied_after, opening_after, entries_after, change_after, fault_after, read_after, node_after, fetched_after, rebuilt_after, fetched_entries, rebuilt_entries, looked_fault, info_after, row_after}
+use Rattle.lq_embed.specs.Outs.{applied_after, opening_after, change_after, read_after, node_after, fetched_after, rebuilt_after, info_after, row_after}
 use Rattle.lq_embed.specs.SessionState.{SessionState, volume_in, with_session, with_entries, with_fault, with_pushed}
 use Rattle.lq_embed.specs.Status.{status_of, response_status}
 
@@ -39,7 +39,7 @@ abbrev pub Asks : Session → Session → Result Request Refusal → Answer → 
 Asks old new (Err refusal) answer = IsBarred old new refusal answer
 Asks old new (Ok (Event event)) answer =
     IsBarred old new NoMemory answer ⊎ Turned old new event answer
-Asks old new (Ok look) answer = IsBarred old new BadLine answer
+Asks old new (Ok (Look look)) answer = IsBarred old new BadLine answer
 
 -- a change
 pub record Changes (old new : SessionState) (q : Result Request Refusal) (status : ℕ)
@@ -50,7 +50,18 @@ pub record Changes (old new : SessionState) (q : Result Request Refusal) (status
   pub out : after ≡ applied_after answer before
   pub beside : new ≡ with_session old new.session
 
--- an opening, whose result is to be given; the stack of pushes afterwards
+-- the state after a refusal, whose place is kept if it has one
+abbrev pub state_after_refusal : Refusal → SessionState → SessionState
+state_after_refusal (BadQuery place) s = with_fault s place
+state_after_refusal refusal s = s
+
+-- the state after the answer to an opening, whose result is to be given
+abbrev pub state_after_opening : Answer → SessionState → SessionState
+state_after_opening (Opened slot at result) s = with_entries s result
+state_after_opening (Refused refusal) s = state_after_refusal refusal s
+state_after_opening answer s = s
+
+-- an opening, and the stack of pushes afterwards
 pub record Opens (old new : SessionState) (stack : Stacked) (q : Result Request Refusal)
     (status : ℕ)
     (before after : OpeningOut) : Type 0 where
@@ -58,10 +69,7 @@ pub record Opens (old new : SessionState) (stack : Stacked) (q : Result Request 
   pub asks : Asks old.session new.session q answer
   pub code : status ≡ status_of answer
   pub out : after ≡ opening_after answer before
-  pub entries : new.entries ≡ entries_after answer old.entries
-  pub fault : new.fault ≡ fault_after answer old.fault
-  pub text : new.text ≡ old.text
-  pub pushed : new.pushed ≡ stack
+  pub kept : new ≡ state_after_opening answer (with_pushed (with_session old new.session) stack)
 
 -- a read of a slot
 pub record ReadsSlot (old new : SessionState) (event : Event_) (status : ℕ)
@@ -98,10 +106,15 @@ forgotten s slot = with_session s (without_fold s.session slot)
 
 -- ---- looks
 
--- the response to a request as to a line that makes it, or memory ran out
-abbrev pub Responds : Session → Result Request Refusal → Response → Type 0
-Responds session q response = (response ≡ Refuses NoMemory)
-    ⊎ (response ≡ (answered session q).0)
+-- the state after a fetch and after a look at a slot: a result that was made is to be given
+abbrev pub state_after_fetch : Response → SessionState → SessionState
+state_after_fetch (Fetched at result) s = with_entries s result
+state_after_fetch (Refuses refusal) s = state_after_refusal refusal s
+state_after_fetch response s = s
+
+abbrev pub state_after_rebuilt : Response → SessionState → SessionState
+state_after_rebuilt (Rebuilt change result settled) s = with_entries s result
+state_after_rebuilt response s = s
 
 -- the node at a place
 pub record FindsNode (old new : SessionState) (q : Result Request Refusal) (status : ℕ)
@@ -113,7 +126,7 @@ pub record FindsNode (old new : SessionState) (q : Result Request Refusal) (stat
   pub out : after ≡ node_after response before
   pub stays : new ≡ old
 
--- a fetch, whose result is to be given; the stack of pushes afterwards
+-- a fetch, and the stack of pushes afterwards
 pub record Fetches (old new : SessionState) (stack : Stacked) (q : Result Request Refusal)
     (status : ℕ)
     (before after : FetchedOut) : Type 0 where
@@ -121,20 +134,16 @@ pub record Fetches (old new : SessionState) (stack : Stacked) (q : Result Reques
   pub responds : Responds old.session q response
   pub code : status ≡ response_status response
   pub out : after ≡ fetched_after response before
-  pub entries : new.entries ≡ fetched_entries response old.entries
-  pub fault : new.fault ≡ looked_fault response old.fault
-  pub session : new.session ≡ old.session
-  pub text : new.text ≡ old.text
-  pub pushed : new.pushed ≡ stack
+  pub kept : new ≡ state_after_fetch response (with_pushed old stack)
 
--- a slot's rebuilt result, which is to be given
+-- a slot's rebuilt result
 pub record Rebuilds (old new : SessionState) (q : Result Request Refusal) (status : ℕ)
     (before after : RebuiltOut) : Type 0 where
   pub response : Response
   pub responds : Responds old.session q response
   pub code : status ≡ response_status response
   pub out : after ≡ rebuilt_after response before
-  pub entries : new ≡ with_entries old (rebuilt_entries response old.entries)
+  pub kept : new ≡ state_after_rebuilt response old
 
 -- the entry of a node
 pub record ShowsEntry (old new : SessionState) (q : Result Request Refusal) (status : ℕ)
@@ -149,7 +158,8 @@ pub record ShowsEntry (old new : SessionState) (q : Result Request Refusal) (sta
 -- fit is refused, and the number of pushes before it is kept as its place. A refused push leaves
 -- the stack.
 abbrev pub Pushes : SessionState → SessionState → Result (Option Stacked) Refusal → ℕ → Type 0
-Pushes old new (Err refusal) status = (status ≡ code_of refusal) × (new ≡ old)
+Pushes old new (Err refusal) status =
+    (status ≡ code_of refusal) × (new ≡ state_after_refusal refusal old)
 Pushes old new (Ok None) status = (status ≡ 20) × (new ≡ with_fault old old.pushed.pushes)
 Pushes old new (Ok (Some stack)) status =
     ((status ≡ 0) × (new ≡ with_pushed old stack)) ⊎ ((status ≡ 15) × (new ≡ old))

@@ -3,6 +3,7 @@ pub mod Status
 pub mod Outs
 pub mod Numbers
 pub mod Requests
+pub mod Pushed
 pub mod Calls
 pub mod Attrs
 pub mod Folders

@@ -1,8 +1,6 @@
 -- What a call writes for its caller, by the answer.
-use Rattle.std.specs.Prelude.{ℕ, ℤ, pos, List, [], ◌∷◌, ◌++◌, length, drop, false, nat_le, Result, Ok, Err, if◌then◌else◌}
+use Rattle.std.specs.Prelude.{ℕ, ℤ, pos, List, [], ◌∷◌, ◌++◌, length, drop, false, nat_le, if◌then◌else◌}
 use Rattle.lq_value.specs.declared.entry.Entry.{Entry}
-use Rattle.lq_value.specs.declared.refusal.Refusal.{Refusal}
-use Rattle.lq_value.specs.declared.refusal.Refusal.TheVariants.{BadQuery}
 use Rattle.lq_value.specs.declared.value.Value.{Value}
 use Rattle.lq_value.specs.declared.value.Value.TheVariants as value
 use Rattle.lq_volume.specs.State as volume
@@ -13,9 +11,9 @@ use Rattle.lq_update.specs.declared.message.Opcode.TheVariants as op
 use Rattle.lq_update.specs.declared.mark.Cause.{Cause}
 use Rattle.lq_update.specs.declared.mark.Cause.TheVariants as cause
 use Rattle.lq_update.specs.declared.parcel.Parcel.TheVariants.{Update, Fin}
-use Rattle.lq_desk_world.specs.Events.{Answer, Changed, Opened, Took, Empty, Ended, Shut, Refused}
+use Rattle.lq_desk_world.specs.Events.{Answer, Changed, Opened, Took, Empty, Ended, Shut}
 use Rattle.lq_script_desk.specs.Answered.{entry_answer}
-use Rattle.lq_script_desk.specs.Response.{Response, Found, Listed, Fetched, Rebuilt, Refuses}
+use Rattle.lq_script_desk.specs.Response.{Response, Found, Listed, Fetched, Rebuilt}
 use Rattle.lq_embed.specs.Numbers.{number_of_kind}
 use Rattle.lq_embed.specs.declared.out_structs.AppliedOut.{AppliedOut}
 use Rattle.lq_embed.specs.declared.out_structs.OpeningOut.{OpeningOut}
@@ -51,23 +49,10 @@ opening_after (Opened slot at result) out =
     record { slot = slot; at = at; count = length result }
 opening_after answer out = out
 
-abbrev pub entries_after : Answer → List Entry → List Entry
-entries_after (Opened slot at result) entries = result
-entries_after answer entries = entries
-
 -- the last change that a closed subscription covers
 abbrev pub change_after : Answer → ℕ → ℕ
 change_after (Shut change) out = change
 change_after answer out = out
-
--- the place of the last fault of a formula
-abbrev pub fault_by : Refusal → ℕ → ℕ
-fault_by (BadQuery place) fault = place
-fault_by refusal fault = fault
-
-abbrev pub fault_after : Answer → ℕ → ℕ
-fault_after (Refused refusal) fault = fault_by refusal fault
-fault_after answer fault = fault
 
 -- ---- reads
 
@@ -147,19 +132,6 @@ rebuilt_after (Rebuilt change result settled) out =
     record { change = change; count = length result; settled = settled }
 rebuilt_after response out = out
 
--- the entries that are to be given after a fetch, and after a slot's result was asked for
-abbrev pub fetched_entries : Response → List Entry → List Entry
-fetched_entries (Fetched at result) entries = result
-fetched_entries response entries = entries
-
-abbrev pub rebuilt_entries : Response → List Entry → List Entry
-rebuilt_entries (Rebuilt change result settled) entries = result
-rebuilt_entries response entries = entries
-
-abbrev pub looked_fault : Response → ℕ → ℕ
-looked_fault (Refuses refusal) fault = fault_by refusal fault
-looked_fault response fault = fault
-
 abbrev pub info_after : Response → InfoOut → InfoOut
 info_after (Listed node r) out = record {
   dir = r.dir;
@@ -232,9 +204,3 @@ attr_after name v out = record {
   name = text_put name out.name;
   text = text_put (text_of v) out.text;
 }
-
--- ---- pushes
-
-abbrev pub outcome_fault : {T : Type 0} → Result T Refusal → ℕ → ℕ
-outcome_fault (Ok x) fault = fault
-outcome_fault (Err refusal) fault = fault_by refusal fault

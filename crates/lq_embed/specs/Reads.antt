@@ -1,8 +1,7 @@
 -- Several reads of a slot in one call: what that many reads would do, one after another.
 use Rattle.std.specs.Prelude.{◌≡◌, ◌≢◌, ◌⊎◌, ◌-◌, ◌^◌, ℕ, zero, suc, List, [], ◌∷◌, ◌++◌, length, Bool, true, false, Result, Ok, Err}
 use Rattle.lq_value.specs.declared.refusal.Refusal.{Refusal}
-use Rattle.lq_value.specs.Refusal.{code_of}
-use Rattle.lq_update.specs.declared.parcel.Parcel.TheVariants.{Update, Fin}
+use Rattle.lq_update.specs.declared.parcel.Parcel.TheVariants.{Update}
 use Rattle.lq_desk_world.specs.declared.event.Event.TheVariants.{Close, Finish, Take}
 use Rattle.lq_desk_world.specs.Events.{Answer, Took, Refused}
 use Rattle.lq_script_desk.specs.Turned.{Turned}
@@ -10,6 +9,7 @@ use Rattle.lq_embed.specs.declared.out_structs.MessageOut.{MessageOut}
 use Rattle.lq_embed.specs.Calls.{Acts, Ends}
 use Rattle.lq_embed.specs.Outs.{read_after}
 use Rattle.lq_embed.specs.SessionState.{SessionState, with_session}
+use Rattle.lq_embed.specs.Status.{outcome_status}
 
 -- ---- reads into a caller's places
 
@@ -40,11 +40,7 @@ ReadsEach slot old (place ∷ places) after new =
     (next : SessionState) × (read : MessageOut) × (reads : List MessageOut) × (after ≡ read ∷ reads)
     × ReadsOne old next slot (Ok true) place read × ReadsEach slot next places reads new
 
--- the status of the last read, and the count that is written: none where it is refused
-abbrev pub last_status : Result Bool Refusal → ℕ
-last_status (Ok parcel) = 0
-last_status (Err refusal) = code_of refusal
-
+-- the count that is written after the last read: none where it is refused
 abbrev pub last_count : Result Bool Refusal → ℕ → ℕ → ℕ
 last_count (Ok parcel) before count = count
 last_count (Err refusal) before count = before
@@ -70,7 +66,7 @@ pub record IsStopped (old new : SessionState) (slot status : ℕ) (before after 
   pub outcome : Result Bool Refusal
   pub read : ReadsOne last new slot outcome place place
   pub none : outcome ≢ Ok true
-  pub code : status ≡ last_status outcome
+  pub code : status ≡ outcome_status outcome
   pub count : got ≡ last_count outcome got_before (length reads)
 
 abbrev pub ReadsMany : SessionState → SessionState → ℕ → ℕ → List MessageOut → List MessageOut → ℕ

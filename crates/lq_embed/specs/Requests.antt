@@ -4,20 +4,18 @@ use Rattle.std.specs.Str.{is_utf8}
 use Rattle.lq_value.specs.declared.refusal.Refusal.{Refusal}
 use Rattle.lq_value.specs.declared.refusal.Refusal.TheVariants.{NotUtf8, BadLine, BadQuery}
 use Rattle.lq_value.specs.declared.kind.Kind.{Kind}
-use Rattle.lq_value.specs.declared.value.Value.{Value}
 use Rattle.lq_predicate.specs.Query.{Query}
 use Rattle.lq_predicate.specs.Stacked.{Stacked, new_stack}
-use Rattle.lq_predicate.specs.Stack.{attr_pushed, text_pushed, op_pushed}
-use Rattle.lq_predicate.specs.declared.stack_op.StackOp.{StackOp}
 use Rattle.lq_desk_world.specs.declared.event.Event.TheVariants.{Open}
 use Rattle.lq_script_request.specs.declared.request.Request.{Request}
-use Rattle.lq_script_request.specs.declared.request.Request.TheVariants.{Event, Fetch}
-use Rattle.lq_script_request.specs.Request.{given_text, given_number, asks_create, asks_move, asks_set, asks_unset, asks_open, asks_find, asks_fetch, request_for}
+use Rattle.lq_script_request.specs.declared.request.Request.TheVariants.{Event, Look}
+use Rattle.lq_script_request.specs.declared.request.Look.TheVariants.{Fetch}
+use Rattle.lq_script_request.specs.Request.{Given, given_text, asks_create, asks_move, asks_set, asks_unset, asks_open, asks_find, asks_fetch, request_for}
 use Rattle.lq_embed.specs.Numbers.{kind_numbered}
 
--- a request whose text has to be UTF-8
-abbrev pub in_utf8 : List ℕ → Result Request Refusal → Result Request Refusal
-in_utf8 text request = if is_utf8 text then request else Err NotUtf8
+-- the outcome of a call whose text has to be UTF-8
+abbrev pub in_utf8 : {T : Type 0} → List ℕ → Result T Refusal → Result T Refusal
+in_utf8 text outcome = if is_utf8 text then outcome else Err NotUtf8
 
 -- a creation, if its kind has a number
 abbrev pub creation : ℕ → List ℕ → ℕ → ℤ → Option Kind → Result Request Refusal
@@ -35,9 +33,8 @@ abbrev pub set_text_request : ℕ → List ℕ → List ℕ → Result Request R
 set_text_request node attr text =
     in_utf8 attr (in_utf8 text (request_for (asks_set node attr (given_text text))))
 
-abbrev pub set_request : ℕ → List ℕ → Value → Result Request Refusal
-set_request node attr value =
-    in_utf8 attr (request_for (asks_set node attr (given_number value)))
+abbrev pub set_request : ℕ → List ℕ → Given → Result Request Refusal
+set_request node attr value = in_utf8 attr (request_for (asks_set node attr value))
 
 abbrev pub unset_request : ℕ → List ℕ → Result Request Refusal
 unset_request node attr = in_utf8 attr (request_for (asks_unset node attr))
@@ -54,19 +51,6 @@ fetch_request formula = in_utf8 formula (request_for (asks_fetch formula))
 
 -- ---- pushes
 
--- the stack after a push of an attribute's name, of a text, or of an operator by its number
-abbrev pub push_attr_outcome : List ℕ → Stacked → Result (Option Stacked) Refusal
-push_attr_outcome name stack =
-    if is_utf8 name then Ok (attr_pushed name stack) else Err NotUtf8
-
-abbrev pub push_text_outcome : List ℕ → Stacked → Result (Option Stacked) Refusal
-push_text_outcome text stack =
-    if is_utf8 text then Ok (text_pushed text stack) else Err NotUtf8
-
-abbrev pub push_op_outcome : Option StackOp → Stacked → Result (Option Stacked) Refusal
-push_op_outcome None stack = Err BadLine
-push_op_outcome (Some op) stack = Ok (op_pushed op stack)
-
 -- the request of the predicate that is the stack's only item; else it is refused with the number
 -- of pushes
 abbrev pub open_pushed : ℕ → ℕ → ℕ → Bool → Option Query → Result Request Refusal
@@ -75,7 +59,7 @@ open_pushed pushes port backlog moved (Some q) = Ok (Event (Open q port backlog 
 
 abbrev pub fetch_pushed : ℕ → Option Query → Result Request Refusal
 fetch_pushed pushes None = Err (BadQuery pushes)
-fetch_pushed pushes (Some q) = Ok (Fetch q)
+fetch_pushed pushes (Some q) = Ok (Look (Fetch q))
 
 -- the stack after its only item was taken, if it had one
 abbrev pub left_by : Stacked → Option Query → Stacked

@@ -1,9 +1,10 @@
 //! The attributes of an entry.
 ghost use Rattle.std.specs.Prelude.{◌≡◌};
 ghost use Rattle.lq_value.specs.Value.{shown_by};
-ghost use Rattle.lq_embed.specs.Attrs.{ShowsAttr, ShowsNamed, attr_by_name, attr_by_index, attr_out, attr_status, attr_with_name};
+ghost use Rattle.lq_embed.specs.Attrs.{ShowsAttr, ShowsNamed, attr_by_name, attr_by_index, attr_out, attr_with_name};
 ghost use Rattle.lq_embed.specs.Outs.{attr_after};
 ghost use Rattle.lq_embed.specs.SessionState.{holds, volume_in};
+ghost use Rattle.lq_embed.specs.Status.{outcome_status};
 
 use crate::embedded::Embedded;
 use crate::out_structs::AttrOut;
@@ -53,7 +54,7 @@ impl Embedded {
 
     // Writes the attribute of an entry with this name.
     fn put_named(&self, node: u64, attr: &AttrName, out: &mut AttrOut) -> u32
-        ensures status { result ≡ attr_status
+        ensures status { result ≡ outcome_status
             (attr_with_name (volume_in (holds self.now)) node attr.now) }
         ensures out { out.new ≡ attr_out
             (attr_with_name (volume_in (holds self.now)) node attr.now) out.old }

@@ -1,12 +1,11 @@
 //! Changes of the volume.
-ghost use Rattle.std.specs.Prelude.{◌≡◌, ℤ};
-ghost use Rattle.lq_value.specs.declared.value.Value.TheVariants.{Int32, Int64, UInt32, UInt64};
+ghost use Rattle.std.specs.Prelude.{◌≡◌};
 ghost use Rattle.lq_desk.specs.Reply.{answer_of};
 ghost use Rattle.lq_script_request.specs.Asked.{given};
-ghost use Rattle.lq_script_request.specs.Request.{asks_remove, asks_set, asks_write, request_for};
+ghost use Rattle.lq_script_request.specs.Request.{asks_remove, asks_write, request_for};
 ghost use Rattle.lq_embed.specs.Calls.{Changes};
 ghost use Rattle.lq_embed.specs.Outs.{applied_after};
-ghost use Rattle.lq_embed.specs.Requests.{create_request, in_utf8, move_request, set_request, set_text_request, unset_request};
+ghost use Rattle.lq_embed.specs.Requests.{create_request, move_request, set_request, set_text_request, unset_request};
 ghost use Rattle.lq_embed.specs.SessionState.{holds};
 ghost use Rattle.lq_embed.specs.Status.{status_of};
 
@@ -113,37 +112,17 @@ impl Embedded {
         self.set_attr(node, attr, View::Text(text), out)
     }
 
-    /// Sets an attribute of an entry to a number of 32 bits with a sign. Refused as `set_text`, but
-    /// not with `TooLong`.
-    pub fn set_int32(&mut self, node: u64, attr: &[u8], value: i32, out: &mut AppliedOut) -> u32
+    /// Sets an attribute of an entry to a value. Refused as `set_text`, but with `NotUtf8` for the
+    /// attribute's name alone.
+    pub fn set_attr(&mut self, node: u64, attr: &[u8], value: View<'_>, out: &mut AppliedOut) -> u32
         ensures { Changes (holds self.old) (holds self.new)
-            (set_request node attr.now (Int32 value)) result out.old out.new }
+            (set_request node attr.now (given value.entry)) result out.old out.new }
     {
-        self.set_attr(node, attr, View::Int32(value), out)
-    }
-
-    /// Sets an attribute of an entry to a number of 64 bits with a sign. Refused as `set_int32`.
-    pub fn set_int64(&mut self, node: u64, attr: &[u8], value: i64, out: &mut AppliedOut) -> u32
-        ensures { Changes (holds self.old) (holds self.new)
-            (set_request node attr.now (Int64 value)) result out.old out.new }
-    {
-        self.set_attr(node, attr, View::Int64(value), out)
-    }
-
-    /// Sets an attribute of an entry to a number of 32 bits without a sign. Refused as `set_int32`.
-    pub fn set_uint32(&mut self, node: u64, attr: &[u8], value: u32, out: &mut AppliedOut) -> u32
-        ensures { Changes (holds self.old) (holds self.new)
-            (set_request node attr.now (UInt32 value)) result out.old out.new }
-    {
-        self.set_attr(node, attr, View::UInt32(value), out)
-    }
-
-    /// Sets an attribute of an entry to a number of 64 bits without a sign. Refused as `set_int32`.
-    pub fn set_uint64(&mut self, node: u64, attr: &[u8], value: u64, out: &mut AppliedOut) -> u32
-        ensures { Changes (holds self.old) (holds self.new)
-            (set_request node attr.now (UInt64 value)) result out.old out.new }
-    {
-        self.set_attr(node, attr, View::UInt64(value), out)
+        let Ok(attr) = str::from_utf8(attr) else {
+            return status(Refusal::NotUtf8);
+        };
+        let reply = self.answer_request(&RawRequest::Set { node, attr, value });
+        applied(reply, out)
     }
 
     /// Removes an attribute of an entry.
@@ -158,19 +137,6 @@ impl Embedded {
             return status(Refusal::NotUtf8);
         };
         applied(self.answer_request(&RawRequest::Unset { node, attr }), out)
-    }
-
-    // Sets an attribute of an entry to a value.
-    fn set_attr(&mut self, node: u64, attr: &[u8], value: View<'_>, out: &mut AppliedOut) -> u32
-        ensures { Changes (holds self.old) (holds self.new)
-            (in_utf8 attr.now (request_for (asks_set node attr.now (given value.entry))))
-            result out.old out.new }
-    {
-        let Ok(attr) = str::from_utf8(attr) else {
-            return status(Refusal::NotUtf8);
-        };
-        let reply = self.answer_request(&RawRequest::Set { node, attr, value });
-        applied(reply, out)
     }
 }
 

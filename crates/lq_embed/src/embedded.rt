@@ -11,7 +11,7 @@ ghost use Rattle.lq_embed.specs.SessionState.{first_state, holds, volume_in, wit
 use lq_desk::Reply;
 use lq_predicate::Stack;
 use lq_script_desk::Session;
-use lq_script_request::{RawRequest, Request, Scratch, read_request};
+use lq_script_request::{RawRequest, RecentAttrs, Request, read_request};
 use lq_value::{Entry, Refusal};
 use std::alloc::Global;
 use std::vec::IntoIter;
@@ -22,8 +22,8 @@ use std::vec::IntoIter;
 pub struct Embedded {
     pub(crate) alloc: Global,
     pub(crate) session: Session,
-    // The scratch for reading requests, reused from call to call.
-    pub(crate) scratch: Scratch,
+    // The names that requests used last, kept from call to call.
+    pub(crate) attrs: RecentAttrs,
     // The entries of the last result that weren't given yet.
     pub(crate) entries: IntoIter<Entry>,
     // The text of the last line's reply, or of a path.
@@ -39,7 +39,7 @@ impl Drop for Embedded {
         let Embedded {
             alloc: _,
             session: _,
-            scratch: _,
+            attrs: _,
             entries: _,
             text: _,
             stack: _,
@@ -57,7 +57,7 @@ impl Embedded {
         Ok(Embedded {
             alloc,
             session: Session::start(alloc)?,
-            scratch: Scratch::new(alloc),
+            attrs: RecentAttrs::new(alloc),
             entries: Vec::new(alloc).into_iter(),
             text: Vec::new(alloc),
             stack: Stack::new(alloc),
@@ -71,9 +71,9 @@ impl Embedded {
             (request_for (asked raw.now)) (answer_of result) }
         ensures beside { holds self.new ≡ with_session (holds self.old) (keeps self.new.session) }
     {
-        match read_request(self.alloc, &mut self.scratch, raw) {
+        match read_request(self.alloc, &mut self.attrs, raw) {
             Ok(Request::Event(event)) => self.session.turn(&event),
-            Ok(_) => Reply::Refused(Refusal::BadLine),
+            Ok(Request::Look(_)) => Reply::Refused(Refusal::BadLine),
             Err(refusal) => Reply::Refused(refusal),
         }
     }

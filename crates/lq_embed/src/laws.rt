@@ -4,7 +4,7 @@ ghost use Rattle.lq_embed.specs.contracts.embedded.Embedded as embedded;
 
 use lq_predicate::Stack;
 use lq_script_desk::sessions_may_be_sent;
-use lq_script_request::Scratch;
+use lq_script_request::RecentAttrs;
 use lq_value::Entry;
 use std::vec::IntoIter;
 
@@ -15,7 +15,7 @@ pub fn embedded_may_be_sent()
 {
     // For the proof: what an embedded session is made of.
     sessions_may_be_sent();
-    sends::<Scratch>();
+    sends::<RecentAttrs>();
     sends::<IntoIter<Entry>>();
     sends::<Stack>();
 }

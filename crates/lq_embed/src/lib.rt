@@ -32,3 +32,4 @@ pub use out_structs::{
     RowOut,
 };
 pub use out_text::put_text;
+pub use pushes::Push;

@@ -3,9 +3,8 @@ ghost use Rattle.std.specs.Prelude.{◌≡◌, [], length};
 ghost use Rattle.lq_value.specs.Refusal.{code_of};
 ghost use Rattle.lq_desk.specs.Reply.{answer_of};
 ghost use Rattle.lq_desk_world.specs.declared.event.Event.TheVariants.{Close, Finish, HangUp, Take};
-ghost use Rattle.lq_embed.specs.Calls.{Acts, Ends, GivesRow, ReadsSlot, Opens, TellsSlots, forgotten};
-ghost use Rattle.lq_embed.specs.Outs.{bare_after, change_after, entries_after, fault_after, fault_by, from_dir_of, from_name_of, message_after, number_of_cause, number_of_op, opening_after, read_after, row_after, text_put};
-ghost use Rattle.lq_embed.specs.Requests.{open_request};
+ghost use Rattle.lq_embed.specs.Calls.{Acts, Ends, GivesRow, ReadsSlot, TellsSlots, forgotten, state_after_opening, state_after_refusal};
+ghost use Rattle.lq_embed.specs.Outs.{bare_after, change_after, from_dir_of, from_name_of, message_after, number_of_cause, number_of_op, opening_after, read_after, row_after, text_put};
 ghost use Rattle.lq_embed.specs.SessionState.{holds};
 ghost use Rattle.lq_embed.specs.Status.{status_of};
 
@@ -15,47 +14,16 @@ use crate::out_structs::{MessageOut, OpeningOut, RowOut};
 use crate::out_text::put_text;
 use crate::statuses::status;
 use lq_desk::{Event, Read, Reply};
-use lq_script_request::RawRequest;
 use lq_update::{Cause, Mark, Message, Opcode};
 use lq_value::{Entry, Refusal};
 use lq_volume::Volume;
 
 impl Embedded {
-    /// Opens a live query in the lowest free slot; its result is to be given. `port` is the number
-    /// of places of its port, and at most `backlog` messages are held before it.
-    ///
-    /// Refused, the first that fits: `NotUtf8`, `BadQuery`, then as by `Desk::event`; `NoMemory`.
-    pub fn subscribe(
-        &mut self,
-        formula: &[u8],
-        port: u64,
-        backlog: u64,
-        moved: bool,
-        out: &mut OpeningOut,
-    ) -> u32
-        ensures { Opens (holds self.old) (holds self.new) (holds self.old).pushed
-            (open_request formula.now port backlog moved) result out.old out.new }
-    {
-        let Ok(query) = str::from_utf8(formula) else {
-            return status(Refusal::NotUtf8);
-        };
-        let reply = self.answer_request(&RawRequest::Open {
-            query,
-            port,
-            backlog,
-            moved,
-        });
-        self.opened(reply, out)
-    }
-
     // Writes what was opened, keeps its result to be given, and answers the status.
     pub(crate) fn opened(&mut self, reply: Reply, out: &mut OpeningOut) -> u32
         ensures status { result ≡ status_of (answer_of reply) }
         ensures out { out.new ≡ opening_after (answer_of reply) out.old }
-        ensures after { holds self.new ≡ record (holds self.old) {
-          entries = entries_after (answer_of reply) (holds self.old).entries;
-          fault = fault_after (answer_of reply) (holds self.old).fault;
-        } }
+        ensures after { holds self.new ≡ state_after_opening (answer_of reply) (holds self.old) }
     {
         match reply {
             Reply::Opened {
@@ -79,8 +47,7 @@ impl Embedded {
     // The status of a refusal, whose place is kept if it has one.
     pub(crate) fn refused(&mut self, refusal: Refusal) -> u32
         ensures status { result ≡ code_of refusal }
-        ensures after { holds self.new
-            ≡ record (holds self.old) { fault = fault_by refusal (holds self.old).fault } }
+        ensures after { holds self.new ≡ state_after_refusal refusal (holds self.old) }
     {
         if let Refusal::BadQuery { place } = refusal {
             self.fault = place;

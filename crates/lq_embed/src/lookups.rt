@@ -1,19 +1,16 @@
 //! Looks at the volume, which change nothing in it.
-ghost use Rattle.std.specs.Prelude.{◌≡◌, ◌⊎◌, Ok};
-ghost use Rattle.std.specs.Option.{option_map};
-ghost use Rattle.lq_value.specs.declared.refusal.Refusal.TheVariants.{NoMemory};
-ghost use Rattle.lq_volume.specs.Result.{result_of};
+ghost use Rattle.std.specs.Prelude.{◌≡◌, Ok};
 ghost use Rattle.lq_script_request.specs.Asked.{asked};
 ghost use Rattle.lq_script_request.specs.Request.{request_for};
-ghost use Rattle.lq_script_request.specs.declared.request.Request.TheVariants.{Entry, Rebuilt};
+ghost use Rattle.lq_script_request.specs.declared.request.Request.TheVariants as request;
+ghost use Rattle.lq_script_request.specs.declared.request.Look.TheVariants.{Entry, Rebuilt};
 ghost use Rattle.lq_script_desk.specs.Answer.{response_of};
-ghost use Rattle.lq_script_desk.specs.Response.{Fetched, Refuses};
-ghost use Rattle.lq_script_desk.specs.Answered.{found_in, rebuilt};
+ghost use Rattle.lq_script_desk.specs.Answered.{Responds};
 ghost use Rattle.lq_script_desk.specs.Keeps.{keeps};
-ghost use Rattle.lq_embed.specs.Calls.{Fetches, FindsNode, Rebuilds, Responds, ShowsEntry};
-ghost use Rattle.lq_embed.specs.Outs.{fetched_after, fetched_entries, looked_fault, node_after, rebuilt_after, rebuilt_entries};
+ghost use Rattle.lq_embed.specs.Calls.{Fetches, FindsNode, Rebuilds, ShowsEntry, state_after_fetch, state_after_rebuilt};
+ghost use Rattle.lq_embed.specs.Outs.{fetched_after, node_after, rebuilt_after};
 ghost use Rattle.lq_embed.specs.Requests.{fetch_request, find_request};
-ghost use Rattle.lq_embed.specs.SessionState.{holds, with_entries};
+ghost use Rattle.lq_embed.specs.SessionState.{holds};
 ghost use Rattle.lq_embed.specs.Status.{response_status};
 
 use crate::embedded::Embedded;
@@ -21,12 +18,9 @@ use crate::numbers::number_of_kind;
 use crate::out_structs::{FetchedOut, InfoOut, RebuiltOut};
 use crate::out_text::put_text;
 use crate::statuses::status;
-use lq_predicate::Predicate;
 use lq_script_desk::Response;
-use lq_script_request::{RawRequest, Request, read_request};
-use lq_update::IndexedRebuild;
-use lq_value::{Name, Refusal};
-use lq_volume::Volume;
+use lq_script_request::{Look, RawRequest, Request, read_request};
+use lq_value::Refusal;
 
 impl Embedded {
     /// Fetches the entries that match a formula; they are then to be given.
@@ -60,10 +54,10 @@ impl Embedded {
     ///
     /// Refused: `NotOpen` where the slot is free or was left without one, `NoMemory`.
     pub fn rebuilt(&mut self, slot: u64, out: &mut RebuiltOut) -> u32
-        ensures { Rebuilds (holds self.old) (holds self.new) (Ok (Rebuilt slot))
+        ensures { Rebuilds (holds self.old) (holds self.new) (Ok (request.Look (Rebuilt slot)))
             result out.old out.new }
     {
-        let response = self.respond(&Request::Rebuilt { slot });
+        let response = self.session.look(&Look::Rebuilt { slot });
         self.given(response, out)
     }
 
@@ -71,8 +65,8 @@ impl Embedded {
     fn given(&mut self, response: Response, out: &mut RebuiltOut) -> u32
         ensures status { result ≡ response_status (response_of response) }
         ensures out { out.new ≡ rebuilt_after (response_of response) out.old }
-        ensures after { holds self.new ≡ with_entries (holds self.old)
-            (rebuilt_entries (response_of response) (holds self.old).entries) }
+        ensures after { holds self.new
+            ≡ state_after_rebuilt (response_of response) (holds self.old) }
     {
         match response {
             Response::Rebuilt {
@@ -97,10 +91,7 @@ impl Embedded {
     pub(crate) fn fetched(&mut self, response: Response, out: &mut FetchedOut) -> u32
         ensures status { result ≡ response_status (response_of response) }
         ensures out { out.new ≡ fetched_after (response_of response) out.old }
-        ensures after { holds self.new ≡ record (holds self.old) {
-          entries = fetched_entries (response_of response) (holds self.old).entries;
-          fault = looked_fault (response_of response) (holds self.old).fault;
-        } }
+        ensures after { holds self.new ≡ state_after_fetch (response_of response) (holds self.old) }
     {
         match response {
             Response::Fetched {
@@ -119,28 +110,16 @@ impl Embedded {
         }
     }
 
-    // The response to a raw request for a look.
+    // The response to a raw request for a look. No event is asked for.
     fn look(&mut self, raw: &RawRequest<'_>) -> Response
         ensures responds { Responds (keeps self.old.session) (request_for (asked raw.now))
             (response_of result) }
         ensures stays { holds self.new ≡ holds self.old }
     {
-        match read_request(self.alloc, &mut self.scratch, raw) {
-            Ok(request) => self.respond(&request),
+        match read_request(self.alloc, &mut self.attrs, raw) {
+            Ok(Request::Look(look)) => self.session.look(&look),
+            Ok(Request::Event(_)) => Response::Refused(Refusal::NoMemory),
             Err(refusal) => Response::Refused(refusal),
-        }
-    }
-
-    // The response to a request for a look, or that memory ran out. No look is an event.
-    pub(crate) fn respond(&self, request: &Request) -> Response
-        ensures { Responds (keeps self.now.session) (Ok request.now) (response_of result) }
-    {
-        let volume = self.session.volume();
-        match request {
-            Request::Find { dir, name } => found(volume, *dir, name),
-            Request::Fetch { predicate } => matching(volume, predicate),
-            Request::Rebuilt { slot } => rebuilt(self.session.rebuild(*slot)),
-            Request::Event(_) | Request::Entry { .. } => Response::Refused(Refusal::NoMemory),
         }
     }
 
@@ -148,7 +127,7 @@ impl Embedded {
     ///
     /// Refused: `NoNode` where there is no such node, `NoEntry` for the root.
     pub fn entry(&mut self, node: u64, out: &mut InfoOut) -> u32
-        ensures { ShowsEntry (holds self.old) (holds self.new) (Ok (Entry node))
+        ensures { ShowsEntry (holds self.old) (holds self.new) (Ok (request.Look (Entry node)))
             result out.old out.new }
     {
         match self.session.volume().entry(node) {
@@ -164,46 +143,6 @@ impl Embedded {
                 0
             }
         }
-    }
-}
-
-// The node at a place.
-fn found(volume: &Volume, dir: u64, name: &Name) -> Response
-    ensures { response_of result ≡ found_in volume.now dir name.now }
-{
-    match volume.find(dir, name) {
-        Ok(node) => Response::Found { node },
-        Err(refusal) => Response::Refused(refusal),
-    }
-}
-
-// The entries that match a predicate.
-fn matching(volume: &Volume, predicate: &Predicate) -> Response
-    ensures { (response_of result ≡ Refuses NoMemory) ⊎ (response_of result
-        ≡ Fetched volume.now.number (result_of predicate.now volume.now)) }
-{
-    let at = volume.changes();
-    match volume.fetch(predicate) {
-        Ok(result) => Response::Fetched { at, result },
-        Err(refusal) => Response::Refused(refusal),
-    }
-}
-
-// The rebuilt result of a slot, if it has one.
-fn rebuilt(rebuild: Option<&IndexedRebuild>) -> Response
-    ensures { (response_of result ≡ Refuses NoMemory)
-        ⊎ (response_of result ≡ rebuilt (option_map (λ r. r.now) rebuild.entry)) }
-{
-    let Some(rebuild) = rebuild else {
-        return Response::Refused(Refusal::NotOpen);
-    };
-    match rebuild.entries() {
-        Err(refusal) => Response::Refused(refusal),
-        Ok(result) => Response::Rebuilt {
-            change: rebuild.last_change(),
-            result,
-            settled: rebuild.is_settled(),
-        },
     }
 }
 

@@ -7,6 +7,10 @@ ghost use Rattle.lq_embed.specs.SessionState.{holds};
 
 use crate::embedded::Embedded;
 use crate::out_structs::{OpenOptions, OpeningOut};
+use crate::statuses::status;
+use lq_desk::Event;
+use lq_script_request::RawRequest;
+use lq_value::Refusal;
 
 /// The places of each port: a caller without threads can't tell them from the backlog.
 const PORT: u64 = 1;
@@ -15,20 +19,34 @@ const PORT: u64 = 1;
 const BACKLOG: u64 = 65536;
 
 impl Embedded {
-    /// Opens a live query of a formula with a port of one place. Refused as `subscribe`.
+    /// Opens a live query of a formula in the lowest free slot, with a port of one place. Its
+    /// result is to be given.
+    ///
+    /// Refused, the first that fits: `NotUtf8`, `BadQuery`, then as by `Desk::event`; `NoMemory`.
     pub fn open_by(&mut self, formula: &[u8], options: &OpenOptions, out: &mut OpeningOut) -> u32
         ensures { OpensBy (holds self.old) (holds self.new) (holds self.old).pushed options.now
             (open_request formula.now 1 (backlog_of options.now.backlog) options.now.moved)
             result out.old out.new }
     {
-        let backlog = backlog_of(options.backlog);
-        let status = self.subscribe(formula, PORT, backlog, options.moved, out);
+        let Ok(query) = str::from_utf8(formula) else {
+            return status(Refusal::NotUtf8);
+        };
+        let reply = self.answer_request(&RawRequest::Open {
+            query,
+            port: PORT,
+            backlog: backlog_of(options.backlog),
+            moved: options.moved,
+        });
+        let status = self.opened(reply, out);
         self.keep_by(options.no_result, status, out.slot);
         status
     }
 
-    /// Opens a live query of the predicate that is the stack's only item, with a port of one place.
-    /// Refused as `subscribe_pushed`.
+    /// Opens a live query of the predicate that is the stack's only item, which is taken off also
+    /// where the opening is refused, with a port of one place.
+    ///
+    /// Refused, the first that fits: `BadQuery` where the stack holds anything else, then as
+    /// `open_by`; `NoMemory`.
     pub fn open_pushed_by(&mut self, options: &OpenOptions, out: &mut OpeningOut) -> u32
         ensures { OpensBy (holds self.old) (holds self.new)
             (left_by (holds self.old).pushed (only_part (holds self.old).pushed.items))
@@ -36,8 +54,17 @@ impl Embedded {
             (open_pushed (holds self.old).pushed.pushes 1 (backlog_of options.now.backlog)
             options.now.moved (only_part (holds self.old).pushed.items)) result out.old out.new }
     {
-        let backlog = backlog_of(options.backlog);
-        let status = self.subscribe_pushed(PORT, backlog, options.moved, out);
+        let predicate = match self.stack.finish() {
+            Ok(predicate) => predicate,
+            Err(refusal) => return self.refused(refusal),
+        };
+        let reply = self.session.turn(&Event::Open {
+            predicate,
+            port: PORT,
+            backlog: backlog_of(options.backlog),
+            moved: options.moved,
+        });
+        let status = self.opened(reply, out);
         self.keep_by(options.no_result, status, out.slot);
         status
     }

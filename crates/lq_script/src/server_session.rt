@@ -11,7 +11,7 @@ use crate::tokens::OwnSeat;
 use crate::workers::Workers;
 use lq_predicate::Predicate;
 use lq_script_desk::{Reply, Response};
-use lq_script_request::{Event, Request};
+use lq_script_request::{Event, Look, Request};
 use lq_server::{Named, Server};
 use lq_value::Refusal;
 use std::alloc::Global;
@@ -111,10 +111,16 @@ impl<
     {
         match request {
             Request::Event(event) => self.event(event),
-            Request::Find { dir, name } => self.seat.find(self.rt, self.server, *dir, name),
-            Request::Entry { node } => self.seat.listing(self.rt, self.server, *node),
-            Request::Fetch { predicate } => self.seat.fetch(self.rt, self.server, predicate),
-            Request::Rebuilt { slot } => self.readers.reader(*slot)?.rebuilt(self.alloc),
+            Request::Look(Look::Find { dir, name }) => {
+                self.seat.find(self.rt, self.server, *dir, name)
+            }
+            Request::Look(Look::Entry { node }) => self.seat.listing(self.rt, self.server, *node),
+            Request::Look(Look::Fetch { predicate }) => {
+                self.seat.fetch(self.rt, self.server, predicate)
+            }
+            Request::Look(Look::Rebuilt { slot }) => {
+                self.readers.reader(*slot)?.rebuilt(self.alloc)
+            }
         }
     }
 

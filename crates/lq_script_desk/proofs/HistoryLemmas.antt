@@ -1,5 +1,6 @@
 -- The events of a script, the answers to them, and its replies.
 use Rattle.std.proofs.Common.{◌≡◌, ℕ, zero, suc, ◌+◌, List, [], ◌∷◌, ◌++◌, length, refl, ap, ap₂, ◌∙◌, sym, arith, append_assoc, inl, Option, Some, None, Result, Ok, Err}
+use Rattle.std.specs.Result.{result_ok}
 use Rattle.lq_value.specs.declared.refusal.Refusal.{Refusal}
 use Rattle.lq_desk_world.specs.World.{World}
 use Rattle.lq_desk_world.specs.declared.event.Event.{Event}
@@ -18,7 +19,7 @@ use Rattle.lq_script_desk.specs.Reply.{reply_text}
 use Rattle.lq_script_desk.specs.Response.{Answers}
 use Rattle.lq_script_desk.specs.Script.{script_session, script_world, world_rules}
 use Rattle.lq_script_desk.specs.Session.{Session, session_with}
-use Rattle.lq_script_desk.specs.History.{IsReplied, answer_after, answers_to, event_of, events_asked, events_before, events_of, request_of, request_read, replies_of, session_after, turns_of, world_after}
+use Rattle.lq_script_desk.specs.History.{IsReplied, answer_after, answers_to, event_of, events_asked, events_before, events_of, request_of, replies_of, session_after, turns_of, world_after}
 
 -- ---- events one after another
 
@@ -165,7 +166,7 @@ ArePlayed lines = (s : Session) → state_after_all world_rules s lines
 read-played : (lines : List (List ℕ)) → ArePlayed lines → (s : Session)
     (r : Result Request Refusal) → state_after_all world_rules (answered s r).1 lines
     ≡ after_events session_step s
-    (turns_of s.core (event_of (request_read r) ++ events_asked lines))
+    (turns_of s.core (event_of (result_ok r) ++ events_asked lines))
 read-played lines played s (Ok (request.Event e)) =
     let rest = turns_of (turn_outcome s.core e).1 (events_asked lines) in
     played (responds s (request.Event e)).1
@@ -224,7 +225,7 @@ reply-place lines before after bytes is =
 
 -- the response to a request that was read
 read-response : (s : Session) (r : Result Request Refusal) (q : Request)
-    → request_read r ≡ Some q → (answered s r).0 ≡ (responds s q).0
+    → result_ok r ≡ Some q → (answered s r).0 ≡ (responds s q).0
 read-response s r q is = grind arith
 
 -- the reply to a line that makes a request

@@ -6,6 +6,7 @@ use Rattle.lq_script_lines.specs.Lines.{line_of}
 use Rattle.lq_script_lines.specs.Outcome.{IsRunOutcome, ReaderLog, WriterLog}
 use Rattle.lq_script_lines.specs.declared.run_fault.RunFault.{RunFault}
 use Rattle.lq_script_request.specs.declared.request.Request.TheVariants as request
+use Rattle.lq_script_request.specs.declared.request.Look.TheVariants as look
 use Rattle.lq_script_desk.specs.Script.{out_of, script_session, script_world, world_rules}
 use Rattle.lq_script_desk.specs.History.{IsRebuilt, ScriptsTellReaders, TellsReaders, answers_of, events_of, request_of, replies_of, session_after, world_after}
 use Rattle.lq_script_desk.proofs.HistoryLemmas.{line-reply, replied, reply-place, run-answers}
@@ -16,14 +17,16 @@ module _ (law : RunsTellReaders) (rebuilds : RebuildsTakeAll) (follow : Foldings
     (keep : ReadsKeepFolds) where
   -- the reply to a line that asks for a slot's result
   rebuilt-reply : (lines before after : List (List ℕ)) (bytes : List ℕ) (slot : ℕ)
-      → lines ≡ before ++ bytes ∷ after → request_of (line_of bytes) ≡ Some (request.Rebuilt slot)
+      → lines ≡ before ++ bytes ∷ after
+      → request_of (line_of bytes) ≡ Some (request.Look (look.Rebuilt slot))
       → IsRebuilt lines before slot
   rebuilt-reply lines before after bytes slot is asks =
       let text = reply-place lines before after bytes is in record {
         reply = (
           text.0,
           sym (text.1 ∙ ap (λ own. (replies_of before ++ own) ++ text.0)
-              (line-reply (session_after before) (line_of bytes) (request.Rebuilt slot) asks)),
+              (line-reply (session_after before) (line_of bytes)
+              (request.Look (look.Rebuilt slot)) asks)),
         );
         taken = taken-kept keep before slot;
         fold = script-folds law rebuilds follow before slot;

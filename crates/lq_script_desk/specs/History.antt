@@ -1,8 +1,8 @@
 -- The events of a script and the answers to them: those of the turns of its lines, joined.
-use Rattle.std.specs.Prelude.{◌≡◌, ℕ, List, [], ◌∷◌, ◌++◌, length, Bool, false, Option, Some, None, is_some, Result, Ok, Err, OnOk, OnErr}
+use Rattle.std.specs.Prelude.{◌≡◌, ℕ, List, [], ◌∷◌, ◌++◌, length, Bool, false, Option, Some, None, is_some, Result, OnOk, OnErr}
+use Rattle.std.specs.Result.{result_ok}
 use Rattle.std.specs.Io.KnownBytes.{Appends, Consumes}
 use Rattle.lq_value.specs.declared.entry.Entry.{Entry}
-use Rattle.lq_value.specs.declared.refusal.Refusal.{Refusal}
 use Rattle.lq_predicate.specs.Query.{Query}
 use Rattle.lq_volume.specs.State.{empty_state}
 use Rattle.lq_update.specs.Fold.{Folding, folded, is_settled, last_change}
@@ -20,6 +20,7 @@ use Rattle.lq_script_lines.specs.Outcome.{ReaderLog, WriterLog}
 use Rattle.lq_script_lines.specs.declared.run_fault.RunFault.{RunFault}
 use Rattle.lq_script_request.specs.declared.request.Request.{Request}
 use Rattle.lq_script_request.specs.declared.request.Request.TheVariants as request
+use Rattle.lq_script_request.specs.declared.request.Look.TheVariants as look
 use Rattle.lq_script_request.specs.Request.{request_in}
 use Rattle.lq_script_desk.specs.Answered.{rebuilt, slot_named}
 use Rattle.lq_script_desk.specs.Folds.{fold_at}
@@ -30,16 +31,11 @@ use Rattle.lq_script_desk.specs.Session.{Session}
 
 -- ---- the events that lines ask for
 
--- the request that was read, if one was
-abbrev pub request_read : Result Request Refusal → Option Request
-request_read (Ok q) = Some q
-request_read (Err e) = None
-
 -- the request that a line asks, if it asks one
 abbrev pub request_of : Line → Option Request
 request_of long = None
 request_of empty = None
-request_of (whole bytes) = request_read (request_in bytes)
+request_of (whole bytes) = result_ok (request_in bytes)
 
 -- the event that a request asks for, if it asks for one
 abbrev pub event_of : Option Request → List Event
@@ -162,7 +158,8 @@ pub record IsScript (lines : List (List ℕ)) : Type 0 where
       → lines ≡ before ++ bytes ∷ after → request_of (line_of bytes) ≡ Some (request.Event e)
       → IsReplied lines before e
   pub results : (before after : List (List ℕ)) (bytes : List ℕ) (slot : ℕ)
-      → lines ≡ before ++ bytes ∷ after → request_of (line_of bytes) ≡ Some (request.Rebuilt slot)
+      → lines ≡ before ++ bytes ∷ after
+      → request_of (line_of bytes) ≡ Some (request.Look (look.Rebuilt slot))
       → IsRebuilt lines before slot
   -- a slot has a fold just where it is taken
   pub kept : (slot : ℕ) → is_some (subscribed_at (world_after lines) slot)

@@ -1,6 +1,6 @@
 -- The text of a response: the compact text of a JSON value, with its keys in byte order, and LF.
 use Rattle.std.specs.Prelude.{ℕ, Bool, List, [], ◌∷◌, ◌++◌, map, Option, Some, None, codes}
-use Rattle.serde_json.specs.Data.{Data, number, unsigned, string, boolean, array, object, member, no_members}
+use Rattle.serde_json.specs.Data.{Data, number, unsigned, string, boolean, array, object, Members, member, no_members}
 use Rattle.serde_json.specs.Find.{of_integer}
 use Rattle.serde_json.specs.View.{items_of}
 use Rattle.serde_json.specs.Written.{compact_text}
@@ -55,30 +55,32 @@ opcode_name Created = codes "B_ENTRY_CREATED"
 opcode_name Removed = codes "B_ENTRY_REMOVED"
 opcode_name (Moved dir name) = codes "B_ENTRY_MOVED"
 
+-- the members of a message from its opcode on
+abbrev pub numbered_members : Opcode → ℕ → Members
+numbered_members op seq =
+    member (codes "op") (word (opcode_name op))
+    (member (codes "seq") (count seq)
+    (member (codes "what") (word (codes "B_QUERY_UPDATE")) no_members))
+
+-- the members of a message after its places
+abbrev pub told_members : Message → Members
+told_members m =
+    member (codes "last") (boolean m.last)
+    (member (codes "name") (word m.name)
+    (member (codes "node") (count m.node) (numbered_members m.op m.seq)))
+
 -- a message with one place, and one with the old place too
 abbrev pub placed_data : Message → Data
 placed_data m =
     object (member (codes "change") (count m.change)
-    (member (codes "dir") (count m.dir)
-    (member (codes "last") (boolean m.last)
-    (member (codes "name") (word m.name)
-    (member (codes "node") (count m.node)
-    (member (codes "op") (word (opcode_name m.op))
-    (member (codes "seq") (count m.seq)
-    (member (codes "what") (word (codes "B_QUERY_UPDATE")) no_members))))))))
+    (member (codes "dir") (count m.dir) (told_members m)))
 
 abbrev pub moved_data : Message → ℕ → List ℕ → Data
 moved_data m dir name =
     object (member (codes "change") (count m.change)
     (member (codes "dir") (count m.dir)
     (member (codes "from_dir") (count dir)
-    (member (codes "from_name") (word name)
-    (member (codes "last") (boolean m.last)
-    (member (codes "name") (word m.name)
-    (member (codes "node") (count m.node)
-    (member (codes "op") (word (opcode_name m.op))
-    (member (codes "seq") (count m.seq)
-    (member (codes "what") (word (codes "B_QUERY_UPDATE")) no_members))))))))))
+    (member (codes "from_name") (word name) (told_members m)))))
 
 abbrev pub data_by : Opcode → Message → Data
 data_by Created m = placed_data m
@@ -173,16 +175,20 @@ abbrev pub kind_name : Kind → List ℕ
 kind_name File = codes "file"
 kind_name Folder = codes "folder"
 
+-- the members of a whole entry after its name
+abbrev pub sized_members : ℕ → Record → Members
+sized_members node e =
+    member (codes "node") (count node)
+    (member (codes "size") (count e.size)
+    (member (codes "time") (number (of_integer e.time)) no_members))
+
 -- a whole entry
 abbrev pub listing_data : ℕ → Record → Data
 listing_data node e =
     object (member (codes "attrs") (array (items_of (map attr_data e.attrs)))
     (member (codes "dir") (count e.dir)
     (member (codes "kind") (word (kind_name e.kind))
-    (member (codes "name") (word e.name)
-    (member (codes "node") (count node)
-    (member (codes "size") (count e.size)
-    (member (codes "time") (number (of_integer e.time)) no_members)))))))
+    (member (codes "name") (word e.name) (sized_members node e)))))
 
 abbrev pub found_data : ℕ → Data
 found_data node = object (member (codes "node") (count node) no_members)

@@ -6,8 +6,7 @@ ghost use Rattle.serde_json.specs.View.{items_of};
 ghost use Rattle.serde_json.specs.Written.{compact_text, items_text, members_text, comma_if};
 ghost use Rattle.lq_script_desk.specs.Front.{AppendsTo};
 ghost use Rattle.lq_volume.specs.Lookup.{listed};
-ghost use Rattle.lq_script_desk.specs.Parts.{sized_members};
-ghost use Rattle.lq_script_desk.specs.Reply.{attr_data, kind_name, listing_data, type_name, value_data, word};
+ghost use Rattle.lq_script_desk.specs.Reply.{attr_data, kind_name, listing_data, sized_members, type_name, value_data, word};
 
 use crate::pieces::{put_bytes, put_signed, put_unsigned};
 use crate::text::put_text;

@@ -6,8 +6,7 @@ ghost use Rattle.serde_json.specs.Data.{boolean};
 ghost use Rattle.serde_json.specs.Written.{compact_text, members_text};
 ghost use Rattle.lq_script_desk.specs.Front.{AppendsTo};
 ghost use Rattle.lq_desk.specs.Reply.{answer_of_read};
-ghost use Rattle.lq_script_desk.specs.Parts.{numbered_members, told_members};
-ghost use Rattle.lq_script_desk.specs.Reply.{answer_data, cause_name, mark_data, message_data, moved_data, opcode_name, placed_data, word};
+ghost use Rattle.lq_script_desk.specs.Reply.{answer_data, cause_name, mark_data, message_data, moved_data, numbered_members, opcode_name, placed_data, told_members, word};
 
 use crate::pieces::{put_bytes, put_unsigned};
 use crate::text::put_text;

@@ -2,15 +2,15 @@
 use Rattle.std.proofs.Common.{◌≡◌, ◌∙◌, ℕ, List, refl, sym, ap, true, false, Option, Some, None, bytes_eq, codes, inl, inr}
 use Rattle.std.proofs.lemmas.Bool.{false_from_ne_true}
 use Rattle.std.proofs.lemmas.Slice.Eq.{bytes_eq-Decides}
-use Rattle.std.specs.Prelude.{option_and_then, Bool, Result, Ok, Err, IfOk, IfErr, ◌⊎◌}
+use Rattle.std.specs.Prelude.{ok_or, option_and_then, Bool, Result, Ok, Err, IfOk, IfErr, ◌⊎◌}
 use Rattle.std.specs.Str.{IsUtf8, is_utf8}
 use Rattle.std.proofs.lemmas.Str.{IsUtf8-from_is_utf8, is_utf8-from_IsUtf8}
 use Rattle.serde_json.specs.Data.{Data}
 use Rattle.serde_json.specs.Read.{read}
 use Rattle.lq_value.specs.declared.refusal.Refusal.{Refusal}
-use Rattle.lq_value.specs.declared.refusal.Refusal.TheVariants.{NoMemory, NotUtf8, NotJson}
+use Rattle.lq_value.specs.declared.refusal.Refusal.TheVariants.{BadLine, NoMemory, NotUtf8, NotJson}
 use Rattle.lq_script_request.specs.declared.request.Request.{Request}
-use Rattle.lq_script_request.specs.Request.{Asked, asked_by, asked_in, asked_from, asked_of, asked_or, needed_text, request_from, request_in}
+use Rattle.lq_script_request.specs.Request.{Asked, asked_by, asked_in, asked_from, asked_of, needed_text, request_from, request_in}
 
 -- a line that isn't UTF-8 is refused as such
 pub asked-not_utf8 : (line : List ℕ) → ¬ IsUtf8 line → asked_in line ≡ Err NotUtf8
@@ -96,7 +96,7 @@ asks-nothing d act found n0 n1 n2 n3 n4 n5 n6 n7 n8 n9 n10 n11 n12 n13 n14 =
 
 -- a line asks for what its fields ask for
 pub line-asks-found : (line : List ℕ) (o : Option Data) (d : Data) → asked_in line ≡ asked_from o
-    → o ≡ Some d → asked_in line ≡ asked_or (asked_of d)
+    → o ≡ Some d → asked_in line ≡ ok_or (asked_of d) BadLine
 line-asks-found line o d asks is = asks ∙ ap asked_from is
 
 -- the refusal of a line is that of what it asks for

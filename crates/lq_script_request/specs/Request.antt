@@ -1,5 +1,5 @@
 -- What a line of a script asks for, as a function of its JSON value.
-use Rattle.std.specs.Prelude.{ℕ, ℤ, pos, negsuc, int_le, nat_le, ◌&&◌, List, Bool, false, Option, Some, None, option_and_then, option_map, Result, Ok, Err, codes, if◌then◌else◌}
+use Rattle.std.specs.Prelude.{ℕ, ℤ, pos, negsuc, int_le, nat_le, ◌&&◌, List, Bool, false, Option, Some, None, ok_or, option_and_then, option_map, Result, Ok, Err, codes, if◌then◌else◌}
 use Rattle.std.specs.Str.{bytes_eq, is_utf8}
 use Rattle.serde_json.specs.Data.{Data}
 use Rattle.serde_json.specs.Find.{get, as_bool, as_number, as_u64, as_i64, as_str}
@@ -20,7 +20,8 @@ use Rattle.lq_desk_world.specs.Events.{event_at}
 use Rattle.lq_desk_world.specs.declared.event.Act.{Act}
 use Rattle.lq_desk_world.specs.declared.event.Act.TheVariants as act
 use Rattle.lq_script_request.specs.declared.request.Request.{Request}
-use Rattle.lq_script_request.specs.declared.request.Request.TheVariants.{Event, Find, Entry, Fetch, Rebuilt}
+use Rattle.lq_script_request.specs.declared.request.Request.TheVariants.{Event, Look}
+use Rattle.lq_script_request.specs.declared.request.Look.TheVariants.{Find, Entry, Fetch, Rebuilt}
 
 -- the value of a `set`: a text that isn't read yet, or a number of one of four types
 pub data Given : Type 0 where
@@ -223,15 +224,10 @@ asked_by word d =
 abbrev pub asked_of : Data → Option Asked
 asked_of d = option_and_then (λ word. asked_by word d) (needed_text (codes "do") d)
 
--- a line without a request is refused with `BadLine`
-abbrev pub asked_or : Option Asked → Result Asked Refusal
-asked_or None = Err BadLine
-asked_or (Some a) = Ok a
-
--- what a text asks for; it may be no JSON
+-- what a text asks for; it may be no JSON, or ask for nothing
 abbrev pub asked_from : Option Data → Result Asked Refusal
 asked_from None = Err NotJson
-asked_from (Some d) = asked_or (asked_of d)
+asked_from (Some d) = ok_or (asked_of d) BadLine
 
 -- what a line asks for; it may be no UTF-8
 abbrev pub asked_in : List ℕ → Result Asked Refusal
@@ -245,7 +241,7 @@ opening_or (Ok q) port backlog moved = Ok (Event (Open q port backlog moved))
 -- a fetch, or the refusal of its formula
 abbrev pub fetching_or : Result Query ℕ → Result Request Refusal
 fetching_or (Err place) = Err (BadQuery place)
-fetching_or (Ok q) = Ok (Fetch q)
+fetching_or (Ok q) = Ok (Look (Fetch q))
 
 -- a text as a value, or its refusal
 abbrev pub text_or : Option Refusal → List ℕ → Result Value Refusal
@@ -280,10 +276,10 @@ request_for (asks_unset node attr) =
     else Err BadName
 request_for (asks_open query port backlog moved) = opening_or (reading_of query) port backlog moved
 request_for (asks_at slot a) = Ok (Event (event_at slot a))
-request_for (asks_find dir name) = if is_name name then Ok (Find dir name) else Err BadName
-request_for (asks_entry node) = Ok (Entry node)
+request_for (asks_find dir name) = if is_name name then Ok (Look (Find dir name)) else Err BadName
+request_for (asks_entry node) = Ok (Look (Entry node))
 request_for (asks_fetch query) = fetching_or (reading_of query)
-request_for (asks_rebuilt slot) = Ok (Rebuilt slot)
+request_for (asks_rebuilt slot) = Ok (Look (Rebuilt slot))
 
 -- the request of a line that may be refused already
 abbrev pub request_from : Result Asked Refusal → Result Request Refusal

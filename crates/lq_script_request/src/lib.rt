@@ -24,5 +24,5 @@ pub use key::Key;
 pub use lq_desk_world::Event;
 pub use parse_line::{read_request, request_in};
 pub use raw_request::RawRequest;
-pub use request::Request;
-pub use scratch::Scratch;
+pub use request::{Look, Request};
+pub use scratch::{RecentAttrs, Scratch};

@@ -7,7 +7,7 @@ ghost use Rattle.lq_script_request.specs.Request.{asks_create, asks_fetch, asks_
 use crate::fields::Fields;
 use crate::quick_read::plain_read;
 use crate::raw_request::{RawRequest, raw_request_in};
-use crate::request::Request;
+use crate::request::{Look, Request};
 use crate::scratch::{RecentAttrs, Scratch};
 use lq_desk_world::Event;
 use lq_predicate::read;
@@ -38,27 +38,15 @@ pub fn request_in(alloc: Global, scratch: &mut Scratch, line: &[u8]) -> Result<R
     let Some(raw) = raw_request_in(&fields) else {
         return Err(Refusal::BadLine);
     };
-    request_for(alloc, &mut scratch.attrs, &raw)
+    read_request(alloc, &mut scratch.attrs, &raw)
 }
 
 /// A raw request with its values read.
 ///
-/// A scratch reused from request to request saves memory and changes no answer. Refused:
-/// `NoMemory`; else, the first that fits, `BadName`, `TooLong` for a text value, `BadQuery`.
+/// The attribute names that are kept from request to request save memory and change no answer.
+/// Refused: `NoMemory`; else, the first that fits, `BadName`, `TooLong` for a text value,
+/// `BadQuery`.
 pub fn read_request(
-    alloc: Global,
-    scratch: &mut Scratch,
-    raw: &RawRequest<'_>,
-) -> Result<Request, Refusal>
-    ensures value { IfOk result (λ request. request_for (asked raw.now) ≡ Ok request) }
-    ensures refused { IfErr result (λ e. (e ≡ NoMemory)
-        ⊎ (request_for (asked raw.now) ≡ Err e)) }
-{
-    request_for(alloc, &mut scratch.attrs, raw)
-}
-
-// A raw request with its values read.
-fn request_for(
     alloc: Global,
     attrs: &mut RecentAttrs,
     raw: &RawRequest<'_>,
@@ -101,9 +89,9 @@ fn request_for(
         } => opening(alloc, query, *port, *backlog, *moved),
         RawRequest::At { slot, act } => Ok(Request::Event(act.at(*slot))),
         RawRequest::Find { dir, name } => finding(alloc, *dir, name),
-        RawRequest::Entry { node } => Ok(Request::Entry { node: *node }),
+        RawRequest::Entry { node } => Ok(Request::Look(Look::Entry { node: *node })),
         RawRequest::Fetch { query } => fetching(alloc, query),
-        RawRequest::Rebuilt { slot } => Ok(Request::Rebuilt { slot: *slot }),
+        RawRequest::Rebuilt { slot } => Ok(Request::Look(Look::Rebuilt { slot: *slot })),
     }
 }
 
@@ -225,7 +213,7 @@ fn finding(alloc: Global, dir: u64, name: &str) -> Result<Request, Refusal>
         ⊎ (request_for (asks_find dir name.now) ≡ Err e)) }
 {
     let name = Name::read(alloc, name)?;
-    Ok(Request::Find { dir, name })
+    Ok(Request::Look(Look::Find { dir, name }))
 }
 
 // The request that fetches the entries that match a formula.
@@ -236,5 +224,5 @@ fn fetching(alloc: Global, query: &str) -> Result<Request, Refusal>
         ⊎ (request_for (asks_fetch query.now) ≡ Err e)) }
 {
     let predicate = read(alloc, query)?;
-    Ok(Request::Fetch { predicate })
+    Ok(Request::Look(Look::Fetch { predicate }))
 }

@@ -23,23 +23,28 @@ impl Scratch {
     pub fn new(alloc: Global) -> Scratch {
         Scratch {
             json: json::Scratch::new(alloc),
-            attrs: RecentAttrs {
-                names: Vec::new(alloc),
-                oldest: 0,
-            },
+            attrs: RecentAttrs::new(alloc),
         }
     }
 }
 
-// The attribute names that lines used last: a name that is read again shares its text.
+/// The attribute names that requests used last: a name that is read again shares its text.
 #[derive(Drop)]
-pub(crate) struct RecentAttrs {
+pub struct RecentAttrs {
     names: Vec<AttrName>,
     // The index for the next name, once all indices are used.
     oldest: usize,
 }
 
 impl RecentAttrs {
+    /// No name. It takes no memory.
+    pub fn new(alloc: Global) -> RecentAttrs {
+        RecentAttrs {
+            names: Vec::new(alloc),
+            oldest: 0,
+        }
+    }
+
     // The attribute's name with this text, as `AttrName::read` reads it.
     pub(crate) fn read(&mut self, alloc: Global, text: &str) -> Result<AttrName, Refusal>
         ensures refused { IsRefusedBy result

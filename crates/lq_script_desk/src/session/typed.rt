@@ -1,19 +1,25 @@
 //! A session's calls for a caller without lines.
-ghost use Rattle.std.specs.Prelude.{◌≡◌, IfOk};
+ghost use Rattle.std.specs.Prelude.{◌≡◌, ◌⊎◌, IfOk, Ok};
 ghost use Rattle.std.specs.Option.{option_map};
+ghost use Rattle.lq_value.specs.declared.refusal.Refusal.TheVariants.{NoMemory};
 ghost use Rattle.lq_value.specs.Refusal.{FailsOnlyForMemory};
 ghost use Rattle.lq_desk_world.specs.Fair.{IsFairWorld};
 ghost use Rattle.lq_desk.specs.Ready.{TellsReady};
 ghost use Rattle.lq_desk.specs.Reply.{answer_of};
-ghost use Rattle.lq_script_desk.specs.Folds.{fold_at};
+ghost use Rattle.lq_script_request.specs.declared.request.Request.TheVariants as request;
+ghost use Rattle.lq_script_desk.specs.Answer.{response_of};
+ghost use Rattle.lq_script_desk.specs.Answered.{Responds, rebuilt};
 ghost use Rattle.lq_script_desk.specs.Keeps.{keeps, without_fold};
+ghost use Rattle.lq_script_desk.specs.Response.{Refuses};
 ghost use Rattle.lq_script_desk.specs.Script.{script_session};
 ghost use Rattle.lq_script_desk.specs.Session.{volume_of};
 ghost use Rattle.lq_script_desk.specs.Turned.{Turned};
 
 use crate::rebuilds::{follow, no_rebuilds, put, rebuild_at};
+use crate::response::Response;
 use crate::session::{Session, slot_of};
 use lq_desk::{Desk, Event, Reply};
+use lq_script_request::Look;
 use lq_update::{IndexedRebuild, results_rise};
 use lq_value::Refusal;
 use lq_volume::{MAX_CHANGES, Volume};
@@ -39,12 +45,32 @@ impl Session {
         self.desk.volume()
     }
 
-    /// The rebuilt result of a slot; `None` for a free slot, and for one that `turn` left without.
-    /// It takes no memory.
-    pub fn rebuild(&self, slot: u64) -> Option<&IndexedRebuild>
-        ensures { option_map (λ r. r.now) result ≡ fold_at (keeps self.now).folds slot }
+    /// The response to a look, as to a line that makes it, or a refusal with `NoMemory`.
+    pub fn look(&self, look: &Look) -> Response
+        ensures { Responds (keeps self.now) (Ok (request.Look look.now)) (response_of result) }
     {
-        rebuild_at(&self.rebuilds, slot)
+        let volume = self.desk.volume();
+        match look {
+            Look::Find { dir, name } => match volume.find(*dir, name) {
+                Ok(node) => Response::Found { node },
+                Err(refusal) => Response::Refused(refusal),
+            },
+            Look::Entry { node } => match volume.listing(*node) {
+                Ok(listing) => Response::Listed {
+                    node: *node,
+                    listing,
+                },
+                Err(refusal) => Response::Refused(refusal),
+            },
+            Look::Fetch { predicate } => match volume.fetch(predicate) {
+                Ok(result) => Response::Fetched {
+                    at: volume.changes(),
+                    result,
+                },
+                Err(refusal) => Response::Refused(refusal),
+            },
+            Look::Rebuilt { slot } => rebuilt(rebuild_at(&self.rebuilds, *slot)),
+        }
     }
 
     /// Carries out an event with its whole turn, as a line that asks for it, and updates the
@@ -75,5 +101,23 @@ impl Session {
         ensures { keeps self.new ≡ without_fold (keeps self.old) slot }
     {
         put(&mut self.rebuilds, slot, None);
+    }
+}
+
+// The rebuilt result of a slot, if it has one.
+fn rebuilt(rebuild: Option<&IndexedRebuild>) -> Response
+    ensures { (response_of result ≡ Refuses NoMemory)
+        ⊎ (response_of result ≡ rebuilt (option_map (λ r. r.now) rebuild.entry)) }
+{
+    let Some(rebuild) = rebuild else {
+        return Response::Refused(Refusal::NotOpen);
+    };
+    match rebuild.entries() {
+        Err(refusal) => Response::Refused(refusal),
+        Ok(result) => Response::Rebuilt {
+            change: rebuild.last_change(),
+            result,
+            settled: rebuild.is_settled(),
+        },
     }
 }

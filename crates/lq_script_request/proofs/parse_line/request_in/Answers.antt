@@ -1,8 +1,10 @@
 use Rattle.std.proofs.Common.{◌≡◌, ◌∙◌, ap, inr, rules, sym, Err}
+use Rattle.std.specs.Prelude.{ok_or}
 use Rattle.std.specs.Str.{IsUtf8}
 use Rattle.serde_json.specs.Read.{read}
+use Rattle.lq_value.specs.declared.refusal.Refusal.TheVariants.{BadLine}
 use Rattle.lq_script_request.specs.Fields.{whole_data}
-use Rattle.lq_script_request.specs.Request.{asked_from, asked_or, request_from, request_in}
+use Rattle.lq_script_request.specs.Request.{asked_from, request_from, request_in}
 use Rattle.lq_script_request.proofs.PlainLemmas.{line-asks}
 use Rattle.lq_script_request.proofs.RequestLemmas.{asked-not_utf8, asked-utf8, error-then, line-asks-found, line-refused, refused-along, value-then}
 use Rattle.lq_script_request.proofs.parse_line.request_in.Goals as goal
@@ -32,7 +34,8 @@ returns-in_default-raw_request_in-clause-refused c =
     ∙ ap asked_from (ap read (sym c.from_utf8_unchecked-text.ensures)) in
     let found = line-asks-found c.args.line.now _ (whole_data c.read.new.self) asks
     c.in_ok-read.ensures.value in
-    inr (ap request_from (found ∙ ap asked_or (sym c.in_default-raw_request_in.ensures)))
+    inr (ap request_from (found
+    ∙ ap (λ asks. ok_or asks BadLine) (sym c.in_default-raw_request_in.ensures)))
 
 pub returns-clause-value : goal.returns-clause-value
 returns-clause-value c =
@@ -41,8 +44,9 @@ returns-clause-value c =
     ∙ ap asked_from (ap read (sym c.from_utf8_unchecked-text.ensures)) in
     let found = line-asks-found c.args.line.now _ (whole_data c.read.new.self) asks
     c.in_ok-read.ensures.value in
-    let same = ap request_from (found ∙ ap asked_or (sym c.in-Some-raw_request_in.ensures)) in
-    value-then c.request_for.result (λ request is. same ∙ is) c.request_for.ensures.value
+    let same = ap request_from (found
+    ∙ ap (λ asks. ok_or asks BadLine) (sym c.in-Some-raw_request_in.ensures)) in
+    value-then c.read_request.result (λ request is. same ∙ is) c.read_request.ensures.value
 
 pub returns-clause-refused : goal.returns-clause-refused
 returns-clause-refused c =
@@ -51,6 +55,7 @@ returns-clause-refused c =
     ∙ ap asked_from (ap read (sym c.from_utf8_unchecked-text.ensures)) in
     let found = line-asks-found c.args.line.now _ (whole_data c.read.new.self) asks
     c.in_ok-read.ensures.value in
-    let same = ap request_from (found ∙ ap asked_or (sym c.in-Some-raw_request_in.ensures)) in
-    error-then c.request_for.result (λ e. refused-along c.args.line.now e _ same)
-    c.request_for.ensures.refused
+    let same = ap request_from (found
+    ∙ ap (λ asks. ok_or asks BadLine) (sym c.in-Some-raw_request_in.ensures)) in
+    error-then c.read_request.result (λ e. refused-along c.args.line.now e _ same)
+    c.read_request.ensures.refused

@@ -16,5 +16,5 @@ pub returns-in-Ok : goal.returns-in-Ok
 returns-in-Ok c = fetches-alone (only_part c.args.self.now.stack.items) c.in-Ok.predicate
     c.in-Ok.ensures.value
     (ap (λ (s : Stacked). with_pushed (holds c.args.self.now) s) c.in-Ok.ensures.ok)
-    (fetches-made c.respond-response.ensures refl c.fetched.ensures.status c.fetched.ensures.out
+    (fetches-made c.look-response.ensures refl c.fetched.ensures.status c.fetched.ensures.out
     c.fetched.ensures.after)

@@ -1,6 +1,6 @@
 -- The request of each request, as the function that reads its values says it.
 use Rattle.std.proofs.Common.{refl}
-use Rattle.lq_script_request.proofs.parse_line.request_for.Goals as goal
+use Rattle.lq_script_request.proofs.parse_line.read_request.Goals as goal
 
 pub returns-in-Remove : goal.returns-in-Remove
 returns-in-Remove c = rw c.in-Remove.is (record { value = refl; refused = tt })
