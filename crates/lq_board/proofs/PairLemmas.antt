@@ -10,7 +10,7 @@ use Rattle.lq_board.specs.declared.token_views.Moment.{Moment}
 use Rattle.lq_board.specs.declared.token_views.Sitting.{Sitting}
 use Rattle.lq_board.specs.declared.token_views.TokenView.{TokenView}
 use Rattle.lq_board.specs.declared.token_views.TokenView.TheVariants.{Seat, Pair, Spent}
-use Rattle.lq_board.specs.Roll.{is_listed, without_number, changes_of_others, AreSeats}
+use Rattle.lq_board.specs.Roll.{is_listed, without_number, others_after, AreSeats}
 use Rattle.lq_board.specs.View.{paired, IsSeat, second_of, first_seat, of_roll, of_signs}
 use Rattle.lq_board.specs.Rule.{ViewFits, BoardState, BoardRule, IsKept}
 use Rattle.lq_board.specs.Step.{Compares, Enlists, Dismisses}
@@ -101,7 +101,7 @@ module _ {M : Type 0} where
       (enlisted gathered : List ℕ) (signs : Bool)
       → a.author.leads ≡ true → get_elem? s.views id ≡ some (Pair a b)
       → AreSeats kept.0.view.register.seats enlisted
-      → gathered ≡ changes_of_others enlisted kept.0.view.register.authors
+      → gathered ≡ others_after 0 enlisted kept.0.view.register.authors
       → ((j : ℕ) → j ≢ b.author.number
       → is_listed j enlisted ≡ is_listed j a.author.enlisted)
       → is_listed b.author.number enlisted ≡ signs
@@ -200,7 +200,7 @@ module _ {M : Type 0} where
       let counted = (fit.0.1.leads leads).counted in
       let authors : List ℕ = kept.0.view.register.authors in (
         _,
-        called s kept id a b enlisted (changes_of_others enlisted authors) false leads at
+        called s kept id a b enlisted (others_after 0 enlisted authors) false leads at
             (seats_without kept.0.view.register.seats n a.author.enlisted k.books.enlisted) refl
             (λ j ne. without_else n j a.author.enlisted ne) (without_here n a.author.enlisted),
         (

@@ -16,7 +16,7 @@ use Rattle.lq_board.specs.declared.token_views.Keeping.{Keeping}
 use Rattle.lq_board.specs.declared.token_views.TokenView.{TokenView}
 use Rattle.lq_board.specs.declared.token_views.TokenView.TheVariants.{Keeper, Seat}
 use Rattle.lq_board.specs.Book.{IsFullBook}
-use Rattle.lq_board.specs.Roll.{numbers, changes_of_others}
+use Rattle.lq_board.specs.Roll.{numbers, others_after}
 use Rattle.lq_board.specs.Author.{IsWhole, with_author, with_change}
 use Rattle.lq_board.specs.Slot.{counted}
 use Rattle.lq_board.specs.View.{keeping, keeping_of, newborn}
@@ -164,7 +164,7 @@ module _ {M : Type 0} where
   whole {b = b} k o leads empty =
       let l = o.leads leads in
       l.gathered ∙ k.books.gathered l.counted
-      ∙ ap (λ (called : List ℕ). changes_of_others called b.view.register.authors)
+      ∙ ap (λ (called : List ℕ). others_after 0 called b.view.register.authors)
       (sym l.enlisted ∙ empty)
       ∙ others_all 0 b.view.register.authors
       ∙ ap numbers (k.books.signed.each ∙ sym k.number)

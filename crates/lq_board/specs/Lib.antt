@@ -7,4 +7,3 @@ pub mod Token
 pub mod Rule
 pub mod Step
 pub mod Meeting
-pub mod Return

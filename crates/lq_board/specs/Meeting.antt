@@ -1,13 +1,19 @@
 -- What the keeper and a seat are after a call that takes both, by what they were before it.
 use Rattle.std.specs.Prelude.{◌≡◌, ◌<◌, ◌≤◌, ℕ, true, List, [], ◌∷◌, Option}
+use Rattle.atomic_table.specs.Seated.{TableId}
+use Rattle.atomic_table.specs.Table.{Me}
 use Rattle.lq_volume.specs.declared.change.Change.{Change}
 use Rattle.lq_volume.specs.Change.{after}
 use Rattle.lq_volume.specs.Book.{Extends, grown, state_of}
 use Rattle.lq_board.specs.declared.token_views.KnownSlot.{KnownSlot}
+use Rattle.lq_board.specs.declared.token_views.Sitting.{Sitting}
+use Rattle.lq_board.specs.declared.token_views.TokenView.{TokenView}
+use Rattle.lq_board.specs.declared.token_views.TokenView.TheVariants.{Seat}
 use Rattle.lq_board.specs.Author.{new_author, with_author, with_change, with_opening}
 use Rattle.lq_board.specs.Book.{IsFullBook}
 use Rattle.lq_board.specs.Slot.{slot_at, gone_out, go_out, come_back}
 use Rattle.lq_board.specs.Token.{KeeperToken, SeatToken}
+use Rattle.lq_board.specs.Rule.{CameBack}
 
 module _ {M : Type 0} where
   -- The slot's seat is new, under this name: it has a new number, and knows the keeper's book and
@@ -72,3 +78,18 @@ module _ {M : Type 0} where
           register = with_author old.register s.author.number;
         }
     pub was_out : 0 < s.slot → WasOut old.slots s
+
+  -- A seat came back as w, and is out again as v with this token. It was as the keeper knew. Now
+  -- the keeper has v's book, and its slot is out under v's name.
+  pub record GoesOutAgain (old new : KeeperToken M) (w v : Sitting M) (table : TableId)
+      (me : Me ℕ (TokenView M)) : Type 0 where
+    pub back : CameBack old.book w (slot_at old.slots w.slot)
+    pub board : table ≡ old.board.table
+    pub view : me ≡ (Seat v, [])
+    pub full : IsFullBook v.book
+    pub keeper : new
+        ≡ record old {
+          book = v.book;
+          slots = go_out (come_back old.slots w.slot w.asks w.name) w.slot v.name;
+          register = new.register;
+        }

@@ -30,10 +30,6 @@ others_after n enlisted (a ∷ authors) =
     if is_listed a enlisted then others_after (n + 1) enlisted authors
     else (n + 1) ∷ others_after (n + 1) enlisted authors
 
--- the numbers of the changes whose authors are not in the list
-abbrev pub changes_of_others : List ℕ → List ℕ → List ℕ
-changes_of_others enlisted authors = others_after 0 enlisted authors
-
 -- the next k numbers after n
 abbrev pub numbers_after : ℕ → ℕ → List ℕ
 numbers_after n zero = []

@@ -13,7 +13,7 @@ use Rattle.lq_board.specs.declared.token_views.TokenView.{TokenView}
 use Rattle.lq_board.specs.declared.token_views.TokenView.TheVariants.{Keeper, Seat, Pair, Spent}
 use Rattle.lq_board.specs.Book.{IsFullBook}
 use Rattle.lq_board.specs.Author.{IsSigned, IsAuthor}
-use Rattle.lq_board.specs.Roll.{AreSeats, changes_of_others, is_listed}
+use Rattle.lq_board.specs.Roll.{AreSeats, others_after, is_listed}
 use Rattle.lq_board.specs.Slot.{slot_at}
 use Rattle.lq_board.specs.View.{of_no_slot}
 
@@ -57,7 +57,7 @@ BookFits book r roll =
       full : IsFullBook book;
       signed : IsSigned book r;
       enlisted : AreSeats r.seats roll.enlisted;
-      gathered : r.free ≡ false → roll.gathered ≡ changes_of_others roll.enlisted r.authors;
+      gathered : r.free ≡ false → roll.gathered ≡ others_after 0 roll.enlisted r.authors;
     }
 
 module _ {M : Type 0} where

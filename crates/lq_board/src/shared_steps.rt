@@ -6,7 +6,7 @@ ghost use Rattle.lq_board.specs.Author.{with_opening, new_author, with_author, w
 ghost use Rattle.lq_board.specs.Book.{IsFullBook};
 ghost use Rattle.lq_board.specs.Slot.{slot_at, gone_out};
 ghost use Rattle.lq_board.specs.View.{sitting_of, plain, IsSeat};
-ghost use Rattle.lq_board.specs.Return.{GoesOutAgain};
+ghost use Rattle.lq_board.specs.Meeting.{GoesOutAgain};
 
 use crate::board::Board;
 use crate::step_types::{Add, Again, Back, Check, Chosen, Open};

@@ -38,10 +38,6 @@ module _ {T F : Type 0} where
   IsSamePort old new =
       (new.port ≡ old.port) × (new.places ≡ old.places) × (new.floor ≡ old.floor)
 
-  -- the end knows of no free place
-  abbrev pub IsFull : End T F → Type 0
-  IsFull end = end.places ≤ length end.ahead
-
   -- x was put at the back
   abbrev pub Gains : End T F → T → End T F → Type 0
   Gains old x new = (new.taken ≡ old.taken) × (new.ahead ≡ old.ahead ++ x ∷ [])
@@ -86,11 +82,6 @@ module _ {T F : Type 0} where
   abbrev pub IsTaker : Known T F → Type 0
   IsTaker v = (v.puts ≡ false) × (v.takes ≡ true)
 
--- the identity of a channel's port
-abbrev pub port_name_of :
-    {T V Q M L A : Type 0} → Rows (Badge (Key T)) (Doing T V) Q M (Key T) L A → PortName T
-port_name_of c = (c.stamps.shared.table_id, c.stamps.shared.key)
-
 -- the end made of a channel and a pass
 abbrev pub end_of :
     {T F Q M L A : Type 0}
@@ -98,7 +89,7 @@ abbrev pub end_of :
     → Pass T (Known T F) → End T F
 end_of c pass =
     record {
-      port = port_name_of c;
+      port = (c.stamps.shared.table_id, c.stamps.shared.key);
       places = c.cap;
       floor = (known_of pass).floor;
       taken = (known_of pass).taken;

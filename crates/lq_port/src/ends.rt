@@ -1,7 +1,7 @@
 //! The two ends of a port.
-ghost use Rattle.std.specs.Prelude.{◌≡◌, ◌++◌, ℕ, [], length, IfOk, IfErr, OnOk, OnErr};
+ghost use Rattle.std.specs.Prelude.{◌≡◌, ◌≤◌, ℕ, [], length, IfOk, IfErr, OnOk, OnErr};
 ghost use Rattle.lq_value.specs.Refusal.{IsRefusedBy};
-ghost use Rattle.lq_port.specs.End.{all_put, IsSamePort, IsFull, Gains, IsTake, AreBeside};
+ghost use Rattle.lq_port.specs.End.{all_put, IsSamePort, Gains, IsTake, AreBeside};
 ghost use Rattle.lq_port.specs.Port.{port_refusal};
 
 use crate::channel::{PortPass, PortReceiver, PortSender, meet, wait_for_ever};
@@ -149,7 +149,7 @@ impl<T: Follows + Drop> PortIn<T> {
 
         // `Err` gives the item back, where this end knows of no free place in the port.
         ensures back { IfErr result (λ back. back ≡ item) }
-        ensures full { OnErr result (IsFull self.old) }
+        ensures full { OnErr result (self.old.places ≤ length self.old.ahead) }
         ensures err { OnErr result (self.new ≡ self.old) }
     {
         if self.count == u64::MAX {

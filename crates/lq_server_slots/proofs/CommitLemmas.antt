@@ -1,5 +1,5 @@
 -- A change, committed in one slot after another.
-use Rattle.std.proofs.Common.{◌≡◌, ◌≢◌, ℕ, ◌+◌, ◌-◌, ◌<◌, ◌≤◌, true≢false, List, [], ◌∷◌, length, Option, Some, None, sym, ap, ◌∙◌, subst, arith, length-set, slice_set}
+use Rattle.std.proofs.Common.{◌≡◌, ◌≢◌, ℕ, ◌+◌, ◌-◌, ◌<◌, ◌≤◌, true, false, true≢false, List, [], ◌∷◌, length, Option, Some, None, sym, ap, ◌∙◌, subst, arith, length-set, slice_set}
 use Rattle.std.specs.Prelude.{IsSome}
 use Rattle.lq_volume.specs.declared.change.Change.{Change}
 use Rattle.lq_volume.specs.Book.{Book, state_of, grown}
@@ -13,11 +13,26 @@ use Rattle.lq_server_slots.specs.declared.identity.Identity.{Identity}
 use Rattle.lq_server_slots.specs.declared.subscription.Subscription.{Subscription}
 use Rattle.lq_server_slots.specs.Marking.{hung_mark}
 use Rattle.lq_server_slots.specs.Standing.{IsConsistentAt, IsReady, SameButHeld, SameButPuts, CannotPut}
-use Rattle.lq_server_slots.specs.Slots.{SlotStands, asks_of, slot_in, AllStand, MarksTaken, Outside, Inside, IsReadyAt, AllReady, before_of, PartlyCommitted, OnlyAt, IsNoticed, IsServed, IsGrown, IsToFill}
-use Rattle.lq_server_slots.proofs.SlotLemmas.{in_else, place_cases, only_self, counted_here, to_fill_then}
+use Rattle.lq_server_slots.specs.Slots.{SlotStands, asks_of, slot_in, AllStand, MarksTaken, IsReadyAt, AllReady, before_of, OnlyAt, IsNoticed, IsServed, IsGrown}
+use Rattle.lq_server_slots.proofs.SlotLemmas.{in_else, place_cases, only_self, counted_here, IsToFill, to_fill_then}
 use Rattle.lq_server_slots.proofs.TakenLemmas.{is_free}
 
 -- ---- a fact of each slot, while one slot after another is taken out of a set
+
+-- a fact of each slot that isn't in a set, and of each that is
+abbrev pub Outside :
+    (Option Subscription → KnownSlot Identity → Type 0) → ℕ → List (Option Subscription)
+    → List (KnownSlot Identity)
+    → Type 0
+Outside P word slots known =
+    (i : ℕ) → i < 64 → has word i ≡ false → P (slot_in slots (i + 1)) (slot_at known (i + 1))
+
+abbrev pub Inside :
+    (Option Subscription → KnownSlot Identity → Type 0) → ℕ → List (Option Subscription)
+    → List (KnownSlot Identity)
+    → Type 0
+Inside P word slots known =
+    (i : ℕ) → i < 64 → has word i ≡ true → P (slot_in slots (i + 1)) (slot_at known (i + 1))
 
 module _ (P : Option Subscription → KnownSlot Identity → Type 0)
     (slots : List (Option Subscription)) where
@@ -57,6 +72,18 @@ module _ (P : Option Subscription → KnownSlot Identity → Type 0)
         rw (in_else slots k (j + 1) o off) (before j within (sym (out.others j apart) ∙ left))
 
 -- ---- a change
+
+-- the slots of a set, which are taken, stand over the keeper's book without its last change, and
+-- the others over that book
+pub record PartlyCommitted (keeper : KeeperToken Identity) (slots : List (Option Subscription))
+    (left : ℕ) (openings : ℕ) (c : Change) : Type 0 where
+  pub known : length keeper.slots ≡ 65
+  pub wide : length slots ≡ 65
+  pub outside : Outside (λ o p. SlotStands o p keeper.book) left slots keeper.slots
+  pub inside : Inside (λ o p. SlotStands o p (before_of keeper.book)
+      × IsReadyAt o (state_of (before_of keeper.book)) c) left slots keeper.slots
+  pub asks : (k : ℕ) → 0 < k → k < 65
+      → asks_of (slot_in slots k) (slot_at keeper.slots k) ≤ openings
 
 -- it is committed in none yet
 pub partly_committed-first : (keeper : KeeperToken Identity) (slots : List (Option Subscription))

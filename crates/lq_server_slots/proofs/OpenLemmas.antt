@@ -26,7 +26,7 @@ use Rattle.lq_server_slots.specs.Standing.{IsSeen, IsConsistentAt}
 use Rattle.lq_server_slots.specs.Laws.{NewSubscriptionsStand}
 use Rattle.lq_server_slots.specs.declared.slots.ServerSlots.{ServerSlots}
 use Rattle.lq_server_slots.specs.declared.open.Opened.{Opened}
-use Rattle.lq_server_slots.specs.Slots.{AreUnchanged, SlotStands, IsTakenSlot, slot_in, AllStand, OnlyAt}
+use Rattle.lq_server_slots.specs.Slots.{SlotStands, IsTakenSlot, slot_in, AllStand, OnlyAt}
 use Rattle.lq_server_slots.specs.Opening.{IsNewSubscription}
 use Rattle.lq_server_slots.proofs.SlotLemmas.{all_stand-set, counted_here, only_set}
 
@@ -94,7 +94,7 @@ opening_fits full openings limit port backlog some high few free less = grind (a
 
 -- an opening counts as one more, and where it is refused as none
 pub openings_within : (r : Result Opened Refusal) (old new : ServerSlots) (limit : ℕ)
-    → OnOk r (new.openings ≡ old.openings + 1) → OnErr r (AreUnchanged old new)
+    → OnOk r (new.openings ≡ old.openings + 1) → OnErr r (new ≡ old)
     → old.openings < limit → new.openings ≤ limit
 openings_within r old new limit more same less = grind arith
 

@@ -1,5 +1,5 @@
 -- The slots under the lock, one or all.
-use Rattle.std.proofs.Common.{◌≡◌, ◌≢◌, ℕ, zero, suc, ◌-◌, ◌<◌, ◌≤◌, ◌⊎◌, Bool, true, List, [], ◌∷◌, ◌++◌, length, Option, None, refl, sym, ap, ◌∙◌, subst, arith, length-append, length-set, get_or-set_same, get_or-set_other, slice_set}
+use Rattle.std.proofs.Common.{◌≡◌, ◌≢◌, ℕ, zero, suc, ◌-◌, ◌<◌, ◌≤◌, ◌⊎◌, Bool, true, List, [], ◌∷◌, ◌++◌, length, Option, Some, None, refl, sym, ap, ◌∙◌, subst, arith, length-append, length-set, get_or-set_same, get_or-set_other, slice_set}
 use Rattle.std.proofs.lemmas.List.{get_or-replicate, length-replicate, take_at}
 use mathlib.Core.Logic.{dite}
 use native.Mathlib.Decide.{ℕ_discrete}
@@ -18,7 +18,7 @@ use Rattle.lq_server_slots.specs.Rule.{messages_in, mark_in}
 use Rattle.lq_server_slots.specs.Marking.{hung_mark}
 use Rattle.lq_server_slots.specs.Identity.{identity_of}
 use Rattle.lq_server_slots.specs.Standing.{IsConsistentAt, IsFilled, IsSeen, CannotPut, SameButPuts, SameButHeld}
-use Rattle.lq_server_slots.specs.Slots.{IsTakenSlot, IsToFill, SlotStands, asks_of, slot_in, AllStand, OnlyAt, before_of, IsGrown}
+use Rattle.lq_server_slots.specs.Slots.{IsTakenSlot, SlotStands, asks_of, slot_in, AllStand, OnlyAt, before_of, IsGrown}
 
 -- ---- one slot
 
@@ -49,6 +49,14 @@ identity_alike s t a = grind arith
 pub identity_others : (s t : Subscription) → SameButHeld s t → t.first_close ≡ s.first_close
     → identity_of t ≡ identity_of s
 identity_others s t a first_close = grind arith
+
+-- a taken slot whose port is still to be filled
+pub record IsToFill (s : Subscription) (p : KnownSlot Identity) (book : Book) : Type 0 where
+  pub stands : IsConsistentAt s book
+  pub seen : IsSeen s
+  pub out : p.out ≡ true
+  pub name : p.name ≡ Some (identity_of s)
+  pub hung : hung_mark s.sub.held.mark → s.asks < p.asks
 
 -- a taken slot whose subscription and book changed stands, but for what its port has room for
 pub to_fill_then : (s t : Subscription) (p : KnownSlot Identity) (book0 book : Book)

@@ -7,7 +7,6 @@ pub mod Identity
 pub mod Standing
 pub mod Marking
 pub mod Reading
-pub mod ReadStep
 pub mod Laws
 pub mod Slots
 pub mod Opening

@@ -1,6 +1,9 @@
 -- What a reader has received, and what a read does.
-use Rattle.std.specs.Prelude.{◌≡◌, ◌-◌, Bool, List, [], ◌∷◌, ◌++◌, length, take, map, Option, Some, None, IsSome, is_some, option_to_list}
-use Rattle.lq_volume.specs.Book.{Book, state_of}
+use Rattle.std.specs.Prelude.{◌≡◌, ◌≢◌, ◌-◌, Bool, true, false, List, [], ◌∷◌, ◌++◌, length, take, map, Option, Some, None, IsSome, is_some, option_to_list, Result, Ok, IfOk, OnErr}
+use mathlib.Core.List.{IsPrefix}
+use Rattle.lq_value.specs.declared.refusal.Refusal.{Refusal}
+use Rattle.lq_value.specs.Refusal.{FailsOnlyForMemory}
+use Rattle.lq_volume.specs.Book.{Book, Extends, state_of}
 use Rattle.lq_volume.specs.Result.{result_of}
 use Rattle.lq_update.specs.declared.message.Message.{Message}
 use Rattle.lq_update.specs.declared.mark.Mark.{Mark}
@@ -9,10 +12,10 @@ use Rattle.lq_update.specs.declared.parcel.Parcel.TheVariants.{Update as told_up
 use Rattle.lq_update.specs.Fold.{Folding, folding_after_all, opened_at}
 use Rattle.lq_desk_sub.specs.declared.read.Read.{Read}
 use Rattle.lq_desk_sub.specs.declared.read.Read.TheVariants.{Update, Fin, Empty, Ended}
-use Rattle.lq_port.specs.End.{End, IsFront}
+use Rattle.lq_port.specs.End.{End, IsFront, IsSamePort}
 use Rattle.lq_server_slots.specs.declared.delivery.Delivery.{Delivery}
 use Rattle.lq_server_slots.specs.declared.delivery.Opening.{Opening}
-use Rattle.lq_server_slots.specs.Rule.{floor_of, query_of, messages_in, mark_in, IsMark}
+use Rattle.lq_server_slots.specs.Rule.{floor_of, query_of, messages_in, mark_in, all_updates, IsMark}
 use Rattle.lq_server_slots.specs.LegalList.{known_by, LegalList}
 
 -- the port's end, the message in hand, and the result so far
@@ -84,3 +87,23 @@ pub record IsTold (r : ReadingHold) : Type 0 where
   pub all : messages_in r.port.taken ≡ received r ++ option_to_list r.hand
   pub folds : r.result ≡ folding_after_all (opening_of r.port.floor) (received r)
   pub no_hand : IsSome (mark_read r) → r.hand ≡ None
+
+-- a read that waits never answers `Empty`
+abbrev pub NeverEmpty : Bool → Result Read Refusal → Type 0
+NeverEmpty true result = result ≢ Ok Empty
+NeverEmpty false result = Unit {0}
+
+-- Old is the reading before the read, and new after it. What is known of the book only grows, and
+-- the messages received are a prefix of the updates over it. After the mark the answer is `Ended`.
+-- Where memory ran out, a message is in hand.
+pub record IsReadStep (waiting : Bool) (old new : ReadingHold) (result : Result Read Refusal)
+    : Type 0 where
+  pub refused : FailsOnlyForMemory result
+  pub same : IsSamePort old.port new.port
+  pub received : IsPrefix (received new) (all_updates new.port.floor (known new))
+  pub known : Extends (known new) (known old)
+  pub gives : IfOk result (Gives old new)
+  pub fails : OnErr result (Fails old new)
+  pub hand : OnErr result (IsSome new.hand)
+  pub over : IsSome (mark_read old) → result ≡ Ok Ended
+  pub waits : NeverEmpty waiting result

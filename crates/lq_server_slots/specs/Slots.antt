@@ -25,14 +25,6 @@ pub record IsTakenSlot (s : Subscription) (p : KnownSlot Identity) (book : Book)
   pub name : p.name ≡ Some (identity_of s)
   pub hung : hung_mark s.sub.held.mark → s.asks < p.asks
 
--- the same, while its port is still to be filled
-pub record IsToFill (s : Subscription) (p : KnownSlot Identity) (book : Book) : Type 0 where
-  pub stands : IsConsistentAt s book
-  pub seen : IsSeen s
-  pub out : p.out ≡ true
-  pub name : p.name ≡ Some (identity_of s)
-  pub hung : hung_mark s.sub.held.mark → s.asks < p.asks
-
 -- a slot that may be free
 abbrev pub SlotStands : Option Subscription → KnownSlot Identity → Book → Type 0
 SlotStands None p book = p.out ≡ false
@@ -93,13 +85,6 @@ abbrev pub SlotsAre :
     → Type 0
 SlotsAre P slots known =
     (k : ℕ) → 0 < k → k < 65 → SlotIs P (slot_in slots k) (slot_at known k)
-
--- the keeper, the subscriptions, the set of the taken slots and the number of openings stay
-pub record AreUnchanged (old new : ServerSlots) : Type 0 where
-  pub keeper : new.keeper ≡ old.keeper
-  pub subscriptions : new.subscriptions ≡ old.subscriptions
-  pub taken : new.taken ≡ old.taken
-  pub openings : new.openings ≡ old.openings
 
 -- only what the keeper knows of the slots may differ, and how many seats have a number
 pub record SameButKnown (old new : ServerSlots) : Type 0 where
@@ -167,21 +152,6 @@ all_taken (Some s ∷ slots) = all_taken slots
 abbrev pub has_no_free : List (Option Subscription) → Bool
 has_no_free slots = all_taken (drop 1 slots)
 
--- a fact of each slot that isn't in a set, and of each that is
-abbrev pub Outside :
-    (Option Subscription → KnownSlot Identity → Type 0) → ℕ → List (Option Subscription)
-    → List (KnownSlot Identity)
-    → Type 0
-Outside P word slots known =
-    (i : ℕ) → i < 64 → has word i ≡ false → P (slot_in slots (i + 1)) (slot_at known (i + 1))
-
-abbrev pub Inside :
-    (Option Subscription → KnownSlot Identity → Type 0) → ℕ → List (Option Subscription)
-    → List (KnownSlot Identity)
-    → Type 0
-Inside P word slots known =
-    (i : ℕ) → i < 64 → has word i ≡ true → P (slot_in slots (i + 1)) (slot_at known (i + 1))
-
 -- the messages of a change are prepared for the slot
 abbrev pub IsReadyAt : Option Subscription → State → Change → Type 0
 IsReadyAt None s c = Unit {0}
@@ -200,15 +170,3 @@ pub record IsGrown (b : Book) (c : Change) : Type 0 where
   pub book : b ≡ grown (before_of b) (c ∷ [])
   pub lawful : IsLawful (state_of (before_of b)) c
   pub full : IsFullBook b
-
--- the slots of a set, which are taken, stand over the keeper's book without its last change, and
--- the others over that book
-pub record PartlyCommitted (keeper : KeeperToken Identity) (slots : List (Option Subscription))
-    (left : ℕ) (openings : ℕ) (c : Change) : Type 0 where
-  pub known : length keeper.slots ≡ 65
-  pub wide : length slots ≡ 65
-  pub outside : Outside (λ o p. SlotStands o p keeper.book) left slots keeper.slots
-  pub inside : Inside (λ o p. SlotStands o p (before_of keeper.book)
-      × IsReadyAt o (state_of (before_of keeper.book)) c) left slots keeper.slots
-  pub asks : (k : ℕ) → 0 < k → k < 65
-      → asks_of (slot_in slots k) (slot_at keeper.slots k) ≤ openings

@@ -1,5 +1,5 @@
 //! An opening under the lock.
-ghost use Rattle.std.specs.Prelude.{◌≡◌, ◌+◌, ◌<◌, ◌≤◌, ℕ, IfOk, IfErr, OnOk, OnErr, IfSome, IfNone, IsSome, is_none, Some, None, false};
+ghost use Rattle.std.specs.Prelude.{◌≡◌, ◌+◌, ◌<◌, ◌≤◌, ℕ, IfOk, OnOk, OnErr, IfSome, IsSome, is_none, Some, None, false};
 ghost use Rattle.lq_value.specs.Refusal.{FailsOnlyForMemory};
 ghost use Rattle.lq_volume.specs.Book.{state_of};
 ghost use Rattle.lq_board.specs.Book.{IsFullBook};
@@ -7,7 +7,7 @@ ghost use Rattle.lq_board.specs.Meeting.{GoesOut};
 ghost use Rattle.lq_board.specs.Slot.{slot_at};
 ghost use Rattle.lq_server_slots.specs.Identity.{identity_of};
 ghost use Rattle.lq_server_slots.specs.declared.identity.Identity.{Identity as IdentityOf};
-ghost use Rattle.lq_server_slots.specs.Slots.{AreUnchanged, AreConsistent, IsConsistentWith, has_no_free, slot_in};
+ghost use Rattle.lq_server_slots.specs.Slots.{AreConsistent, IsConsistentWith, has_no_free, slot_in};
 ghost use Rattle.lq_server_slots.specs.Opening.{IsNewSubscription, IsOpened, IsOpeningAnswer};
 
 use crate::delivery::{Delivery, Opening};
@@ -177,7 +177,7 @@ pub fn open_in(
     ensures book { slots.new.keeper.book ≡ slots.old.keeper.book }
     ensures limit { slots.new.openings ≤ volume.now.limit }
     ensures openings { OnOk result (slots.new.openings ≡ slots.old.openings + 1) }
-    ensures err { OnErr result (AreUnchanged slots.old slots.new) }
+    ensures err { OnErr result (slots.new ≡ slots.old) }
     ensures holding { AreConsistent slots.new slots.new.keeper.book }
     ensures opened { IfOk result (λ o. IsOpened o slots.old.keeper.board slots.old.keeper.book
         request.now.predicate.now request.now.moved request.now.port request.now.backlog) }

@@ -7,8 +7,7 @@ ghost use Rattle.lq_update.specs.Fold.{EntriesRise, opened_at, folded, last_chan
 ghost use Rattle.lq_update.specs.Updates.{IsSettled};
 ghost use Rattle.lq_port.specs.End.{AreBeside};
 ghost use Rattle.lq_server_slots.specs.Rule.{MayFollow, floor_of, query_of};
-ghost use Rattle.lq_server_slots.specs.Reading.{known, received, is_marked, mark_read, opening_of, IsTold};
-ghost use Rattle.lq_server_slots.specs.ReadStep.{IsReadStep};
+ghost use Rattle.lq_server_slots.specs.Reading.{known, received, is_marked, mark_read, opening_of, IsTold, IsReadStep};
 
 use crate::delivery::Delivery;
 use crate::take_parcel::{keep, take_one};
@@ -241,7 +240,8 @@ impl Reading {
     /// takes memory.
     pub fn beside(&mut self, input: &mut PortIn<Delivery>) -> u64
         requires port { self.old.port.port ≡ input.old.port }
-        ensures beside { AreBeside MayFollow self.old.port self.new.port input.old input.new result }
+        ensures beside { AreBeside MayFollow self.old.port self.new.port
+            input.old input.new result }
         ensures hand { self.new.hand ≡ self.old.hand }
         ensures result { self.new.result ≡ self.old.result }
     {

@@ -1,5 +1,6 @@
 use Rattle.std.proofs.Common.{◌≡◌}
-use Rattle.lq_server_slots.specs.Slots.{MarksTaken, PartlyCommitted, Outside, Inside, SlotIs, IsNoticed, IsServed}
+use Rattle.lq_server_slots.specs.Slots.{MarksTaken, SlotIs, IsNoticed, IsServed}
+use Rattle.lq_server_slots.proofs.CommitLemmas.{PartlyCommitted, Outside, Inside}
 use Rattle.lq_server_slots.proofs.prepare_commit.commit_all.Given as goal
 
 abbrev pub invariant-loop-index : goal.invariant-loop-index

@@ -1,6 +1,7 @@
 use Rattle.std.proofs.Common.{ℕ, ◌≤◌}
 use Rattle.lq_board.specs.Slot.{slot_at}
-use Rattle.lq_server_slots.specs.Slots.{KeepsSlots, IsReadyAt, Outside, SlotIs, IsNoticed}
+use Rattle.lq_server_slots.specs.Slots.{KeepsSlots, IsReadyAt, SlotIs, IsNoticed}
+use Rattle.lq_server_slots.proofs.CommitLemmas.{Outside}
 use Rattle.lq_server_slots.proofs.prepare_commit.ready_all.Given as goal
 
 abbrev pub invariant-loop-index : goal.invariant-loop-index

@@ -1,4 +1,5 @@
-use Rattle.lq_server_slots.specs.Slots.{KeepsSlots, Outside, SlotIs, IsServed}
+use Rattle.lq_server_slots.specs.Slots.{KeepsSlots, SlotIs, IsServed}
+use Rattle.lq_server_slots.proofs.CommitLemmas.{Outside}
 use Rattle.lq_server_slots.proofs.slots.serve_all.Given as goal
 
 abbrev pub invariant-loop-index : goal.invariant-loop-index
