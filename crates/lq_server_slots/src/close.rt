@@ -13,8 +13,8 @@ use crate::sync::{meet_slot_at, meet_under};
 use lq_board::{Board, Keeper, Seat};
 use lq_desk_sub::SlotIndex;
 
-// Closes an optional subscription after a notice, and gives its seat the name that says so. The slot
-// is never free here.
+// Closes an optional subscription, after a notice, and gives its seat the name that says so. The
+// slot is never free here.
 fn close_at(
     board: &Board<Identity>,
     keeper: &mut Keeper<Identity>,

@@ -240,7 +240,8 @@ impl Reading {
     /// takes memory.
     pub fn beside(&mut self, input: &mut PortIn<Delivery>) -> u64
         requires port { self.old.port.port ≡ input.old.port }
-        ensures beside { AreBeside MayFollow self.old.port self.new.port input.old input.new result }
+        ensures beside { AreBeside MayFollow self.old.port self.new.port
+            input.old input.new result }
         ensures hand { self.new.hand ≡ self.old.hand }
         ensures result { self.new.result ≡ self.old.result }
     {
