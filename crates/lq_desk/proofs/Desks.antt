@@ -11,11 +11,12 @@ use Rattle.lq_volume.specs.State.{State, IsVolume}
 use Rattle.lq_volume.specs.Change.{IsLawful}
 use Rattle.lq_volume.specs.Laws.{ChangesCount}
 use Rattle.lq_update.specs.Laws.{StepsAreFew}
+use Rattle.lq_desk_world.specs.World.{taken_before_free}
 use Rattle.lq_desk_world.specs.Events.{Answer}
 use Rattle.lq_desk_world.specs.Turns.{all_puts, notices}
 use Rattle.lq_desk.specs.Slot.{KeptSlot, PreparedSlot, slot_of, slot_after, filled, fresh_slot, noticed}
 use Rattle.lq_desk.specs.Act.{outcome_at, outcome_of}
-use Rattle.lq_desk.specs.DeskState.{DeskState, IsKept, IsFew, first_free, opened, changed, at_kept}
+use Rattle.lq_desk.specs.DeskState.{DeskState, IsKept, IsFew, opened, changed, at_kept}
 use Rattle.lq_desk.specs.KeptTurn.{kept_after, kept_ports}
 use Rattle.lq_desk.proofs.ListLemmas.{all-set}
 use Rattle.lq_desk.proofs.PutLemmas.{KeepsSub}
@@ -52,8 +53,8 @@ pub IsKept-open : (k : DeskState) (q : Query) (port backlog : ℕ) (moved : Bool
 IsKept-open k q port backlog moved d =
     let s = fresh_slot q moved k.volume.number port backlog in
     record {
-      slots = length-set k.slots (first_free k.slots) (Some s) ∙ d.slots;
-      few = all-set (IsFew (3 * k.volume.number)) k.slots (first_free k.slots)
+      slots = length-set k.slots (taken_before_free k.slots) (Some s) ∙ d.slots;
+      few = all-set (IsFew (3 * k.volume.number)) k.slots (taken_before_free k.slots)
           (Some s) d.few (omega arith);
     }
 
@@ -120,7 +121,7 @@ filled-view k j ks view is = rw (← view, is) (filled-all k)
 -- an opening puts a new subscription into the first free slot
 pub opened-is : (v : State) (n : ℕ) (xs ys : List (Option PreparedSlot)) (place : ℕ)
     (p : PreparedSlot) (s : KeptSlot) → ys ≡ slice_set xs place (Some p)
-    → place ≡ first_free (map kept_slot xs) → slot_of p ≡ s
+    → place ≡ taken_before_free (map kept_slot xs) → slot_of p ≡ s
     → record { volume = v; openings = n + 1; slots = map kept_slot ys }
     ≡ opened (record { volume = v; openings = n; slots = map kept_slot xs }) s
 opened-is v n xs ys place p s is free same =

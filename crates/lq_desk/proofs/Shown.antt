@@ -23,7 +23,7 @@ use Rattle.lq_desk_world.specs.Fair.{IsFair, IsFairSlot, IsFairWorld}
 use Rattle.lq_desk_world.specs.Laws.{RefusalsLeaveWorlds, RunsKeepWorldsFair}
 use Rattle.lq_desk.specs.Slot.{KeptSlot, fresh_slot, slot_after}
 use Rattle.lq_desk.specs.Act.{act_of}
-use Rattle.lq_desk.specs.DeskState.{DeskState, Shows, KeptMayRunOut, KeptStep, kept_of, slot_for, kept_at, at_index, kept_act, first_free, opening_refusal, open_if, change_if, kept_outcome}
+use Rattle.lq_desk.specs.DeskState.{DeskState, Shows, KeptMayRunOut, KeptStep, kept_of, slot_for, kept_at, at_index, kept_act, opening_refusal, open_if, change_if, kept_outcome}
 use Rattle.lq_desk.specs.Turn.{stepped}
 use Rattle.lq_desk.specs.Laws.{KeptShowsWorlds}
 use Rattle.lq_desk.proofs.ListLemmas.{all-get, slot-there}
@@ -42,7 +42,7 @@ kept_at-same w slot =
 
 -- the first free slot of the desk is that of the world
 free-same : (b : Book) (os : List (Option Subscribed))
-    → first_free (map (option_map (slot_for b)) os) ≡ taken_before_free os
+    → taken_before_free (map (option_map (slot_for b)) os) ≡ taken_before_free os
 free-same b [] = refl
 free-same b (None ∷ os) = refl
 free-same b (Some s ∷ os) = ap (λ n. n + 1) (free-same b os)

@@ -12,7 +12,7 @@ use Rattle.lq_volume.specs.Change.{after, refused, node_of}
 use Rattle.lq_volume.specs.Result.{result_of}
 use Rattle.lq_volume.specs.Book.{Book, state_of}
 use Rattle.lq_update.specs.declared.mark.Mark.{Mark}
-use Rattle.lq_desk_world.specs.World.{World, Subscribed, Ending, updates_due, waiting, in_port}
+use Rattle.lq_desk_world.specs.World.{World, Subscribed, Ending, updates_due, waiting, in_port, taken_before_free}
 use Rattle.lq_desk_world.specs.declared.event.Event.{Event}
 use Rattle.lq_desk_world.specs.declared.event.Event.TheVariants.{Change, Open, Put, Take, HangUp, Notice, Close, Finish}
 use Rattle.lq_desk_world.specs.declared.event.Act.{Act}
@@ -33,9 +33,8 @@ pub record DeskState : Type 0 where
 
 -- the state after a change: each live subscription gets its messages
 abbrev pub changed : DeskState → Change_ → DeskState
-changed k c = record {
+changed k c = record k {
   volume = after k.volume c;
-  openings = k.openings;
   slots = map (option_map (slot_after k.volume c)) k.slots;
 }
 
@@ -47,32 +46,27 @@ change_if k c None =
 
 -- ---- an opening
 
--- the index of the first free slot
-abbrev pub first_free : List (Option KeptSlot) → ℕ
-first_free [] = 0
-first_free (None ∷ slots) = 0
-first_free (Some s ∷ slots) = first_free slots + 1
-
 -- why an opening is refused: the first that fits
 abbrev pub opening_refusal : DeskState → ℕ → ℕ → Option Refusal
 opening_refusal k port backlog =
     first_refusal
-    (opening_refusals (nat_le (length k.slots) (first_free k.slots)) k.openings k.volume.limit port
-    backlog)
+    (opening_refusals (nat_le (length k.slots) (taken_before_free k.slots)) k.openings
+    k.volume.limit port backlog)
 
 -- the state after an opening: the first free slot is taken
 abbrev pub opened : DeskState → KeptSlot → DeskState
-opened k s = record {
-  volume = k.volume;
+opened k s = record k {
   openings = k.openings + 1;
-  slots = slice_set k.slots (first_free k.slots) (Some s);
+  slots = slice_set k.slots (taken_before_free k.slots) (Some s);
 }
 
 -- the outcome of an opening that is refused or made
 abbrev pub open_if : DeskState → KeptSlot → Option Refusal → Answer × DeskState
 open_if k s (Some e) = (Refused e, k)
-open_if k s None =
-    (Opened (first_free k.slots + 1) k.volume.number (result_of s.held.query k.volume), opened k s)
+open_if k s None = (
+  Opened (taken_before_free k.slots + 1) k.volume.number (result_of s.held.query k.volume),
+  opened k s,
+)
 
 -- ---- the acts at a slot
 

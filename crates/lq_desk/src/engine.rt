@@ -72,7 +72,7 @@ impl Engine {
     ghost use Rattle.lq_desk_world.specs.Events.{Opened};
     ghost use Rattle.lq_desk.specs.Slot.{fresh_slot};
     ghost use Rattle.lq_desk.specs.DeskState.{KeptStep, changed, opened, opening_refusal, kept_act};
-    ghost use Rattle.lq_desk.specs.DeskState as kept;
+    ghost use Rattle.lq_desk_world.specs.World.{taken_before_free};
     ghost use Rattle.lq_desk.specs.Reply.{answer_of};
 
     /// One over a volume, with 64 free slots. Refused: `NoMemory`.
@@ -154,7 +154,7 @@ impl Engine {
     ) -> Result<Reply, Refusal>
         ensures refused { IsRefusedBy result (opening_refusal self.old port backlog) }
         ensures reply { IfOk result (λ reply. answer_of reply ≡
-            Opened (kept.first_free self.old.slots + 1) self.old.volume.number
+            Opened (taken_before_free self.old.slots + 1) self.old.volume.number
             (result_of predicate.now self.old.volume)) }
         ensures ok { OnOk result (self.new ≡ opened self.old
             (fresh_slot predicate.now moved self.old.volume.number port backlog)) }

@@ -3,7 +3,8 @@ ghost use Rattle.std.specs.Prelude.{◌≡◌, ◌<◌, ◌≤◌, ◌^◌, ◌-
 ghost use Rattle.std.specs.List.{AllByRecursion};
 ghost use Rattle.std.specs.Option.{option_map, option_flatten};
 ghost use Rattle.lq_desk.specs.Slot.{slot_of, can_move, has_work, is_ending, passes};
-ghost use Rattle.lq_desk.specs.DeskState.{IsFew, first_free};
+ghost use Rattle.lq_desk.specs.DeskState.{IsFew};
+ghost use Rattle.lq_desk_world.specs.World.{taken_before_free};
 ghost use Rattle.lq_desk.specs.Ready.{MarksParcels, has_parcel};
 ghost use Rattle.lq_desk.specs.Act.{act_of, close_turn, outcome_in, read_turn};
 ghost use Rattle.lq_desk.specs.Reply.{answer_of};
@@ -16,7 +17,7 @@ use lq_value::Refusal;
 
 /// The index of the first free slot, or the number of slots.
 pub fn first_free(slots: &[Option<Slot>]) -> usize
-    ensures { result ≡ first_free (map (option_map slot_of) slots.now) }
+    ensures { result ≡ taken_before_free (map (option_map slot_of) slots.now) }
 {
     let mut place = 0;
     for slot in slots {
@@ -26,14 +27,6 @@ pub fn first_free(slots: &[Option<Slot>]) -> usize
         place += 1;
     }
     place
-}
-
-/// Puts a subscription into the slot at an index.
-pub fn occupy(slots: &mut Vec<Option<Slot>>, place: usize, slot: Slot)
-    requires { place < length slots.old.items }
-    ensures { slots.new.items ≡ slice_set slots.old.items place (Some slot) }
-{
-    slots[place] = Some(slot);
 }
 
 /// Whether the subscription at an index is live and its end was asked for.

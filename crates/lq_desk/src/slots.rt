@@ -7,7 +7,8 @@ ghost use Rattle.lq_volume.specs.declared.change.Change.{Change};
 ghost use Rattle.lq_volume.specs.State.{State};
 ghost use Rattle.lq_desk.specs.Slot.{slot_of, slot_after, filled, noticed};
 ghost use Rattle.lq_desk.specs.Words.{AreReady};
-ghost use Rattle.lq_desk.specs.DeskState.{IsFew, first_free};
+ghost use Rattle.lq_desk_world.specs.World.{taken_before_free};
+ghost use Rattle.lq_desk.specs.DeskState.{IsFew};
 ghost use Rattle.lq_desk.specs.Act.{act_of, close_turn, outcome_of, read_turn};
 ghost use Rattle.lq_desk.specs.Ready.{MarksParcels};
 ghost use Rattle.lq_desk.specs.Reply.{answer_of};
@@ -15,7 +16,7 @@ ghost use Rattle.lq_desk.specs.Reply.{answer_of};
 use crate::reply::Reply;
 use crate::slot::Slot;
 use crate::slot_list::{
-    act_in, can_move_in, close_in, first_free, is_ending_in, occupy, parcels_in, read_in,
+    act_in, can_move_in, close_in, first_free, is_ending_in, parcels_in, read_in,
 };
 use crate::visitors::{Commit, Fill, Notice, Ready, Told};
 use lq_desk_sub::{SlotIndex, SlotSet, Watch, visit_in};
@@ -78,7 +79,7 @@ impl Slots {
 
     /// The index of the first free slot, or 64.
     pub fn first_free(&self) -> usize
-        ensures { result ≡ first_free (map (option_map slot_of) self.now) }
+        ensures { result ≡ taken_before_free (map (option_map slot_of) self.now) }
     {
         first_free(&self.places)
     }
@@ -92,7 +93,7 @@ impl Slots {
         self.ending.put(index, slot.is_ending());
         self.movable.put(index, slot.can_move());
         self.watch.set(index.place(), &slot.sub);
-        occupy(&mut self.places, index.place(), slot);
+        self.places[index.place()] = Some(slot);
     }
 
     /// Makes the messages of a change for each live subscription; answers a set that has each slot

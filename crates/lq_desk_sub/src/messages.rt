@@ -1,6 +1,5 @@
 //! The messages of a subscription: those held, and after them those made ready.
-ghost use Rattle.std.specs.Prelude.{◌≡◌, ◌+◌, ◌<◌, ◌≤◌, ◌^◌, [], ◌∷◌, ◌++◌, length, take, vec_len, Some, true, false, OnOk, OnErr, MatchOption};
-ghost use Rattle.std.specs.VecDeque.{deque_len, deque_capacity};
+ghost use Rattle.std.specs.Prelude.{◌≡◌, ◌+◌, ◌<◌, ◌^◌, [], ◌∷◌, ◌++◌, length, true, false, OnOk, OnErr, MatchOption};
 ghost use Rattle.lq_value.specs.Refusal.{FailsOnlyForMemory};
 ghost use Rattle.lq_update.specs.Updates.{step_of};
 
@@ -144,7 +143,8 @@ impl Messages {
         let held = self.queue.len() - self.ready;
         self.queue.truncate(held);
         self.ready = step.len();
-        append(&mut self.queue, step.into_vec());
+        // It fails only where room is missing, and there is room.
+        self.queue.append(&mut step)?;
         self.before = matches.planned.applied().change - 1;
         Ok(())
     }
@@ -207,17 +207,5 @@ impl Messages {
     {
         self.lent = false;
         self.queue.push_front_reserved(message);
-    }
-}
-
-// Appends all messages; there is room for them.
-fn append(messages: &mut VecDeque<Message>, ready: Vec<Message>)
-    requires { deque_len messages.old + vec_len ready ≤ deque_capacity messages.old }
-    ensures items { messages.new.items ≡ messages.old.items ++ ready.items }
-    ensures len { deque_len messages.new ≡ deque_len messages.old + vec_len ready }
-    ensures capacity { deque_capacity messages.new ≡ deque_capacity messages.old }
-{
-    for message in ready {
-        messages.push_back_reserved(message);
     }
 }

@@ -8,7 +8,7 @@ use Rattle.lq_desk.proofs.slots.Slots.open.Goals as goal
 
 pub returns : goal.returns
 returns c =
-    rw (c.occupy.ensures, c.place-2.ensures.value, c.at-index.ensures, c.self.view_is)
+    rw (c.place-2.ensures.value, c.at-index.ensures, c.self.view_is)
 
 pub invariant_of-self : goal.invariant_of-self
 invariant_of-self c =
@@ -16,7 +16,7 @@ invariant_of-self c =
     let k = slot_of c.args.slot in
     let place = c.at-index.result.place in
     let sub = ap (λ (p : PreparedSlot). p.sub) c.slot.view_is in
-    rw (c.occupy.ensures, c.place-2.ensures.value, map-set kept_slot _ place (Some c.args.slot))
+    rw (c.place-2.ensures.value, map-set kept_slot _ place (Some c.args.slot))
     (places-set c.self.inside.ending.word c.self.inside.movable.word _ _ c.self.inside.watch _ ks
     place (Some k) c.put.ensures.others
     (λ is. c.put.ensures.here ∙ (c.is_ending.ensures ∙ is))
