@@ -96,7 +96,8 @@ none_of None f e = refl
 none_of (Some x) f e = some_none (f x) e
 
 -- what is no pattern has a place at which it is bad
-bad_by : (r : Result (List Element) ℕ) → pattern_literal r ≡ None → (k : ℕ) × (result_err r ≡ Some k)
+bad_by : (r : Result (List Element) ℕ) → pattern_literal r ≡ None
+    → (k : ℕ) × (result_err r ≡ Some k)
 bad_by (Ok es) e = some_none _ e
 bad_by (Err k) e = (k, refl)
 

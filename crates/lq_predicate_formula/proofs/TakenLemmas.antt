@@ -68,7 +68,8 @@ never_nameless (attribute below f n raw attr e) h o k = none-some attr (sym h �
 never_nameless (complete below f n a u raw literal e) h o k = none-some o k
 
 -- what has a bad place is no pattern
-literal_by : (r : Result (List Element) ℕ) (k : ℕ) → result_err r ≡ Some k → pattern_literal r ≡ None
+literal_by : (r : Result (List Element) ℕ) (k : ℕ) → result_err r ≡ Some k
+    → pattern_literal r ≡ None
 literal_by (Ok es) k e = absurd (none-some k e)
 literal_by (Err j) k e = refl
 

@@ -94,7 +94,8 @@ set_refusals s node attr =
 
 -- the tests of removing an attribute, in order
 abbrev pub unset_refusals : State → ℕ → List ℕ → List (Bool × Refusal)
-unset_refusals s node attr = set_refusals s node attr ++ (is_none (attr_of s node attr), NoAttr) ∷ []
+unset_refusals s node attr =
+    set_refusals s node attr ++ (is_none (attr_of s node attr), NoAttr) ∷ []
 
 -- the tests that a change has of its own
 abbrev pub own_tests : State → Change → List (Bool × Refusal)
