@@ -2,8 +2,7 @@
 use Rattle.std.proofs.Common.{◌≡◌, ◌≢◌, ℕ, ◌+◌, ◌≤◌, Bool, true, true≢false, List, [], ◌∷◌, ◌++◌, length, refl, sym, ap, ◌∙◌, arith, length-append}
 use Rattle.lq_volume.specs.declared.change.Change.{Change}
 use Rattle.lq_volume.specs.Book.{Book, grown}
-use Rattle.lq_board.specs.declared.token_views.Author.{Author}
-use Rattle.lq_board.specs.declared.token_views.Register.{Register}
+use Rattle.lq_board.specs.Known.{Author, Register}
 use Rattle.lq_board.specs.Book.{IsFullBook}
 use Rattle.lq_board.specs.Roll.{is_listed}
 use Rattle.lq_board.specs.Author.{IsAuthor, AreDisjoint, new_author, with_author, with_change}

@@ -3,10 +3,7 @@ use Rattle.std.proofs.Common.{◌≡◌, ◌≢◌, ℕ, ◌<◌, [], refl, arit
 use Rattle.atomic_table.specs.Seated.{TableId}
 use Rattle.atomic_table.specs.Table.{Me, Joins}
 use Rattle.atomic_table.proofs.Lists.{set_else}
-use Rattle.lq_board.specs.declared.token_views.Sitting.{Sitting}
-use Rattle.lq_board.specs.declared.token_views.Keeping.{Keeping}
-use Rattle.lq_board.specs.declared.token_views.TokenView.{TokenView}
-use Rattle.lq_board.specs.declared.token_views.TokenView.TheVariants.{Keeper, Seat, Spent}
+use Rattle.lq_board.specs.Known.{Sitting, Keeping, TokenView, Keeper, Seat, Spent}
 use Rattle.lq_board.specs.View.{keeping_of, sitting_of, taken, IsSeat}
 use Rattle.lq_board.specs.Rule.{ViewFits, BoardState, IsKept}
 use Rattle.lq_board.specs.Token.{BoardName, KeeperToken}

@@ -6,10 +6,7 @@ use lib.ListN.{get_elem?}
 use Rattle.atomic_table.specs.Seated.{TableId}
 use Rattle.atomic_table.specs.Table.{State, Me, step, Allows, Splits, Joins}
 use Rattle.atomic_table.proofs.Lists.{set_else}
-use Rattle.lq_board.specs.declared.token_views.Moment.{Moment}
-use Rattle.lq_board.specs.declared.token_views.Sitting.{Sitting}
-use Rattle.lq_board.specs.declared.token_views.TokenView.{TokenView}
-use Rattle.lq_board.specs.declared.token_views.TokenView.TheVariants.{Seat, Pair, Spent}
+use Rattle.lq_board.specs.Known.{Moment, Sitting, TokenView, Seat, Pair, Spent}
 use Rattle.lq_board.specs.Roll.{is_listed, without_number, others_after, AreSeats}
 use Rattle.lq_board.specs.View.{paired, IsSeat, second_of, first_seat, of_roll, of_signs}
 use Rattle.lq_board.specs.Rule.{ViewFits, BoardState, BoardRule, IsKept}

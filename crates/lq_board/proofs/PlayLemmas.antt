@@ -10,11 +10,7 @@ use Rattle.lq_volume.specs.State.{State as VolumeState}
 use Rattle.lq_volume.specs.Change.{IsLawful}
 use Rattle.lq_volume.specs.Laws.{ChangesKeepTrees}
 use Rattle.lq_volume.specs.Book.{Book, grown, state_of}
-use Rattle.lq_board.specs.declared.token_views.Author.{Author}
-use Rattle.lq_board.specs.declared.token_views.Sitting.{Sitting}
-use Rattle.lq_board.specs.declared.token_views.Keeping.{Keeping}
-use Rattle.lq_board.specs.declared.token_views.TokenView.{TokenView}
-use Rattle.lq_board.specs.declared.token_views.TokenView.TheVariants.{Keeper, Seat}
+use Rattle.lq_board.specs.Known.{Author, Sitting, Keeping, TokenView, Keeper, Seat}
 use Rattle.lq_board.specs.Book.{IsFullBook}
 use Rattle.lq_board.specs.Roll.{numbers, others_after}
 use Rattle.lq_board.specs.Author.{IsWhole, with_author, with_change}

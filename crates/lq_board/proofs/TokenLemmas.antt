@@ -5,9 +5,7 @@ use mathlib.Core.Option.{some, some-injective, some-ne-none}
 use lib.ListN.{get_elem?}
 use Rattle.atomic_table.specs.declared.shared.Seat.{Seat as Token}
 use Rattle.atomic_table.specs.Table.{Me, Final, Seen}
-use Rattle.lq_board.specs.declared.token_views.Keeping.{Keeping}
-use Rattle.lq_board.specs.declared.token_views.TokenView.{TokenView}
-use Rattle.lq_board.specs.declared.token_views.TokenView.TheVariants.{Keeper}
+use Rattle.lq_board.specs.Known.{Keeping, TokenView, Keeper}
 use Rattle.lq_board.specs.Token.{BoardName, KeeperToken, SeatToken, seat_token, table_of, me_of}
 use Rattle.lq_board.specs.View.{IsSitting, sitting_of, IsSeat}
 use Rattle.lq_board.specs.Rule.{IsKept}

@@ -6,13 +6,7 @@ use lib.ListN.{get_elem?}
 use Rattle.atomic_table.specs.Table.{State, Me, Splits, Joins}
 use Rattle.atomic_table.proofs.Lists.{at_set}
 use Rattle.lq_volume.specs.Book.{Book}
-use Rattle.lq_board.specs.declared.token_views.Author.{Author}
-use Rattle.lq_board.specs.declared.token_views.Register.{Register}
-use Rattle.lq_board.specs.declared.token_views.KnownSlot.{KnownSlot}
-use Rattle.lq_board.specs.declared.token_views.Sitting.{Sitting}
-use Rattle.lq_board.specs.declared.token_views.Keeping.{Keeping}
-use Rattle.lq_board.specs.declared.token_views.TokenView.{TokenView}
-use Rattle.lq_board.specs.declared.token_views.TokenView.TheVariants.{Keeper, Seat, Pair, Spent}
+use Rattle.lq_board.specs.Known.{KnownSlot, Author, Register, Sitting, Keeping, TokenView, Keeper, Seat, Pair, Spent}
 use Rattle.lq_board.specs.Author.{no_author}
 use Rattle.lq_board.specs.Slot.{unused, slot_at}
 use Rattle.lq_board.specs.View.{plain, of_no_slot}

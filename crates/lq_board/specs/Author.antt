@@ -2,8 +2,7 @@
 -- The changes of a book have the numbers 1, 2, 3 and so on.
 use Rattle.std.specs.Prelude.{◌≡◌, ℕ, ◌+◌, ◌<◌, ◌≤◌, Bool, true, false, List, [], ◌∷◌, ◌++◌, length, Contains}
 use Rattle.lq_volume.specs.Book.{Book}
-use Rattle.lq_board.specs.declared.token_views.Author.{Author}
-use Rattle.lq_board.specs.declared.token_views.Register.{Register}
+use Rattle.lq_board.specs.Known.{Author, Register}
 use Rattle.lq_board.specs.Roll.{changes_after, numbers, AreSeats}
 
 -- each change of the book has one author, which is a seat

@@ -1,3 +1,4 @@
+pub mod Known
 pub mod Book
 pub mod Roll
 pub mod Author

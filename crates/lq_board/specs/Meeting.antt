@@ -5,10 +5,7 @@ use Rattle.atomic_table.specs.Table.{Me}
 use Rattle.lq_volume.specs.declared.change.Change.{Change}
 use Rattle.lq_volume.specs.Change.{after}
 use Rattle.lq_volume.specs.Book.{Extends, grown, state_of}
-use Rattle.lq_board.specs.declared.token_views.KnownSlot.{KnownSlot}
-use Rattle.lq_board.specs.declared.token_views.Sitting.{Sitting}
-use Rattle.lq_board.specs.declared.token_views.TokenView.{TokenView}
-use Rattle.lq_board.specs.declared.token_views.TokenView.TheVariants.{Seat}
+use Rattle.lq_board.specs.Known.{KnownSlot, Sitting, TokenView, Seat}
 use Rattle.lq_board.specs.Author.{new_author, with_author, with_change, with_opening}
 use Rattle.lq_board.specs.Book.{IsFullBook}
 use Rattle.lq_board.specs.Slot.{slot_at, gone_out, go_out, come_back}

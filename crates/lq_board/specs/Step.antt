@@ -3,8 +3,7 @@ use Rattle.std.specs.Prelude.{◌≡◌, ◌≢◌, ℕ, ◌+◌, ◌<◌, ◌�
 use Rattle.atomic_table.specs.Table.{Step, Me}
 use Rattle.lq_volume.specs.declared.change.Change.{Change}
 use Rattle.lq_volume.specs.Book.{grown, Extends}
-use Rattle.lq_board.specs.declared.token_views.TokenView.{TokenView}
-use Rattle.lq_board.specs.declared.token_views.TokenView.TheVariants.{Keeper, Seat, Pair}
+use Rattle.lq_board.specs.Known.{TokenView, Keeper, Seat, Pair}
 use Rattle.lq_board.specs.Book.{IsFullBook}
 use Rattle.lq_board.specs.Roll.{IsMerged, without_number}
 use Rattle.lq_board.specs.Author.{AreDisjoint, IsWhole, with_author, with_change}

@@ -4,12 +4,7 @@ use Rattle.atomic_table.specs.Seated.{TableId}
 use Rattle.atomic_table.specs.Table.{Me}
 use Rattle.atomic_table.specs.declared.shared.Seat.{Seat}
 use Rattle.lq_volume.specs.Book.{Book}
-use Rattle.lq_board.specs.declared.token_views.Author.{Author}
-use Rattle.lq_board.specs.declared.token_views.Register.{Register}
-use Rattle.lq_board.specs.declared.token_views.KnownSlot.{KnownSlot}
-use Rattle.lq_board.specs.declared.token_views.Moment.{Moment}
-use Rattle.lq_board.specs.declared.token_views.TokenView.{TokenView}
-use Rattle.lq_board.specs.declared.token_views.TokenView.TheVariants.{Spent}
+use Rattle.lq_board.specs.Known.{KnownSlot, Author, Register, Moment, TokenView, Spent}
 use Rattle.lq_board.specs.View.{keeping_of, sitting_of}
 
 -- which board it is: its words, and whether each seat may make changes (`free`), or just those that

@@ -3,14 +3,7 @@ use Rattle.std.specs.Prelude.{◌≡◌, ℕ, ◌<◌, Bool, List, [], ◌∷◌
 use Rattle.atomic_table.specs.Table.{Me}
 use Rattle.lq_volume.specs.State.{State}
 use Rattle.lq_volume.specs.Book.{Book}
-use Rattle.lq_board.specs.declared.token_views.Author.{Author}
-use Rattle.lq_board.specs.declared.token_views.Register.{Register}
-use Rattle.lq_board.specs.declared.token_views.KnownSlot.{KnownSlot}
-use Rattle.lq_board.specs.declared.token_views.Moment.{Moment}
-use Rattle.lq_board.specs.declared.token_views.Sitting.{Sitting}
-use Rattle.lq_board.specs.declared.token_views.Keeping.{Keeping}
-use Rattle.lq_board.specs.declared.token_views.TokenView.{TokenView}
-use Rattle.lq_board.specs.declared.token_views.TokenView.TheVariants.{Keeper, Seat, Pair}
+use Rattle.lq_board.specs.Known.{KnownSlot, Author, Register, Moment, Sitting, Keeping, TokenView, Keeper, Seat, Pair}
 use Rattle.lq_board.specs.Book.{no_book, IsFullBook}
 use Rattle.lq_board.specs.Author.{no_author, no_register, leader, leader_register, with_seat, with_opening, new_author, with_signs, with_roll}
 use Rattle.lq_board.specs.Slot.{unused, unused_slots, slot_at, gone_out, go_out, come_back}

@@ -125,7 +125,7 @@ impl<M, W: Chosen<M>> Split<TokenView<M>> for Again<W> {
 pub(crate) struct Back;
 
 impl<M> Join<TokenView<M>> for Back {
-    ghost use Rattle.lq_board.specs.declared.token_views.TokenView.TheVariants.{Spent};
+    ghost use Rattle.lq_board.specs.Known.{Spent};
     ghost use Rattle.lq_board.specs.View.{taken};
 
     ghost both = { taken };
@@ -137,7 +137,7 @@ impl<M> Join<TokenView<M>> for Back {
 pub(crate) struct Together;
 
 impl<M> Join<TokenView<M>> for Together {
-    ghost use Rattle.lq_board.specs.declared.token_views.TokenView.TheVariants.{Spent};
+    ghost use Rattle.lq_board.specs.Known.{Spent};
     ghost use Rattle.lq_board.specs.View.{paired};
 
     ghost both = { paired };

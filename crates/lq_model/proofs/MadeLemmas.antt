@@ -9,7 +9,7 @@ use Rattle.lq_volume.specs.declared.change.Change.{Change}
 use Rattle.lq_volume.specs.declared.change.Applied.{Applied}
 use Rattle.lq_volume.specs.Change.{refused}
 use Rattle.lq_volume.specs.Book.{Book, Extends, state_of}
-use Rattle.lq_board.specs.declared.token_views.Author.{Author}
+use Rattle.lq_board.specs.Known.{Author}
 use Rattle.lq_board.specs.Roll.{numbers, numbers_after}
 use Rattle.lq_board.specs.Author.{with_change}
 use Rattle.lq_board.specs.Token.{SeatToken}

@@ -1,6 +1,6 @@
 -- What an end knows after a step, so that the invariant of its type stays.
 use Rattle.std.proofs.Common.{◌≡◌, ◌+◌, ◌⊎◌, ℕ, Bool, List, [], ◌∷◌, ◌++◌, length, drop, refl, inl, inr, append_assoc, append-nil, arith, length-append}
-use Rattle.lq_port.specs.declared.step_types.Known.{Known}
+use Rattle.lq_port.specs.Known.{Known}
 use Rattle.lq_port.specs.End.{IsPutter, IsTaker}
 use Rattle.lq_port.specs.Port.{known_alone, put_of, AddsItem, IsLegal, Removes}
 use Rattle.lq_port.proofs.PortLemmas.{nil_is_legal, snoc_is_legal}

@@ -6,7 +6,7 @@ use lib.ListN.{get_elem?}
 use Rattle.std.proofs.Math.Seq.{drop-append_seam}
 use Rattle.crossbeam_channel.specs.Fifo.{Pushes, Pops, Forks, Merges, Learns}
 use Rattle.atomic_table.proofs.Lists.{at_set, at_snoc}
-use Rattle.lq_port.specs.declared.step_types.Known.{Known}
+use Rattle.lq_port.specs.Known.{Known}
 use Rattle.lq_port.specs.Port.{known_alone, putter, taker, idle, together, put_of, AddsItem, Totals, IsLegal, Removes, PassFits, PortRule, Shares}
 use Rattle.lq_port.proofs.ListLemmas.{nil_has_no_place, split_at_back, front_of, IsPrefix-snoc, IsPrefix-equal, place_at_back, AllAt, AllAt-set}
 

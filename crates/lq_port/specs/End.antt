@@ -7,7 +7,7 @@ use Rattle.crossbeam_channel.specs.declared.flavors.array.Key.{Key}
 use Rattle.crossbeam_channel.specs.declared.flavors.array.Rows.{Rows}
 use Rattle.crossbeam_channel.specs.declared.flavors.array.Doing.{Doing}
 use Rattle.crossbeam_channel.specs.Claims.{Pass, view}
-use Rattle.lq_port.specs.declared.step_types.Known.{Known}
+use Rattle.lq_port.specs.Known.{Known}
 use Rattle.lq_port.specs.Port.{IsLegal}
 
 -- the identity of a port

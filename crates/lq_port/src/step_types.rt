@@ -1,26 +1,20 @@
 //! What an end knows of its port, and the steps that change it. These types have no values.
 use crate::item_law::Follows;
 use crossbeam_channel::protocol::{Join, Lesson, Outcome, Protocol, Split};
-use std::collections::LinkedList;
-use std::marker::Brand;
+use std::marker::{Brand, Model, PhantomData};
 
-/// What one end knows: `taken` was taken, `ahead` was put and isn't in `taken`.
-///
-/// `puts` and `takes` say what the end may do, and `room` how many items the port holds at most, as
-/// the end for puts knows. The other fields count only while the two ends are joined: `whole` is
-/// all puts that the one end knew, `seen` all puts that the other knew, and `told` the other's
-/// floor.
-/// The form is our own.
+/// What one end knows, as contracts see it: a `Known` of `specs/Known`.
 pub struct Known<T, F> {
-    pub puts: bool,
-    pub takes: bool,
-    pub room: u64,
-    pub floor: F,
-    pub taken: LinkedList<T>,
-    pub ahead: LinkedList<T>,
-    pub whole: LinkedList<T>,
-    pub seen: LinkedList<T>,
-    pub told: F,
+    floor: F,
+    items: PhantomData<T>,
+}
+
+impl<T, F> Model for Known<T, F> {
+    ghost use Rattle.lq_port.specs.Known.{Known, nothing_known};
+
+    ghost Value = { Known T F };
+
+    ghost view = { λ v. nothing_known v.floor };
 }
 
 /// The rule of a port's channel: its items leave in the order in which they were put.

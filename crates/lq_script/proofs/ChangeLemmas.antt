@@ -8,7 +8,7 @@ use Rattle.lq_volume.specs.declared.change.Change.{Change}
 use Rattle.lq_volume.specs.declared.change.Applied.{Applied}
 use Rattle.lq_volume.specs.Change.{node_of}
 use Rattle.lq_volume.specs.Book.{Book, Extends, after_all, grown}
-use Rattle.lq_board.specs.declared.token_views.Author.{Author}
+use Rattle.lq_board.specs.Known.{Author}
 use Rattle.lq_board.specs.Author.{with_change}
 use Rattle.lq_server.specs.Applied.{IsAdded}
 use Rattle.lq_server_slots.specs.Slots.{before_of}

@@ -5,7 +5,7 @@ use Rattle.std.specs.Io.KnownBytes.{Appends, Keeps}
 use Rattle.lq_volume.specs.State.{State, empty_state}
 use Rattle.lq_volume.specs.declared.change.Applied.{Applied}
 use Rattle.lq_volume.specs.Book.{Book}
-use Rattle.lq_board.specs.declared.token_views.Author.{Author}
+use Rattle.lq_board.specs.Known.{Author}
 use Rattle.lq_board.specs.Author.{IsWhole}
 use Rattle.lq_board.specs.Token.{BoardName}
 use Rattle.lq_board.specs.Roll.{numbers}

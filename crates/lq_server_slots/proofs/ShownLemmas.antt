@@ -6,7 +6,7 @@ use Rattle.std.proofs.Math.ListN.{drop_of_length-le}
 use Rattle.std.proofs.lemmas.List.FromFn.{get_or-map-range_with_len}
 use Rattle.lq_volume.specs.declared.change.Change.{Change}
 use Rattle.lq_volume.specs.Book.{Book, state_of}
-use Rattle.lq_board.specs.declared.token_views.KnownSlot.{KnownSlot}
+use Rattle.lq_board.specs.Known.{KnownSlot}
 use Rattle.lq_board.specs.Book.{IsFullBook}
 use Rattle.lq_board.specs.Slot.{slot_at}
 use Rattle.lq_update.specs.declared.message.Message.{Message}

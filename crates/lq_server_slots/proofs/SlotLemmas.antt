@@ -6,7 +6,7 @@ use native.Mathlib.Decide.{ℕ_discrete}
 use Rattle.lq_volume.specs.declared.change.Change.{Change}
 use Rattle.lq_volume.specs.Change.{IsLawful}
 use Rattle.lq_volume.specs.Book.{Book, grown, state_of}
-use Rattle.lq_board.specs.declared.token_views.KnownSlot.{KnownSlot}
+use Rattle.lq_board.specs.Known.{KnownSlot}
 use Rattle.lq_board.specs.Book.{IsFullBook}
 use Rattle.lq_board.specs.Slot.{slot_at, unused, unused_slots, counted}
 use Rattle.lq_board.specs.Token.{KeeperToken}

@@ -4,7 +4,7 @@ use Rattle.std.specs.Prelude.{IsSome, IsSomeAnd}
 use Rattle.std.proofs.lemmas.List.{set-get_or}
 use Rattle.lq_volume.specs.declared.change.Change.{Change}
 use Rattle.lq_volume.specs.Book.{Book, Extends, grown}
-use Rattle.lq_board.specs.declared.token_views.KnownSlot.{KnownSlot}
+use Rattle.lq_board.specs.Known.{KnownSlot}
 use Rattle.lq_board.specs.Slot.{slot_at, unused, gone_out, go_out, come_back}
 use Rattle.lq_board.specs.Token.{KeeperToken, SeatToken}
 use Rattle.lq_board.specs.Meeting.{HasAdded, HasMet}

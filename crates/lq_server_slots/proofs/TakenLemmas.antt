@@ -4,7 +4,7 @@ use Rattle.std.specs.Prelude.{IfNone, IfSome, IsSome, is_none, is_some, slice_in
 use Rattle.std.proofs.lemmas.List.{get_or_read}
 use mathlib.Core.Logic.{dite}
 use native.Mathlib.Decide.{ℕ_discrete}
-use Rattle.lq_board.specs.declared.token_views.KnownSlot.{KnownSlot}
+use Rattle.lq_board.specs.Known.{KnownSlot}
 use Rattle.lq_volume.specs.Book.{Book}
 use Rattle.lq_board.specs.Slot.{slot_at}
 use Rattle.lq_desk_sub.specs.SlotSet.{has, IsEmpty}

@@ -1,5 +1,6 @@
 -- One subscription: begin with Rule, then LegalList, Standing and Reading. All slots: Slots, then
 -- Changing.
+pub mod Names
 pub mod Updates
 pub mod Rule
 pub mod LegalList

@@ -4,7 +4,7 @@ use Rattle.lq_volume.specs.State.{State}
 use Rattle.lq_volume.specs.declared.change.Change.{Change}
 use Rattle.lq_volume.specs.Change.{IsLawful}
 use Rattle.lq_volume.specs.Book.{Book, Extends, grown, state_of}
-use Rattle.lq_board.specs.declared.token_views.KnownSlot.{KnownSlot}
+use Rattle.lq_board.specs.Known.{KnownSlot}
 use Rattle.lq_board.specs.Book.{IsFullBook}
 use Rattle.lq_board.specs.Slot.{slot_at}
 use Rattle.lq_board.specs.Token.{KeeperToken, SeatToken}
@@ -68,7 +68,8 @@ pub record IsConsistentWith (slots : ServerSlots) (volume : State) : Type 0 wher
 abbrev pub IsNoticed : Subscription → KnownSlot Identity → Type 0
 IsNoticed s p = s.asks < p.asks → IsSome s.sub.held.mark
 
--- and its messages and mark were put until none was left or its port was full
+-- A subscription has its mark if its reader asked for its end. Its messages and mark were put until
+-- none was left or its port was full.
 pub record IsServed (s : Subscription) (p : KnownSlot Identity) : Type 0 where
   pub noticed : IsNoticed s p
   pub stuck : CannotPut s
@@ -107,7 +108,8 @@ pub record KeepsBook (old new : KeeperToken Identity) (place : ℕ) : Type 0 whe
   pub book : new.book ≡ old.book
   pub only : OnlyAt old.slots new.slots place
 
--- and its slot, o before and p after, stands on, taken or free as it was, and no asks are added
+-- A call at a slot keeps what `KeepsBook` says. The slot, o before and p after, stands on, taken or
+-- free as it was, and no asks are added.
 pub record KeepsSlot (old new : KeeperToken Identity) (place : ℕ) (o p : Option Subscription)
     : Type 0 where
   pub keeper : KeepsBook old new place
@@ -121,7 +123,7 @@ pub record KeepsCounts (old new : ServerSlots) : Type 0 where
   pub counted : new.keeper.register.openings ≡ old.keeper.register.openings
   pub openings : new.openings ≡ old.openings
 
--- and so does the book, over which all slots stand
+-- the board, the numbers of openings and the book stay, and all slots stand over the book
 pub record KeepsSlots (old new : ServerSlots) : Type 0 where
   pub counts : KeepsCounts old new
   pub book : new.keeper.book ≡ old.keeper.book
@@ -157,7 +159,7 @@ abbrev pub IsReadyAt : Option Subscription → State → Change → Type 0
 IsReadyAt None s c = Unit {0}
 IsReadyAt (Some slot) s c = IsReady slot.sub s c
 
--- and for all slots
+-- the messages of a change are prepared for all slots
 abbrev pub AllReady : List (Option Subscription) → State → Change → Type 0
 AllReady slots s c = (k : ℕ) → 0 < k → k < 65 → IsReadyAt (slot_in slots k) s c
 

@@ -1,23 +1,6 @@
 //! The names of subscriptions, for contracts alone.
-use lq_predicate::Predicate;
 use lq_update::Mark;
 use std::marker::Model;
-
-/// Which port it is, as a contract sees it. No value of this type exists.
-pub struct PortId {
-    none: u8,
-}
-
-impl Model for PortId {
-    ghost use base.Stored.{Gv, gnil};
-    ghost use Rattle.atomic_table.specs.Seated.{itself};
-
-    ghost Value = { Gv };
-
-    ghost coded = { itself };
-
-    ghost view = { λ _. gnil };
-}
 
 /// The answer of the first close of a subscription.
 #[derive(Clone, Copy, Debug, PartialEq, Eq)]
@@ -40,26 +23,22 @@ pub enum Told {
 }
 
 /// The name that goes with a slot's seat: which subscription it is, what its reader was last told
-/// of it, and what its first close answered.
+/// of it, and what its first close answered. Contracts see an `Identity` of `specs/Names`.
 ///
 /// No value of this type exists.
 pub struct Identity {
-    /// The query.
-    pub query: Predicate,
-    /// Whether one message reports a node that changed its place within the result.
-    pub moved: bool,
-    /// The number of changes at the opening.
-    pub opened: u64,
-    /// The number of places of the port.
-    pub places: u64,
-    /// The most messages that are held before the port.
-    pub backlog: u64,
-    /// How often the slot's seats had asked at the opening.
-    pub asks: u64,
-    /// What its reader was last told.
-    pub told: Told,
-    /// What the first close answered.
-    pub first_close: FirstClose,
-    /// The port.
-    pub port: PortId,
+    none: u8,
+}
+
+impl Model for Identity {
+    ghost use Rattle.std.specs.Coded.{codes};
+    ghost use Rattle.atomic_table.specs.Seated.{itself};
+    ghost use Rattle.lq_predicate.specs.contracts.predicate.Predicate as a_predicate;
+    ghost use Rattle.lq_server_slots.specs.Names.{Identity, no_identity};
+
+    ghost Value = { Identity };
+
+    ghost coded = { Prim.hlevel (codes, itself, a_predicate.the_row.coded) };
+
+    ghost view = { λ _. no_identity };
 }

@@ -1,7 +1,7 @@
 -- The one seat's changes are all changes, so it knew all of them when one was refused.
 use Rattle.std.proofs.Common.{◌≡◌, ◌≤◌, ℕ, List, length, sym, ap, ◌∙◌, arith}
 use Rattle.lq_volume.specs.Book.{Book}
-use Rattle.lq_board.specs.declared.token_views.Author.{Author}
+use Rattle.lq_board.specs.Known.{Author}
 use Rattle.lq_board.specs.Author.{with_roll}
 use Rattle.lq_board.specs.Roll.{without_number, numbers}
 use Rattle.lq_board.specs.Token.{SeatToken}

@@ -1,7 +1,7 @@
 -- The leading seat has gathered what the one enlisted seat made, and no other is enlisted.
 use Rattle.std.proofs.Common.{ℕ, List, sym, ap, ◌∙◌, subst}
 use Rattle.lq_volume.specs.Book.{Book}
-use Rattle.lq_board.specs.declared.token_views.Author.{Author}
+use Rattle.lq_board.specs.Known.{Author}
 use Rattle.lq_board.specs.Author.{with_roll}
 use Rattle.lq_board.specs.Roll.{without_number}
 use Rattle.lq_board.specs.Token.{SeatToken}
