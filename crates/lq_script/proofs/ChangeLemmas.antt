@@ -1,5 +1,5 @@
 -- The changes that a seat made, in the books that it knows.
-use Rattle.std.proofs.Common.{◌≡◌, ℕ, zero, suc, ◌-◌, ◌<◌, ◌≤◌, List, [], ◌∷◌, ◌++◌, length, map, slice_get, Some, Result, Ok, Err, IfOk, OnErr, refl, sym, ap, ◌∙◌, subst, arith, length-append, append_assoc, append-nil}
+use Rattle.std.proofs.Common.{◌≡◌, ℕ, zero, suc, ◌-◌, ◌<◌, ◌≤◌, List, [], ◌∷◌, ◌++◌, length, map, slice_get, Some, Result, Ok, Err, IfOk, OnErr, refl, sym, ap, ◌∙◌, subst, arith, append_assoc, append-nil}
 use Rattle.std.proofs.lemmas.List.{map-append, take-append-le}
 use Rattle.std.specs.List.{AllByRecursion}
 use Rattle.lq_value.specs.declared.refusal.Refusal.{Refusal}
@@ -9,13 +9,11 @@ use Rattle.lq_volume.specs.declared.change.Applied.{Applied}
 use Rattle.lq_volume.specs.Change.{node_of}
 use Rattle.lq_volume.specs.Book.{Book, Extends, after_all, grown}
 use Rattle.lq_board.specs.Known.{Author}
-use Rattle.lq_board.specs.Author.{with_change}
-use Rattle.lq_server.specs.Applied.{IsAdded}
-use Rattle.lq_server_slots.specs.Slots.{before_of}
+use Rattle.lq_server.specs.Made.{IsChangeOf, MakesMore, state_before}
 use Rattle.lq_script_desk.specs.declared.response.Response.{Response}
 use Rattle.lq_script_desk.specs.Answer.{response_of}
-use Rattle.lq_script.specs.Changes.{IsChangeOf, change_told, state_before}
-use Rattle.lq_script.specs.Progress.{MakesMore, OwnToken}
+use Rattle.lq_script.specs.Changes.{change_told}
+use Rattle.lq_script.specs.Progress.{OwnToken}
 
 -- what stands at a place of a list is within it
 get_within : (xs : List Change) (i : ℕ) (c : Change) → slice_get xs i ≡ Some c → i < length xs
@@ -29,11 +27,6 @@ slice_get-before : (xs ys : List Change) (i : ℕ) (c : Change) → slice_get xs
 slice_get-before [] ys i c h = cc
 slice_get-before (x ∷ xs) ys zero c h = h
 slice_get-before (x ∷ xs) ys (suc i) c h = slice_get-before xs ys i c h
-
--- what comes after a list stands at its length
-slice_get-after : (xs ys : List Change) (c : Change) → slice_get (xs ++ c ∷ ys) (length xs) ≡ Some c
-slice_get-after [] ys c = refl
-slice_get-after (x ∷ xs) ys c = slice_get-after xs ys c
 
 -- a change of a book is one of each book that extends it
 change_later : (b c : Book) (a : Applied) → Extends c b → IsChangeOf b a → IsChangeOf c a
@@ -101,16 +94,6 @@ made_none a b author later = record {
   each = tt;
 }
 
--- a seat that only knows a later book, and all else of it as it was
-pub made_book : (a b : OwnToken) → b ≡ record a { book = b.book } → Extends b.book a.book
-    → MakesMore a b []
-made_book a b same later = made_none a b (ap (λ (s : OwnToken). s.author) same) later
-
--- or with other moments
-pub made_moments : (a b : OwnToken) → b ≡ record a { book = b.book; moments = b.moments }
-    → Extends b.book a.book → MakesMore a b []
-made_moments a b same later = made_none a b (ap (λ (s : OwnToken). s.author) same) later
-
 -- the same seat
 pub made_same : (a : OwnToken) → MakesMore a a []
 made_same a = made_none a a refl (
@@ -118,35 +101,6 @@ made_same a = made_none a a refl (
   ap (λ (cs : List Change). record { start = a.book.start; changes = cs })
       (sym (append-nil a.book.changes)),
 )
-
--- a seat that made one
-pub made_one : (a b : OwnToken) (t : Applied) (c : Change)
-    → b.author ≡ with_change a.author t.change → IsAdded a.book b.book t c
-    → MakesMore a b (t ∷ [])
-made_one a b t c author d =
-    let before = (before_of b.book).changes in
-    let whole : b.book.changes ≡ before ++ c ∷ [] = ap (λ (x : Book). x.changes) d.place in
-    let long : t.change - 1 ≡ length before =
-    omega (
-      arith,
-      d.number,
-      ap (λ (xs : List Change). length xs) whole,
-      length-append before (c ∷ []),
-    ) in
-    record {
-      author = author;
-      later = d.later;
-      each = (
-        record {
-          change = c;
-          place = subst (λ (xs : List Change). slice_get xs (t.change - 1) ≡ Some c) (sym whole)
-              (subst (λ (n : ℕ). slice_get (before ++ c ∷ []) n ≡ Some c) (sym long)
-              (slice_get-after before [] c));
-          node = d.node ∙ ap (λ (n : ℕ). node_of (state_before b.book n) c) (sym d.number);
-        },
-        tt,
-      );
-    }
 
 -- where no change was made, none is told by a reply that tells none
 pub ok_made : (r : Result Response Refusal) (a b : OwnToken) → MakesMore a b []

@@ -8,7 +8,7 @@ use Rattle.lq_desk_sub.specs.contracts.read.Read as read
 use Rattle.lq_server.specs.declared.server_base.Named.{Ghosts}
 use Rattle.lq_server.specs.contracts.server.Server as server
 use Rattle.lq_script.specs.contracts.batch.SlotReads as slot_reads
-use Rattle.lq_script.proofs.tokens.OwnReader.TheSendSync as found_reader
+use Rattle.lq_server.proofs.own_tokens.OwnReader.TheSendSync as found_reader
 
 -- it is `Send`, where the server and the gate are `Sync`
 pub slot_reads_send : (ℓ : NamedLft) (N G : RattleType) (g : Ghosts N.Denot)

@@ -1,5 +1,5 @@
 -- What several lines of a run have done, and a whole run.
-use Rattle.std.proofs.Common.{◌≡◌, inl, inr, ℕ, ◌≤◌, List, [], ◌∷◌, ◌++◌, length, map, take, drop, Option, Some, None, Result, Ok, Err, OnOk, OnErr, IfErr, is_err, true, false, refl, sym, ap, ◌∙◌, subst, arith, append_assoc, append-nil, take-append-drop}
+use Rattle.std.proofs.Common.{◌≡◌, inl, inr, ℕ, ◌≤◌, List, [], ◌∷◌, ◌++◌, length, map, Option, Some, None, Result, Ok, Err, OnOk, OnErr, IfErr, is_err, true, false, refl, sym, ap, ◌∙◌, subst, arith, append_assoc, append-nil}
 use Rattle.std.proofs.KnownBytes.{Appends-nil, Appends-trans}
 use Rattle.std.specs.Io.KnownBytes.{Appends, Keeps}
 use Rattle.lq_volume.specs.State.{State, empty_state}
@@ -10,15 +10,17 @@ use Rattle.lq_board.specs.Author.{IsWhole}
 use Rattle.lq_board.specs.Token.{BoardName}
 use Rattle.lq_board.specs.Roll.{numbers}
 use Rattle.lq_server.specs.Counted.{leading_seat}
+use Rattle.lq_server.specs.Made.{MakesMore}
 use Rattle.lq_server.specs.Retired.{IsRetired}
 use Rattle.lq_desk_world.specs.Events.{Answer, Changed, Opened, Moved, Took, Empty, Ended, Asked, Noticed, Shut, Finished, Refused}
 use Rattle.lq_script_desk.specs.Response.{Response, Answers, Refuses, Found, Listed, Fetched, Rebuilt}
 use Rattle.lq_script_desk.specs.Reply.{reply_text}
+use Rattle.lq_script_desk.specs.Writes.{HasTaken, ClosesAfter, ClosesRun, PutsText}
 use mathlib.Core.List.{IsPrefix}
 use Rattle.lq_script_lines.specs.declared.run_fault.RunFault.{RunFault}
 use Rattle.lq_script_lines.specs.declared.run_fault.RunFault.TheVariants.{Read, Write, Limit, Memory, Thread}
-use Rattle.lq_script.specs.Changes.{HasTaken, LeavesUntold, TellsAllChanges, change_in, change_told, changes_told, replies_text}
-use Rattle.lq_script.specs.Progress.{AppendsReads, Carries, ClosesAfter, ClosesRun, FailsToPut, MakesMore, OwnToken, PutsText, SeatStanding, TellsMade, TellsRetired}
+use Rattle.lq_script.specs.Changes.{LeavesUntold, TellsAllChanges, change_in, change_told, changes_told, replies_text}
+use Rattle.lq_script.specs.Progress.{AppendsReads, Carries, OwnToken, SeatStanding, TellsMade, TellsRetired}
 use Rattle.lq_script.proofs.ChangeLemmas.{each_later, made_same, made_then}
 
 -- ---- what a writer took
@@ -287,23 +289,6 @@ carries_written result a b seat put =
     carries_reads result a b a.waits seat (no_reads a.waits) put
 
 -- ---- what the runner's parts put
-
--- a write of all that waits, of which none waits then; where it failed, the writer took a front
-pub puts_waiting : (r : Result (Unit {0}) RunFault) (w w' : Option (List ℕ)) (waits left : List ℕ)
-    → OnOk r (Appends w w' waits) → left ≡ []
-    → OnErr r ((n : ℕ) × Appends w w' (take n waits)) → IfErr r (λ e. e ≡ Write)
-    → PutsText r w waits w' left []
-puts_waiting (Ok done) w w' waits left whole none part fault =
-    record { taken = waits; appended = whole; split = ap (λ (l : List ℕ). waits ++ l) (sym none) }
-puts_waiting (Err e) w w' waits left whole none part fault =
-    subst (λ (f : RunFault). FailsToPut f w waits w' left []) (sym fault) (
-      drop part.0 waits,
-      record {
-        taken = take part.0 waits;
-        appended = part.1;
-        split = append-nil waits ∙ sym (take-append-drop part.0 waits);
-      },
-    )
 
 -- a line that made no change, and whose reply had no memory
 pub carries_quiet : (a b : SeatStanding) → MakesMore a.seat b.seat [] → b.written ≡ a.written

@@ -1,16 +1,15 @@
 -- The changes that a run's server made, as the replies to the script's lines tell them.
-use Rattle.std.specs.Prelude.{◌≡◌, ℕ, ◌-◌, ◌≤◌, List, [], ◌∷◌, ◌++◌, length, map, take, slice_get, Option, Some, Result, Ok, Err}
+use Rattle.std.specs.Prelude.{◌≡◌, ℕ, ◌≤◌, List, [], ◌∷◌, ◌++◌, length, map, Option, Result, Ok, Err}
 use Rattle.std.specs.List.{AllByRecursion}
-use Rattle.std.specs.Io.KnownBytes.{Appends}
-use Rattle.lq_volume.specs.State.{State, empty_state}
-use Rattle.lq_volume.specs.declared.change.Change.{Change}
+use Rattle.lq_volume.specs.State.{empty_state}
 use Rattle.lq_volume.specs.declared.change.Applied.{Applied}
-use Rattle.lq_volume.specs.Change.{node_of}
-use Rattle.lq_volume.specs.Book.{Book, IsBook, after_all}
+use Rattle.lq_volume.specs.Book.{Book, IsBook}
 use Rattle.lq_board.specs.Roll.{numbers}
+use Rattle.lq_server.specs.Made.{IsChangeOf}
 use Rattle.lq_desk_world.specs.Events.{Answer, Changed}
 use Rattle.lq_script_desk.specs.Response.{Response, Answers}
 use Rattle.lq_script_desk.specs.Reply.{reply_text}
+use Rattle.lq_script_desk.specs.Writes.{HasTaken}
 use Rattle.lq_script_lines.specs.declared.run_fault.RunFault.{RunFault}
 use Rattle.lq_script_lines.specs.declared.run_fault.RunFault.TheVariants.{Read, Write, Limit, Memory, Thread}
 
@@ -37,23 +36,7 @@ abbrev pub replies_text : List Response → List ℕ
 replies_text [] = []
 replies_text (reply ∷ replies) = reply_text reply ++ replies_text replies
 
--- a writer took these bytes, but for a rest of them
-pub record HasTaken (written written' : Option (List ℕ)) (bytes rest : List ℕ) : Type 0 where
-  pub taken : List ℕ
-  pub appended : Appends written written' taken
-  pub split : bytes ≡ taken ++ rest
-
 -- ---- the changes of a book
-
--- the state before change n of a book
-abbrev pub state_before : Book → ℕ → State
-state_before book n = after_all book.start (take (n - 1) book.changes)
-
--- the book has a change of this number, and that change created or named this node
-pub record IsChangeOf (book : Book) (told : Applied) : Type 0 where
-  pub change : Change
-  pub place : slice_get book.changes (told.change - 1) ≡ Some change
-  pub node : told.node ≡ node_of (state_before book told.change) change
 
 -- these are all changes of the book, each once, in their order: 1, 2, 3 and so on
 pub record AreAllChanges (book : Book) (told : List Applied) : Type 0 where

@@ -1,54 +1,27 @@
 -- What a part of a run by a server has done: the changes of its seat, and the replies to them.
-use Rattle.std.specs.Prelude.{◌≡◌, ◌⊎◌, ℕ, ◌≤◌, List, [], ◌++◌, length, map, Option, Result, Ok, Err}
-use Rattle.std.specs.List.{AllByRecursion}
+use Rattle.std.specs.Prelude.{◌≡◌, ℕ, ◌≤◌, List, [], ◌++◌, length, Option, Result, Ok, Err}
 use Rattle.lq_volume.specs.State.{State}
 use Rattle.lq_volume.specs.declared.change.Applied.{Applied}
-use Rattle.lq_volume.specs.Book.{Book, Extends}
+use Rattle.lq_volume.specs.Book.{Book}
 use Rattle.lq_board.specs.Token.{SeatToken}
 use Rattle.lq_server_slots.specs.declared.identity.Identity.{Identity}
+use Rattle.lq_server.specs.Made.{MakesMore}
 use Rattle.lq_server.specs.Retired.{IsRetired}
 use Rattle.lq_script_desk.specs.Response.{Response}
+use Rattle.lq_script_desk.specs.Writes.{HasTaken}
 use Rattle.lq_script_lines.specs.declared.run_fault.RunFault.{RunFault}
 use Rattle.lq_script_lines.specs.declared.run_fault.RunFault.TheVariants.{Read, Write, Limit, Memory, Thread}
-use Rattle.lq_script.specs.Changes.{HasTaken, IsChangeOf, LeavesUntold, TellsAllOf, changes_told, replies_text}
+use Rattle.lq_script.specs.Changes.{LeavesUntold, TellsAllOf, changes_told, replies_text}
 
 -- what a contract sees of the seat of a run
 abbrev pub OwnToken : Type 0
 OwnToken = SeatToken Identity
-
--- A seat made these changes more, in this order, and no others. The book that it then knows has
--- them.
-pub record MakesMore (old new : OwnToken) (made : List Applied) : Type 0 where
-  pub author : new.author
-      ≡ record old.author { changes = old.author.changes ++ map (λ a. a.change) made }
-  pub later : Extends new.book old.book
-  pub each : AllByRecursion (IsChangeOf new.book) made
-
--- ---- replies that were put
 
 -- replies that tell no change were appended to a text
 pub record AppendsReads (old new : List ℕ) : Type 0 where
   pub replies : List Response
   pub none : changes_told replies ≡ []
   pub appended : new ≡ old ++ replies_text replies
-
--- This text was put behind the replies that wait, which are written in part or whole. Where the
--- writer failed, a rest is lost. Where memory was wanting, the text wasn't put.
-abbrev pub FailsToPut : RunFault → Option (List ℕ) → List ℕ → Option (List ℕ) → List ℕ → List ℕ
-    → Type 0
-FailsToPut Read written waits written' waits' text = ⊥
-FailsToPut Write written waits written' waits' text =
-    (rest : List ℕ) × HasTaken written written' (waits ++ text) rest
-FailsToPut Limit written waits written' waits' text = ⊥
-FailsToPut Memory written waits written' waits' text = HasTaken written written' waits waits'
-FailsToPut Thread written waits written' waits' text = ⊥
-
-abbrev pub PutsText : Result (Unit {0}) RunFault → Option (List ℕ) → List ℕ → Option (List ℕ)
-    → List ℕ → List ℕ → Type 0
-PutsText (Ok done) written waits written' waits' text =
-    HasTaken written written' (waits ++ text) waits'
-PutsText (Err fault) written waits written' waits' text =
-    FailsToPut fault written waits written' waits' text
 
 -- ---- lines that were carried out
 
@@ -84,22 +57,6 @@ pub record Carries (result : Result (Unit {0}) RunFault) (old new : SeatStanding
   pub stops : Stops result untold rest new.waits
 
 -- ---- the end of a run
-
--- The fault that a run answers after this one. Unless the fault is the writer's, all that waited is
--- written, or the writer failed then.
-abbrev pub ClosesAfter : RunFault → RunFault → Option (List ℕ) → List ℕ → Option (List ℕ)
-    → Type 0
-ClosesAfter fault answer written waits written' =
-    ((answer ≡ fault) × HasTaken written written' waits [])
-    ⊎ ((answer ≡ Write) × ((rest : List ℕ) × HasTaken written written' waits rest))
-
-abbrev pub ClosesRun : RunFault → RunFault → Option (List ℕ) → List ℕ → Option (List ℕ) → Type 0
-ClosesRun Read answer written waits written' = ClosesAfter Read answer written waits written'
-ClosesRun Write answer written waits written' =
-    (answer ≡ Write) × HasTaken written written' [] []
-ClosesRun Limit answer written waits written' = ClosesAfter Limit answer written waits written'
-ClosesRun Memory answer written waits written' = ClosesAfter Memory answer written waits written'
-ClosesRun Thread answer written waits written' = ClosesAfter Thread answer written waits written'
 
 -- a run by this seat: the changes that the seat made are those that the replies tell, and `untold`
 pub record TellsMade (result : Result (Unit {0}) RunFault) (old new : OwnToken)

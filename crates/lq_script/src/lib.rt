@@ -17,13 +17,11 @@ mod canonical_text;
 mod commands;
 mod gate;
 mod lines;
-mod output;
 mod readers;
 mod runner;
 mod server_session;
 mod tasks;
 mod threads;
-mod tokens;
 mod workers;
 
 pub use arguments::program;

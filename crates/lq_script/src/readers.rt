@@ -1,8 +1,7 @@
 //! The readers of the slots. No clause says what these calls do.
-use crate::tokens::OwnReader;
 use lq_desk_sub::SlotIndex;
 use lq_script_desk::SLOTS;
-use lq_server::Named;
+use lq_server::{Named, OwnReader};
 use lq_value::Refusal;
 use std::alloc::Global;
 
@@ -40,7 +39,7 @@ impl<N: Named> Readers<N> {
 
     /// Puts a reader in the place of its slot.
     pub fn put(&mut self, reader: OwnReader<N>) {
-        if let Ok(place) = self.place(reader.slot()) {
+        if let Ok(place) = self.place(reader.reader().slot()) {
             *place = Some(reader);
         }
     }

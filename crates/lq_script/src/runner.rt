@@ -3,13 +3,11 @@ ghost use Rattle.std.specs.Prelude.{◌≡◌, ◌⊎◌, ◌+◌, ◌<◌, [], 
 ghost use Rattle.lq_script.specs.Progress.{Carries, seat_standing};
 
 use crate::gate::Gate;
-use crate::output::Output;
 use crate::server_session::ServerSession;
-use crate::tokens::OwnSeat;
-use lq_script_desk::Response;
+use lq_script_desk::{Output, Response};
 use lq_script_lines::{LF, RunFault, Sink};
 use lq_script_request::{Event, Request, Scratch, request_in};
-use lq_server::Named;
+use lq_server::{Named, OwnSeat};
 use lq_value::Refusal;
 use memchr::memchr;
 use std::alloc::Global;

@@ -1,19 +1,20 @@
 //! The replies to lines, by a server's public calls. Clauses say only which changes they tell.
 ghost use Rattle.std.specs.Prelude.{◌≡◌, [], IfOk, OnOk, OnErr};
+ghost use Rattle.lq_server.specs.Made.{MakesMore};
 ghost use Rattle.lq_script_desk.specs.Answer.{response_of};
 ghost use Rattle.lq_script.specs.Changes.{change_told};
-ghost use Rattle.lq_script.specs.Progress.{AppendsReads, MakesMore};
+ghost use Rattle.lq_script.specs.Progress.{AppendsReads};
 
 use crate::batch::{SlotReads, read_beside};
 use crate::gate::Gate;
 use crate::readers::Readers;
-use crate::tokens::OwnSeat;
 use crate::workers::Workers;
 use lq_predicate::Predicate;
 use lq_script_desk::{Reply, Response};
 use lq_script_request::{Event, Look, Request};
-use lq_server::{Named, Server};
-use lq_value::Refusal;
+use lq_server::{Named, OwnReader, OwnSeat, Server};
+use lq_value::{Entry, Refusal};
+use lq_volume::Change;
 use std::alloc::Global;
 use std::sync::Wait;
 use std::thread::Threads;
@@ -111,17 +112,48 @@ impl<
     {
         match request {
             Request::Event(event) => self.event(event),
-            Request::Look(Look::Find { dir, name }) => {
-                self.seat.find(self.rt, self.server, *dir, name)
-            }
-            Request::Look(Look::Entry { node }) => self.seat.listing(self.rt, self.server, *node),
-            Request::Look(Look::Fetch { predicate }) => {
-                self.seat.fetch(self.rt, self.server, predicate)
-            }
-            Request::Look(Look::Rebuilt { slot }) => {
-                self.readers.reader(*slot)?.rebuilt(self.alloc)
-            }
+            Request::Look(look) => self.look(look),
         }
+    }
+
+    fn look(&mut self, look: &Look) -> Result<Response, Refusal>
+        ensures made { MakesMore self.old.seat self.new.seat [] }
+        ensures none { IfOk result (λ r. change_told (response_of r) ≡ []) }
+    {
+        match look {
+            Look::Find { dir, name } => {
+                let node = self.seat.find(self.rt, self.server, *dir, name)?;
+                Ok(Response::Found { node })
+            }
+            Look::Entry { node } => {
+                let listing = self.seat.listing(self.rt, self.server, *node)?;
+                Ok(Response::Listed {
+                    node: *node,
+                    listing,
+                })
+            }
+            Look::Fetch { predicate } => {
+                let found = self.seat.fetch(self.rt, self.server, predicate)?;
+                Ok(Response::Fetched {
+                    at: found.at,
+                    result: found.entries,
+                })
+            }
+            Look::Rebuilt { slot } => self.rebuilt(*slot),
+        }
+    }
+
+    // The result that was rebuilt from what a slot's reader has read.
+    fn rebuilt(&mut self, slot: u64) -> Result<Response, Refusal>
+        ensures seat { self.new.seat ≡ self.old.seat }
+        ensures none { IfOk result (λ r. change_told (response_of r) ≡ []) }
+    {
+        let reader = self.readers.reader(slot)?.reader();
+        Ok(Response::Rebuilt {
+            change: reader.last_change(),
+            result: copied(self.alloc, reader.result())?,
+            settled: reader.is_settled(),
+        })
     }
 
     fn event(&mut self, event: &Event) -> Result<Response, Refusal>
@@ -130,19 +162,30 @@ impl<
         ensures err { OnErr result (MakesMore self.old.seat self.new.seat []) }
     {
         match event {
-            Event::Change(change) => self.seat.change(self.rt, self.server, change),
+            Event::Change(change) => self.change(change),
             Event::Open {
                 predicate,
                 port,
                 backlog,
                 moved,
             } => self.open(predicate, *port, *backlog, *moved),
-            Event::HangUp(slot) => Ok(self.readers.reader(*slot)?.hang_up(self.server)),
-            Event::Close(slot) => self.readers.reader(*slot)?.close(self.rt, self.server),
+            Event::HangUp(slot) => self.hang_up(*slot),
+            Event::Close(slot) => self.close(*slot),
             Event::Finish(slot) => self.finish(*slot),
             // A `read` goes with its batch, and no line asks for the other two.
             Event::Take(_) | Event::Put(_) | Event::Notice(_) => Err(Refusal::BadLine),
         }
+    }
+
+    // The reply tells the change that the seat made.
+    fn change(&mut self, change: &Change) -> Result<Response, Refusal>
+        ensures made { IfOk result (λ r.
+            MakesMore self.old.seat self.new.seat (change_told (response_of r))) }
+        ensures err { OnErr result (MakesMore self.old.seat self.new.seat []) }
+    {
+        let applied = self.seat.apply(self.rt, self.server, change)?;
+        let reply = Reply::Changed(applied);
+        Ok(Response::Reply { slot: 0, reply })
     }
 
     fn open(
@@ -158,9 +201,27 @@ impl<
         let reader = self
             .seat
             .open(self.rt, self.server, predicate, port, backlog, moved)?;
-        let opened = reader.opened(self.alloc);
+        let opened = opened(self.alloc, &reader);
         self.readers.put(reader);
         opened
+    }
+
+    fn hang_up(&mut self, slot: u64) -> Result<Response, Refusal>
+        ensures seat { self.new.seat ≡ self.old.seat }
+        ensures none { IfOk result (λ r. change_told (response_of r) ≡ []) }
+    {
+        self.readers.reader(slot)?.hang_up(self.server);
+        let reply = Reply::Asked;
+        Ok(Response::Reply { slot, reply })
+    }
+
+    fn close(&mut self, slot: u64) -> Result<Response, Refusal>
+        ensures seat { self.new.seat ≡ self.old.seat }
+        ensures none { IfOk result (λ r. change_told (response_of r) ≡ []) }
+    {
+        let change = self.readers.reader(slot)?.close(self.rt, self.server)?;
+        let reply = Reply::Shut(change);
+        Ok(Response::Reply { slot, reply })
     }
 
     fn finish(&mut self, slot: u64) -> Result<Response, Refusal>
@@ -181,4 +242,31 @@ impl<
             }
         }
     }
+}
+
+// The reply to an opening, with the result then. Refused: `NoMemory`.
+fn opened<N: Named>(alloc: Global, reader: &OwnReader<N>) -> Result<Response, Refusal>
+    ensures none { IfOk result (λ r. change_told (response_of r) ≡ []) }
+{
+    let reader = reader.reader();
+    let slot = reader.slot();
+    let reply = Reply::Opened {
+        slot,
+        at: reader.last_change(),
+        result: copied(alloc, reader.result())?,
+    };
+    Ok(Response::Reply { slot, reply })
+}
+
+// A copy of the entries. Refused: `NoMemory`.
+fn copied(alloc: Global, entries: &[Entry]) -> Result<Vec<Entry>, Refusal> {
+    let mut copy = Vec::with_capacity(alloc, entries.len())?;
+    for entry in entries {
+        copy.push(Entry {
+            dir: entry.dir,
+            name: entry.name.copy(alloc)?,
+            node: entry.node,
+        })?;
+    }
+    Ok(copy)
 }

@@ -1,6 +1,6 @@
 -- Read in this order. Compact texts: FrontLemmas, EscapeLemmas. Replies: PieceLemmas. What whole
 -- runs tell readers: HistoryLemmas, EventLemmas, FoldLemmas, TakenLemmas, TellLemmas; of a session
--- SessionLemmas.
+-- SessionLemmas. Replies that wait: WritesLemmas.
 pub mod FrontLemmas
 pub mod EscapeLemmas
 pub mod PieceLemmas
@@ -10,4 +10,5 @@ pub mod FoldLemmas
 pub mod TakenLemmas
 pub mod TellLemmas
 pub mod SessionLemmas
+pub mod WritesLemmas
 pub mod Crossing

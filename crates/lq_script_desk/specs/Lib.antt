@@ -2,6 +2,7 @@ pub mod Response
 pub mod Reply
 pub mod Answer
 pub mod Front
+pub mod Writes
 pub mod Plain
 pub mod Folds
 pub mod Session

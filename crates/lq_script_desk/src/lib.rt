@@ -5,13 +5,14 @@
 //! text piece by piece (`pieces`, `text`) to a buffer (`specs/Front`). They see a session as its
 //! desk's world and the result read from each slot (`specs/Folds`), and a script's output as the
 //! texts of that world's answers to its lines (`specs/Script`). `specs/History` ties the lines to
-//! the headline. Nothing here waits. Begin with `response` and `reply`, then `session` and
-//! `script`.
+//! the headline. `output` holds replies until they are written (`specs/Writes`). Nothing here
+//! waits. Begin with `response` and `reply`, then `session` and `script`.
 #![tactic(auto)]
 
 mod laws;
 mod listing;
 mod message;
+mod output;
 mod pieces;
 mod rebuilds;
 mod reply;
@@ -22,6 +23,7 @@ mod text;
 
 pub use laws::{scripts_tell_readers, sessions_may_be_sent, sessions_tell_readers};
 pub use lq_desk::{Reply, SLOTS};
+pub use output::Output;
 pub use reply::{put_event_reply, put_reply};
 pub use response::Response;
 pub use script::run;

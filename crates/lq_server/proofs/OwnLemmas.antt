@@ -1,5 +1,5 @@
 -- Readers whose seat is their own, and what calls leave of them.
-use Rattle.std.proofs.Common.{◌≡◌, ℕ, ◌+◌, ◌<◌, ◌≤◌, Bool, false, arith, [], ◌∷◌, ◌++◌, length, Option, Some, None, refl, ◌∙◌, subst, append_assoc}
+use Rattle.std.proofs.Common.{◌≡◌, ℕ, ◌<◌, ◌≤◌, Bool, false, arith, [], ◌∷◌, ◌++◌, length, Option, Some, None, refl, ◌∙◌, subst, append_assoc}
 use Rattle.std.specs.Prelude.{Result, ok_or, option_to_list}
 use mathlib.Core.List.{List, IsPrefix}
 use Rattle.lq_value.specs.declared.refusal.Refusal.{Refusal}

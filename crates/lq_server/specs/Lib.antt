@@ -9,5 +9,6 @@ pub mod Retired
 pub mod Lending
 pub mod Works
 pub mod Applied
+pub mod Made
 pub mod Headline
 pub mod Laws

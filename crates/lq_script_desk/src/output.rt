@@ -1,18 +1,19 @@
-//! What a runner writes: replies wait, until they are many or the runner wants them written.
+//! Replies that wait, until they are many or their caller wants them written.
 ghost use Rattle.std.specs.Prelude.{◌≡◌, ◌⊎◌, [], ◌++◌, IfErr, OnErr, OnOk, true};
 ghost use Rattle.lq_script_desk.specs.Answer.{response_of};
 ghost use Rattle.lq_script_desk.specs.Reply.{reply_text};
-ghost use Rattle.lq_script.specs.Changes.{HasTaken};
-ghost use Rattle.lq_script.specs.Progress.{ClosesRun, PutsText};
+ghost use Rattle.lq_script_desk.specs.Writes.{ClosesRun, HasTaken, PutsText};
 
-use lq_script_desk::{Response, put_reply};
+use crate::reply::put_reply;
+use crate::response::Response;
 use lq_script_lines::{Failed, GATHERED, RunFault, Sink, write_replies};
 use std::alloc::Global;
 
 /// The replies that wait, and the writer that they are for.
 #[derive(Drop)]
 pub struct Output<'w, W> {
-    writer: &'w mut W,
+    /// The writer.
+    pub writer: &'w mut W,
     /// The texts of the replies that wait.
     pub replies: Vec<u8>,
 }

@@ -1,6 +1,6 @@
 -- Where the writer failed, it took a front of what waited.
-use Rattle.lq_script.proofs.ProgressLemmas.{puts_waiting}
-use Rattle.lq_script.proofs.output.Output.write_replies.Goals as goal
+use Rattle.lq_script_desk.proofs.WritesLemmas.{puts_waiting}
+use Rattle.lq_script_desk.proofs.output.Output.write_replies.Goals as goal
 
 pub returns-clause-put : goal.returns-clause-put
 returns-clause-put g c =

@@ -1,25 +1,25 @@
-//! A seat of no slot and readers, and what calls with them answer: clauses speak of changes alone.
+//! A seat and readers that keep by their types what a server's calls require, so that their calls
+//! require little. Clauses speak of the changes that the seat makes.
 ghost use Rattle.std.specs.Prelude.{◌≡◌, [], ◌∷◌, IfOk, OnErr, true};
 ghost use Rattle.lq_board.specs.Author.{leader, with_roll};
 ghost use Rattle.lq_board.specs.Roll.{numbers};
+ghost use Rattle.lq_server.specs.Made.{MakesMore};
 ghost use Rattle.lq_server.specs.Retired.{IsRetired};
-ghost use Rattle.lq_script_desk.specs.Answer.{response_of};
-ghost use Rattle.lq_script.specs.Changes.{change_told};
-ghost use Rattle.lq_script.specs.Progress.{MakesMore};
 
-use lq_board::Seat;
+use crate::reader::Reader;
+use crate::server::{Retired, Server};
+use crate::server_base::{Named, Seat};
+use crate::server_state::Found;
+use lq_desk_sub::Read;
 use lq_predicate::Predicate;
-use lq_script_desk::{Reply, Response};
-use lq_server::{Identity, Named, Read, Reader, Retired, Server};
-use lq_value::{Entry, Name, Refusal};
-use lq_volume::{Applied, Change};
-use std::alloc::Global;
+use lq_value::{Name, Refusal};
+use lq_volume::{Applied, Change, Listing};
 use std::marker::{Model, PhantomData};
 use std::sync::Wait;
 
-/// A seat of no slot, of N's board, which may make changes.
+/// A seat of no slot, of N's board, which may make changes. A contract sees it as a `Seat`.
 pub struct OwnSeat<N: Named> {
-    seat: Seat<Identity>,
+    seat: Seat,
     of: PhantomData<N>,
 }
 
@@ -33,11 +33,12 @@ impl<N: Named> Drop for OwnSeat<N> {
 impl<N: Named> Model for OwnSeat<N> {
     ghost use Rattle.std.specs.Prelude.{◌≡◌, true};
     ghost use Rattle.std.specs.Coded.{codes};
+    ghost use Rattle.lq_board.specs.Token.{SeatToken};
     ghost use Rattle.lq_board.specs.contracts.tokens.Seat as a_seat;
     ghost use Rattle.lq_server_slots.specs.contracts.identity.Identity as an_identity;
-    ghost use Rattle.lq_script.specs.Progress.{OwnToken};
+    ghost use Rattle.lq_server_slots.specs.declared.identity.Identity.{Identity};
 
-    ghost Value = { OwnToken };
+    ghost Value = { SeatToken Identity };
 
     ghost coded = { Prim.hlevel (codes, (a_seat.the_row an_identity.the_row).coded) };
 
@@ -49,11 +50,7 @@ impl<N: Named> Model for OwnSeat<N> {
 
 impl<N: Named> OwnSeat<N> {
     /// A seat of this counted server, which its leading seat enlists. Refused as `Server::seat` is.
-    pub fn new<R: Wait>(
-        rt: &R,
-        server: &Server<N>,
-        head: &mut Seat<Identity>,
-    ) -> Result<OwnSeat<N>, Refusal>
+    pub fn new<R: Wait>(rt: &R, server: &Server<N>, head: &mut Seat) -> Result<OwnSeat<N>, Refusal>
         requires board { head.old.board ≡ N.board }
         requires slot { head.old.slot ≡ 0 }
         requires leads { head.old.author.leads ≡ true }
@@ -72,30 +69,25 @@ impl<N: Named> OwnSeat<N> {
         })
     }
 
-    /// Makes a change. Refused as `Server::apply` is.
-    ///
-    /// The reply tells the change that it made, and a refused one is none.
-    pub fn change<R: Wait>(
+    /// Makes a change. Refused as `Server::apply` is; then it made none.
+    pub fn apply<R: Wait>(
         &mut self,
         rt: &R,
         server: &Server<N>,
         change: &Change,
-    ) -> Result<Response, Refusal>
-        ensures made { IfOk result (λ r.
-            MakesMore self.old self.new (change_told (response_of r))) }
+    ) -> Result<Applied, Refusal>
+        ensures made { IfOk result (λ a. MakesMore self.old self.new (a ∷ [])) }
         ensures err { OnErr result (MakesMore self.old self.new []) }
     {
         let accepted = server.apply(rt, &mut self.seat, change)?;
-        let applied = Applied {
+        Ok(Applied {
             change: accepted.change,
             node: accepted.node,
-        };
-        let reply = Reply::Changed(applied);
-        Ok(Response::Reply { slot: 0, reply })
+        })
     }
 
     /// Opens a live query. Refused as `Server::open` is.
-    #[tactic(auto, using(crate::proofs::ChangeLemmas::made_moments))]
+    #[tactic(auto, using(crate::proofs::MadeLemmas::made_moments))]
     pub fn open<R: Wait>(
         &mut self,
         rt: &R,
@@ -115,58 +107,49 @@ impl<N: Named> OwnSeat<N> {
     }
 
     /// The entries that match a predicate. Refused as `Server::fetch` is.
-    #[tactic(auto, using(crate::proofs::ChangeLemmas::made_book))]
+    #[tactic(auto, using(crate::proofs::MadeLemmas::made_book))]
     pub fn fetch<R: Wait>(
         &mut self,
         rt: &R,
         server: &Server<N>,
         predicate: &Predicate,
-    ) -> Result<Response, Refusal>
+    ) -> Result<Found, Refusal>
         ensures made { MakesMore self.old self.new [] }
-        ensures none { IfOk result (λ r. change_told (response_of r) ≡ []) }
     {
-        let found = server.fetch(rt, &mut self.seat, predicate)?;
-        Ok(Response::Fetched {
-            at: found.at,
-            result: found.entries,
-        })
+        server.fetch(rt, &mut self.seat, predicate)
     }
 
     /// The node at a place. Refused as `Server::find` is.
-    #[tactic(auto, using(crate::proofs::ChangeLemmas::made_book))]
+    #[tactic(auto, using(crate::proofs::MadeLemmas::made_book))]
     pub fn find<R: Wait>(
         &mut self,
         rt: &R,
         server: &Server<N>,
         dir: u64,
         name: &Name,
-    ) -> Result<Response, Refusal>
+    ) -> Result<u64, Refusal>
         ensures made { MakesMore self.old self.new [] }
-        ensures none { IfOk result (λ r. change_told (response_of r) ≡ []) }
     {
-        let node = server.find(rt, &mut self.seat, dir, name)?;
-        Ok(Response::Found { node })
+        server.find(rt, &mut self.seat, dir, name)
     }
 
     /// The whole entry of a node. Refused as `Server::listing` is.
-    #[tactic(auto, using(crate::proofs::ChangeLemmas::made_book))]
+    #[tactic(auto, using(crate::proofs::MadeLemmas::made_book))]
     pub fn listing<R: Wait>(
         &mut self,
         rt: &R,
         server: &Server<N>,
         node: u64,
-    ) -> Result<Response, Refusal>
+    ) -> Result<Listing, Refusal>
         ensures made { MakesMore self.old self.new [] }
-        ensures none { IfOk result (λ r. change_told (response_of r) ≡ []) }
     {
-        let listing = server.listing(rt, &mut self.seat, node)?;
-        Ok(Response::Listed { node, listing })
+        server.listing(rt, &mut self.seat, node)
     }
 
     /// Ends the server by its leading seat, which has enlisted this seat alone.
     ///
     /// All changes of the server are then this seat's.
-    pub fn retire<R: Wait>(self, rt: &R, server: Server<N>, mut head: Seat<Identity>) -> Retired
+    pub fn retire<R: Wait>(self, rt: &R, server: Server<N>, mut head: Seat) -> Retired
         requires board { head.board ≡ N.board }
         requires slot { head.slot ≡ 0 }
         requires leads { head.author ≡ with_roll leader (self.author.number ∷ []) [] }
@@ -180,7 +163,7 @@ impl<N: Named> OwnSeat<N> {
     }
 }
 
-/// A reader of N's board, with the seat of its own slot.
+/// A reader of N's board, with the seat of its own slot. A contract sees which board it is.
 pub struct OwnReader<N: Named> {
     reader: Reader,
     of: PhantomData<N>,
@@ -206,22 +189,9 @@ impl<N: Named> Model for OwnReader<N> {
 }
 
 impl<N: Named> OwnReader<N> {
-    /// Its slot.
-    pub fn slot(&self) -> u64 {
-        self.reader.slot()
-    }
-
-    /// The reply to its opening, with the result then. Refused: `NoMemory`.
-    pub fn opened(&self, alloc: Global) -> Result<Response, Refusal>
-        ensures none { IfOk result (λ r. change_told (response_of r) ≡ []) }
-    {
-        let slot = self.reader.slot();
-        let reply = Reply::Opened {
-            slot,
-            at: self.reader.last_change(),
-            result: copied(alloc, self.reader.result())?,
-        };
-        Ok(Response::Reply { slot, reply })
+    /// The reader, for what it tells of itself.
+    pub fn reader(&self) -> &Reader {
+        &self.reader
     }
 
     /// Fills its port, and reads the next message or the mark. Refused as `Reader::read` is.
@@ -230,26 +200,14 @@ impl<N: Named> OwnReader<N> {
         self.reader.read(rt)
     }
 
-    /// Asks for the end of its subscription.
-    pub fn hang_up(&mut self, server: &Server<N>) -> Response
-        ensures none { change_told (response_of result) ≡ [] }
-    {
+    /// Asks for the end of its subscription. It takes no lock.
+    pub fn hang_up(&mut self, server: &Server<N>) {
         self.reader.hang_up(server);
-        Response::Reply {
-            slot: self.reader.slot(),
-            reply: Reply::Asked,
-        }
     }
 
-    /// Closes its subscription. Refused as `Server::close` is.
-    pub fn close<R: Wait>(&mut self, rt: &R, server: &Server<N>) -> Result<Response, Refusal>
-        ensures none { IfOk result (λ r. change_told (response_of r) ≡ []) }
-    {
-        let change = server.close(rt, &mut self.reader)?;
-        Ok(Response::Reply {
-            slot: self.reader.slot(),
-            reply: Reply::Shut(change),
-        })
+    /// Closes its subscription, after as many changes as it answers. Refused as `Server::close` is.
+    pub fn close<R: Wait>(&mut self, rt: &R, server: &Server<N>) -> Result<u64, Refusal> {
+        server.close(rt, &mut self.reader)
     }
 
     /// Frees its slot. Refused as `Server::finish` is; it then comes back.
@@ -264,28 +222,4 @@ impl<N: Named> OwnReader<N> {
             Err((reader, refusal)) => Err((OwnReader { reader, of }, refusal)),
         }
     }
-
-    /// The result that was rebuilt from what was read. Refused: `NoMemory`.
-    pub fn rebuilt(&self, alloc: Global) -> Result<Response, Refusal>
-        ensures none { IfOk result (λ r. change_told (response_of r) ≡ []) }
-    {
-        Ok(Response::Rebuilt {
-            change: self.reader.last_change(),
-            result: copied(alloc, self.reader.result())?,
-            settled: self.reader.is_settled(),
-        })
-    }
-}
-
-// A copy of the entries. Refused: `NoMemory`.
-fn copied(alloc: Global, entries: &[Entry]) -> Result<Vec<Entry>, Refusal> {
-    let mut copy = Vec::with_capacity(alloc, entries.len())?;
-    for entry in entries {
-        copy.push(Entry {
-            dir: entry.dir,
-            name: entry.name.copy(alloc)?,
-            node: entry.node,
-        })?;
-    }
-    Ok(copy)
 }

@@ -1,0 +1,76 @@
+-- The changes that a seat made, in the book that it then knows.
+use Rattle.std.proofs.Common.{◌≡◌, ℕ, ◌-◌, List, [], ◌∷◌, ◌++◌, length, slice_get, Some, Result, Ok, Err, OnErr, refl, sym, ap, ◌∙◌, subst, arith, length-append, append-nil}
+use Rattle.lq_volume.specs.declared.change.Change.{Change}
+use Rattle.lq_volume.specs.declared.change.Applied.{Applied}
+use Rattle.lq_volume.specs.Change.{node_of}
+use Rattle.lq_volume.specs.Book.{Book, Extends}
+use Rattle.lq_board.specs.Known.{Author}
+use Rattle.lq_board.specs.Author.{with_change}
+use Rattle.lq_board.specs.Token.{SeatToken}
+use Rattle.lq_server_slots.specs.declared.identity.Identity.{Identity}
+use Rattle.lq_server_slots.specs.Slots.{before_of}
+use Rattle.lq_server.specs.Applied.{IsAdded}
+use Rattle.lq_server.specs.Made.{MakesMore, state_before}
+
+-- what comes after a list stands at its length
+slice_get-after : (xs ys : List Change) (c : Change) → slice_get (xs ++ c ∷ ys) (length xs) ≡ Some c
+slice_get-after [] ys c = refl
+slice_get-after (x ∷ xs) ys c = slice_get-after xs ys c
+
+-- an author with other changes
+abbrev with_changes : Author → List ℕ → Author
+with_changes a changes = record a { changes = changes }
+
+-- a seat that made none, and only knows a later book
+pub made_none : (a b : SeatToken Identity) → b.author ≡ a.author → Extends b.book a.book
+    → MakesMore a b []
+made_none a b author later = record {
+  author =
+      author ∙ ap (λ (ns : List ℕ). with_changes a.author ns) (sym (append-nil a.author.changes));
+  later = later;
+  each = tt;
+}
+
+-- a seat that only knows a later book, and all else of it as it was
+pub made_book : (a b : SeatToken Identity) → b ≡ record a { book = b.book } → Extends b.book a.book
+    → MakesMore a b []
+made_book a b same later = made_none a b (ap (λ (s : SeatToken Identity). s.author) same) later
+
+-- or with other moments
+pub made_moments : (a b : SeatToken Identity) → b ≡ record a { book = b.book; moments = b.moments }
+    → Extends b.book a.book → MakesMore a b []
+made_moments a b same later = made_none a b (ap (λ (s : SeatToken Identity). s.author) same) later
+
+-- a seat that made one
+pub made_one : (a b : SeatToken Identity) (t : Applied) (c : Change)
+    → b.author ≡ with_change a.author t.change → IsAdded a.book b.book t c
+    → MakesMore a b (t ∷ [])
+made_one a b t c author d =
+    let before = (before_of b.book).changes in
+    let whole : b.book.changes ≡ before ++ c ∷ [] = ap (λ (x : Book). x.changes) d.place in
+    let long : t.change - 1 ≡ length before =
+    omega (
+      arith,
+      d.number,
+      ap (λ (xs : List Change). length xs) whole,
+      length-append before (c ∷ []),
+    ) in
+    record {
+      author = author;
+      later = d.later;
+      each = (
+        record {
+          change = c;
+          place = subst (λ (xs : List Change). slice_get xs (t.change - 1) ≡ Some c) (sym whole)
+              (subst (λ (n : ℕ). slice_get (before ++ c ∷ []) n ≡ Some c) (sym long)
+              (slice_get-after before [] c));
+          node = d.node ∙ ap (λ (n : ℕ). node_of (state_before b.book n) c) (sym d.number);
+        },
+        tt,
+      );
+    }
+
+-- what holds anyway holds of an error
+pub on_err_any : {T E P : Type 0} (r : Result T E) → P → OnErr r P
+on_err_any (Ok x) p = tt
+on_err_any (Err e) p = p
