@@ -10,8 +10,8 @@ pub record HasTaken (written written' : Option (List ℕ)) (bytes rest : List �
   pub appended : Appends written written' taken
   pub split : bytes ≡ taken ++ rest
 
--- This text was put behind the replies that wait, which are written in part or whole. Where the
--- writer failed, a rest is lost. Where memory was wanting, the text wasn't put.
+-- This text was put after the replies that wait, and these were written in part or whole. Where the
+-- writer failed, a rest is lost. Where there was no memory, the text wasn't put.
 abbrev pub FailsToPut : RunFault → Option (List ℕ) → List ℕ → Option (List ℕ) → List ℕ → List ℕ
     → Type 0
 FailsToPut Read written waits written' waits' text = ⊥

@@ -1,5 +1,5 @@
-//! A seat and readers that keep by their types what a server's calls require, so that their calls
-//! require little. Clauses speak of the changes that the seat makes.
+//! A seat and readers that hold the preconditions of a server's calls as invariants, so that their
+//! own calls require little. Clauses say which changes the seat makes.
 ghost use Rattle.std.specs.Prelude.{◌≡◌, [], ◌∷◌, IfOk, OnErr, true};
 ghost use Rattle.lq_board.specs.Author.{leader, with_roll};
 ghost use Rattle.lq_board.specs.Roll.{numbers};
@@ -189,7 +189,7 @@ impl<N: Named> Model for OwnReader<N> {
 }
 
 impl<N: Named> OwnReader<N> {
-    /// The reader, for what it tells of itself.
+    /// The reader. Its slot and its result are read through it. It takes no lock.
     pub fn reader(&self) -> &Reader {
         &self.reader
     }
@@ -205,7 +205,7 @@ impl<N: Named> OwnReader<N> {
         self.reader.hang_up(server);
     }
 
-    /// Closes its subscription, after as many changes as it answers. Refused as `Server::close` is.
+    /// Closes its subscription. The answer and the refusals are those of `Server::close`.
     pub fn close<R: Wait>(&mut self, rt: &R, server: &Server<N>) -> Result<u64, Refusal> {
         server.close(rt, &mut self.reader)
     }
