@@ -6,23 +6,24 @@ use denote.Param.SendFields.{declared_send}
 use Rattle.std.proofs.Crossing.{crosses, Vec-send}
 use Rattle.lq_desk_sub.specs.contracts.read.Read as read
 use Rattle.lq_server.specs.declared.server_base.Named.{Ghosts}
+use Rattle.lq_server.specs.contracts.own_tokens.OwnReader as own_reader
 use Rattle.lq_server.specs.contracts.server.Server as server
 use Rattle.lq_script.specs.contracts.batch.SlotReads as slot_reads
-use Rattle.lq_server.proofs.own_tokens.OwnReader.TheSendSync as found_reader
 
--- it is `Send`, where the server and the gate are `Sync`
+-- it is `Send`, where the server and the gate are `Sync`, and a reader and an answer are `Send`
 pub slot_reads_send : (ℓ : NamedLft) (N G : RattleType) (g : Ghosts N.Denot)
     → IsSync (server.the_row N g)
     → IsSync G
+    → IsSend (own_reader.the_row N g)
     → IsSend read.the_row
     → IsSend (slot_reads.the_row ℓ N G g)
-slot_reads_send ℓ N G g s gate r =
+slot_reads_send ℓ N G g s gate reader r =
     declared_send (slot_reads.the_type ℓ N G g) (
       shr_send _ _ _ s,
       (
         shr_send _ _ _ gate,
         (
-          search (sendable, crosses, found_reader.the_send) depth 20,
+          reader,
           (
             search sendable,
             (search sendable, (Vec-send read.the_row r, (search sendable, tt))),

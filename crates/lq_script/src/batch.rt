@@ -93,6 +93,7 @@ pub fn read_beside<
     let batch = batch_of(alloc, server, gate, readers, slots)?;
     // For the proof: what these reads hold may cross threads.
     servers_may_be_shared::<N>();
+    sends::<OwnReader<N>>();
     sends::<Read>();
     let mut batch = workers.do_all(batch)?;
     let told = put_replies(&mut batch, slots, out);
