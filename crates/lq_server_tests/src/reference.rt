@@ -7,7 +7,7 @@ use lq_predicate::{Predicate, read};
 use lq_server::Accepted;
 use lq_update::{Mark, Message, Opcode};
 use lq_value::{Entry, Refusal};
-use lq_volume::{Change, Volume};
+use lq_volume::{Change, EntryRef, Volume};
 use std::alloc::Global;
 use std::fmt::Debug;
 
@@ -76,13 +76,52 @@ fn are_answered(volume: &mut Volume, taken: &[Taken]) -> bool {
     true
 }
 
-/// Whether a plain volume answers these changes as the server did, and the volume that is left is
-/// equal to it then.
+/// Whether two entries have the same attributes, in the same order.
+fn have_same_attrs(
+    alloc: Global,
+    one: &EntryRef<'_>,
+    other: &EntryRef<'_>,
+) -> Result<bool, Refusal> {
+    for index in 0..one.attr_count().max(other.attr_count()) {
+        if text(alloc, &one.attr_at(index))? != text(alloc, &other.attr_at(index))? {
+            return Ok(false);
+        }
+    }
+    Ok(true)
+}
+
+/// Whether a node has the same entry in two volumes, or none in both.
+fn have_same_entry(
+    alloc: Global,
+    one: &Volume,
+    other: &Volume,
+    node: u64,
+) -> Result<bool, Refusal> {
+    match (one.entry(node), other.entry(node)) {
+        (Ok(entry), Ok(same)) => Ok(
+            entry.dir() == same.dir()
+                && entry.name() == same.name()
+                && entry.kind() == same.kind()
+                && entry.size() == same.size()
+                && entry.time() == same.time()
+                && have_same_attrs(alloc, &entry, &same)?,
+        ),
+        (Err(refusal), Err(same)) => Ok(refusal == same),
+        _ => Ok(false),
+    }
+}
+
+/// Whether a plain volume answers these changes as the server did, and the volume that is left has
+/// the same entries then. A change makes one node at most, and the root is node 1.
 pub fn is_left(alloc: Global, left: &Volume, taken: &[Taken]) -> Result<bool, Refusal> {
     let mut volume = Volume::new(alloc, LIMIT);
     let answered = are_answered(&mut volume, taken);
-    let made = text(alloc, &volume)?;
-    Ok(answered && text(alloc, left)? == made)
+    for node in 0..taken.len() as u64 + 2 {
+        if !have_same_entry(alloc, &volume, left, node)? {
+            return Ok(false);
+        }
+    }
+    Ok(answered && left.changes() == volume.changes())
 }
 
 /// Adds what a query finds in a volume after each number of changes, none first.

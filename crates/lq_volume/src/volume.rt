@@ -6,6 +6,7 @@ use crate::laws::accepted_changes_keep_trees;
 use lq_value::{Kind, Name, Refusal};
 use lq_volume_entries::{Entries, StoredRecord, records_are_kept};
 use std::alloc::Global;
+use std::fmt;
 use std::marker::Model;
 
 /// The node of the root, which is a folder but not an entry.
@@ -18,13 +19,22 @@ pub const MAX_CHANGES: u64 = 1_000_000_000_000;
 ///
 /// It accepts at most `limit` changes. The nodes of entries count from 2 and are never used again.
 /// Contracts see a volume as a `State`, and every volume is a tree.
-#[derive(Debug)]
 pub struct Volume {
     limit: u64,
     changes: u64,
     next: u64,
     pub(crate) alloc: Global,
     pub(crate) entries: Entries,
+}
+
+/// Shows the numbers of a volume, and no entry: it may have a million.
+impl fmt::Debug for Volume {
+    fn fmt<W: fmt::Write>(&self, f: &mut fmt::Formatter<W>) -> fmt::Result {
+        f.debug_struct("Volume")
+            .field("limit", &self.limit)
+            .field("changes", &self.changes)
+            .finish_non_exhaustive()
+    }
 }
 
 // Dropping one is a single call, instead of code at each place.

@@ -16,7 +16,6 @@ const FEW: usize = 16;
 /// The attributes of an entry that has at least one, in the order in which they were first set.
 ///
 /// Contracts see them as the list of their names and values.
-#[derive(Debug)]
 pub struct AttrTable {
     alloc: Global,
     // A list to search, since a map takes far more memory; empty where there are many attributes.

@@ -13,7 +13,7 @@ use std::marker::Model;
 ///
 /// Most entries have none; these take no memory beyond the 8 bytes of this value. Contracts see the
 /// attributes as the list of their names and values.
-#[derive(Debug, Drop)]
+#[derive(Drop)]
 pub struct Attributes {
     alloc: Global,
     table: Option<Box<AttrTable>>,

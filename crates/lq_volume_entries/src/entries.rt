@@ -18,7 +18,6 @@ use std::marker::Model;
 /// The time to find a node doesn't depend on how many there are. The time to find a place is
 /// logarithmic in the number of folders and in the number of names in its folder. Contracts see the
 /// records alone, by rising node.
-#[derive(Debug)]
 pub struct Entries {
     alloc: Global,
     records: Records,

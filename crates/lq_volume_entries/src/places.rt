@@ -12,7 +12,7 @@ use std::collections::BTreeMap;
 ///
 /// A node stands under the hash of its name, and its record alone has the name. If another name had
 /// that hash before, the node stands among the others, under its name.
-#[derive(Debug, Drop)]
+#[derive(Drop)]
 pub struct Names {
     first: BTreeMap<u64, u64>,
     others: BTreeMap<Name, u64>,
@@ -34,14 +34,22 @@ impl Names {
             ≡ values_of self.now.first.entries ++ values_of self.now.others.entries) }
     {
         let mut nodes = Vec::new(alloc);
-        for node in self.first.values() {
-            nodes.push(*node)?;
-        }
-        for node in self.others.values() {
-            nodes.push(*node)?;
-        }
+        push_values(&mut nodes, &self.first)?;
+        push_values(&mut nodes, &self.others)?;
         Ok(nodes)
     }
+}
+
+// Adds a map's values in the order of its keys. Refused: `NoMemory`.
+fn push_values<K: Ord>(nodes: &mut Vec<u64>, map: &BTreeMap<K, u64>) -> Result<(), Refusal>
+    ensures refused { FailsOnlyForMemory result }
+    ensures pushed { OnOk result
+        (nodes.new.items ≡ nodes.old.items ++ values_of map.now.entries) }
+{
+    for node in map.values() {
+        nodes.push(*node)?;
+    }
+    Ok(())
 }
 
 /// The node at each place, by folder and then by name.
@@ -49,7 +57,7 @@ impl Names {
 /// A look-up searches the index for a number, the hash, and compares the name with one other name.
 /// Names chosen to share a hash cost a logarithmic search among them. A folder's map of names is
 /// made with its first name and dropped with its last.
-#[derive(Debug, Drop)]
+#[derive(Drop)]
 pub struct Places {
     alloc: Global,
     folders: BTreeMap<u64, Names>,

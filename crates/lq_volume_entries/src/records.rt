@@ -20,7 +20,7 @@ use std::marker::Model;
 ///
 /// To look up, add, remove or alter a record takes the same time on average however many there are,
 /// except when the map grows. Contracts see a list by rising node.
-#[derive(Debug, Drop)]
+#[derive(Drop)]
 pub struct Records {
     stored: IndexMap<u64, StoredRecord, NodeHashes>,
 }

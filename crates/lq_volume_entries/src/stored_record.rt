@@ -9,7 +9,6 @@ use std::alloc::Global;
 use std::marker::Model;
 
 /// An entry as it is stored under its node. Its size fits into an `i64`.
-#[derive(Debug)]
 pub struct StoredRecord {
     dir: u64,
     name: Name,
