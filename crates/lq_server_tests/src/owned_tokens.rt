@@ -1,12 +1,12 @@
 //! A seat and a reader of N's server, by types that keep what its calls require of them.
 ghost use Rattle.std.specs.Prelude.{◌≡◌, true};
 
-use crate::acts::{Act, Told, are_entries};
+use crate::acts::{Act, Row, Told, are_entries};
 use crate::random_changes::DrawnOpening;
 use crate::reference::{Log, text};
 use lq_board::Seat;
 use lq_predicate::read;
-use lq_server::{Accepted, Identity, Named, Reader, Server};
+use lq_server::{Accepted, Identity, Named, Reader, Server, Synced};
 use lq_value::{Name, Refusal};
 use lq_volume::Change;
 use std::alloc::Global;
@@ -128,15 +128,7 @@ impl<N: Named> SeatOf<N> {
         act: &Act,
     ) -> Result<Told, Refusal> {
         Ok(match act {
-            Act::Fetch(query, rows) => {
-                let predicate = read(alloc, query)?;
-                let found = server.fetch(rt, &mut self.seat, &predicate)?;
-                if are_entries(&found.entries, rows) {
-                    Told::Number(found.at)
-                } else {
-                    Told::Is(false)
-                }
-            }
+            Act::Fetch(query, rows) => self.fetch(rt, alloc, server, query, rows)?,
             Act::Find(name) => {
                 let name = Name::read(alloc, name)?;
                 Told::Number(server.find(rt, &mut self.seat, 1, &name)?)
@@ -156,6 +148,32 @@ impl<N: Named> SeatOf<N> {
             }
             _ => Told::Number(server.latest(&mut self.seat)),
         })
+    }
+
+    // The number of changes, where a query finds just these rows.
+    fn fetch<R: Wait>(
+        &mut self,
+        rt: &R,
+        alloc: Global,
+        server: &Server<N>,
+        query: &str,
+        rows: &[Row],
+    ) -> Result<Told, Refusal> {
+        let predicate = read(alloc, query)?;
+        let found = server.fetch(rt, &mut self.seat, &predicate)?;
+        if are_entries(&found.entries, rows) {
+            Ok(Told::Number(found.at))
+        } else {
+            Ok(Told::Is(false))
+        }
+    }
+}
+
+// What a sync answered.
+fn told_by(synced: &Synced) -> Told {
+    match synced.mark {
+        None => Told::Live(synced.change, synced.waiting, synced.held),
+        Some(mark) => Told::End(mark.seq, mark.change, mark.cause),
     }
 }
 
@@ -179,22 +197,13 @@ impl<N: Named> ReaderOf<N> {
                 self.log.begun = Some(text(alloc, &Some(self.reader.result()))?);
                 Told::Done
             }
-            Act::Slot => Told::Number(self.reader.slot()),
-            Act::Opened => Told::Number(self.reader.opened()),
-            Act::Result(rows) => Told::Is(are_entries(self.reader.result(), rows)),
             Act::ReaderLatest => Told::Number(self.reader.latest(server)),
             Act::Meet => Told::Number(server.meet(rt, self.reader.seat(), &mut seat.seat)),
             Act::Pump => {
                 server.pump(rt, &mut self.reader);
                 Told::Done
             }
-            Act::Sync => {
-                let synced = server.sync(rt, &mut self.reader);
-                match synced.mark {
-                    None => Told::Live(synced.change, synced.waiting, synced.held),
-                    Some(mark) => Told::End(mark.seq, mark.change, mark.cause),
-                }
-            }
+            Act::Sync => told_by(&server.sync(rt, &mut self.reader)),
             Act::HangUp => {
                 self.reader.hang_up(server);
                 Told::Done
@@ -202,8 +211,18 @@ impl<N: Named> ReaderOf<N> {
             Act::Close => Told::Number(server.close(rt, &mut self.reader)?),
             Act::Read => self.log.hear(self.reader.read(rt)?)?,
             Act::ReadWaiting => self.log.hear(self.reader.read_waiting(rt, server)?)?,
-            _ => return Err(Refusal::OutOfStep),
+            _ => return self.look(act),
         })
+    }
+
+    // What the reader answers without its server.
+    fn look(&self, act: &Act) -> Result<Told, Refusal> {
+        match act {
+            Act::Slot => Ok(Told::Number(self.reader.slot())),
+            Act::Opened => Ok(Told::Number(self.reader.opened())),
+            Act::Result(rows) => Ok(Told::Is(are_entries(self.reader.result(), rows))),
+            _ => Err(Refusal::OutOfStep),
+        }
     }
 
     /// As `Server::finish`; the answer is what it has read, where it could be finished.

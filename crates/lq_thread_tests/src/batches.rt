@@ -5,7 +5,9 @@ use crate::devices::{FREE, Pace, reader_of, writer_of};
 use lq_script::{Host, OpenGate, RunFault, run, run_threads};
 use std::alloc::{Alloc, AllocError, Global};
 use std::fs::Files;
+use std::sync::Wait;
 use std::test::Fail;
+use std::thread::Threads;
 use std::time::Duration;
 use std::{fs, thread};
 
@@ -47,23 +49,24 @@ pub fn line(alloc: Global, text: &mut String, does: &str, slot: u64) -> Result<(
     Ok(())
 }
 
+// Whether a script gives the same replies by threads as by one thread.
+fn is_run_alike<R: Threads + Wait + Sync>(
+    rt: &R,
+    alloc: Global,
+    script: &str,
+) -> Result<bool, RunFault> {
+    let mut one = Host::new(Vec::new(alloc));
+    let mut many = Host::new(Vec::new(alloc));
+    run(alloc, &mut Host::new(script.as_bytes()), &mut one)?;
+    let mut reader = Host::new(script.as_bytes());
+    run_threads(rt, alloc, &mut reader, &mut many, &OpenGate)?;
+    Ok(one.into_device().as_slice() == many.into_device().as_slice())
+}
+
 #[test]
 fn batches_of_two_to_all_slots_are_read_as_by_one_thread(rt: HostRuntime) -> Result<(), Fail> {
     let alloc = rt.alloc();
-    let text = batches(alloc)?;
-    let mut one = Host::new(Vec::new(alloc));
-    let mut many = Host::new(Vec::new(alloc));
-    let by_one = run(alloc, &mut Host::new(text.as_bytes()), &mut one);
-    let by_many = run_threads(
-        &rt,
-        alloc,
-        &mut Host::new(text.as_bytes()),
-        &mut many,
-        &OpenGate,
-    );
-    assert!(rt; by_one == Ok(()) && by_many == Ok(()));
-    let (one, many) = (one.into_device(), many.into_device());
-    assert!(rt; one.as_slice() == many.as_slice());
+    assert!(rt; is_run_alike(&rt, alloc, &batches(alloc)?)?);
     Ok(())
 }
 
