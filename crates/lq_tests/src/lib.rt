@@ -1,8 +1,8 @@
 //! Tests that cross crates: worked examples as lists of events (`events`), each call that may give
 //! up with memory for each variant of its arguments (`variants`), listings and paths (`folders`),
 //! calls that are given again where memory ran out (`again`), the plain body of `step` beside the
-//! fast one (`plain`, `bodies`), and changes without a message (`skipped_writes`, `creates`).
-//! Begin with `events`. Nothing here waits.
+//! fast one (`plain`, `bodies`), and changes without a message (`skipped_writes`, `creates`). And
+//! each public call of five crates (`surface`). Begin with `events`. Nothing here waits.
 #![tactic(auto)]
 
 #[cfg(test)]
@@ -27,5 +27,7 @@ mod folds;
 mod plain;
 #[cfg(test)]
 mod skipped_writes;
+#[cfg(test)]
+mod surface;
 #[cfg(test)]
 mod variants;

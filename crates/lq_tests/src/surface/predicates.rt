@@ -2,7 +2,7 @@
 ghost use Rattle.std.specs.Prelude.{Some};
 ghost use Rattle.lq_value.specs.PlainValue.{Number};
 
-use crate::changes::is_refused;
+use crate::surface::changes::is_refused;
 use lq_predicate::{Predicate, Row, Stack, StackOp, holds, names, read, write};
 use lq_value::{AttrName, Literal, Op, Pattern, Refusal, Text, View};
 use std::alloc::Global;

@@ -1,5 +1,5 @@
 //! Of lq_desk: the core, event by event and by a list of them.
-use crate::changes::{FILE, change};
+use crate::surface::changes::{FILE, change};
 use lq_desk::{Desk, Event, Read, Reply};
 use lq_predicate::read;
 use lq_update::Cause;

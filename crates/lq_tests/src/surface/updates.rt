@@ -1,5 +1,5 @@
 //! Of lq_update: what a change does to a result, and a result that is kept.
-use crate::changes::{Act, FILE, is_file_alone, is_refused, lawful, made};
+use crate::surface::changes::{Act, FILE, is_file_alone, is_refused, lawful, made};
 use lq_predicate::read;
 use lq_update::{Cause, Mark, Message, Opcode, Parcel, Rebuild, step};
 use lq_value::{Name, Refusal};

@@ -1,5 +1,5 @@
 //! Of lq_desk: a subscription that is asked whether a planned change has messages for it.
-use crate::changes::{FILE, change};
+use crate::surface::changes::{FILE, change};
 use lq_desk::Sub;
 use lq_predicate::read;
 use lq_update::Parcel;

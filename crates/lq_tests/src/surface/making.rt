@@ -1,5 +1,5 @@
 //! Of lq_volume: a change that was checked is made.
-use crate::changes::{FILE, find, lawful};
+use crate::surface::changes::{FILE, find, lawful};
 use lq_value::Refusal;
 use lq_volume::Volume;
 use std::alloc::Global;

@@ -1,5 +1,5 @@
 //! Of lq_volume: the tree, its changes and the static query.
-use crate::changes::{Act, FILE, change, find, is_file_alone, is_refused, is_same, made};
+use crate::surface::changes::{Act, FILE, change, find, is_file_alone, is_refused, is_same, made};
 use lq_predicate::{Predicate, read};
 use lq_value::{AttrName, Kind, Refusal, View};
 use lq_volume::{Applied, Change, EntryRef, Listing, Volume};

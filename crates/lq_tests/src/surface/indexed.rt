@@ -1,5 +1,5 @@
 //! Of lq_update: a result that is kept in a map by node.
-use crate::changes::{is_entry, is_refused};
+use crate::surface::changes::{is_entry, is_refused};
 use lq_update::{IndexedRebuild, Message, Opcode};
 use lq_value::{Entry, Name, Refusal};
 use std::alloc::Global;

@@ -1,5 +1,5 @@
 //! Of lq_value: names, values, patterns and refusals.
-use crate::changes::{is_entry, is_refused, is_same};
+use crate::surface::changes::{is_entry, is_refused, is_same};
 use lq_value::{
     AttrName, Element, Entry, Kind, Literal, Name, Op, Pattern, Refusal, Text, Value, View, compare,
 };

@@ -1,5 +1,5 @@
 //! Of lq_desk: a subscription alone.
-use crate::changes::{FILE, lawful};
+use crate::surface::changes::{FILE, lawful};
 use lq_desk::Sub;
 use lq_predicate::read;
 use lq_update::{Cause, Parcel};
