@@ -1,6 +1,7 @@
-//! Display texts of refusals and of faults.
+//! Display texts of refusals and of faults; the debug text of a volume.
 use lq_script_lines::RunFault;
-use lq_value::Refusal;
+use lq_value::{Kind, Name, Refusal};
+use lq_volume::{Change, Volume};
 use std::alloc::{AllocError, Global};
 use std::fmt::Display;
 use std::test::Fail;
@@ -62,5 +63,20 @@ fn a_refusal_shows_its_name_and_a_fault_its_text(rt: HostRuntime) -> Result<(), 
             return Err(Fail::from(*text));
         }
     }
+    Ok(())
+}
+
+#[test]
+fn a_volume_shows_its_numbers_and_no_entry(rt: HostRuntime) -> Result<(), Fail> {
+    let mut volume = Volume::new(rt.alloc(), 9);
+    volume.apply(&Change::Create {
+        dir: 1,
+        name: Name::read(rt.alloc(), "a")?,
+        kind: Kind::File,
+        size: 0,
+        time: 0,
+    })?;
+    let shown = format!(in rt.alloc(); "{volume:?}")?;
+    assert!(rt; shown.as_str() == "Volume { limit: 9, changes: 1, .. }");
     Ok(())
 }
