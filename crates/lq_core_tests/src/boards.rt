@@ -1,8 +1,8 @@
-//! A board at work: the words, a slot's seat under a name, and a seat that is overtaken.
+//! A board at work: its words, and a counted board.
 ghost use Rattle.std.specs.Prelude.{IfOk};
 ghost use Rattle.lq_volume.specs.Change.{IsLawful};
 
-use lq_board::{Board, Keeper};
+use lq_board::{Board, Keeper, Seat};
 use lq_value::{Kind, Name, Refusal};
 use lq_volume::{Change, Volume};
 use std::alloc::Global;
@@ -37,6 +37,7 @@ fn words(alloc: Global) -> Result<[u64; 7], Refusal> {
     board.ask(&mut reader);
     let asks = board.asks(&mut keeper, 1);
     let met = board.meet(&mut keeper, &mut seat);
+    board.note(&mut keeper, &mut seat);
     let met_slot = board.meet_slot(&mut keeper, &mut reader);
     board.join(&mut keeper, reader);
     let closed = board.close_with(keeper, seat);
@@ -47,5 +48,27 @@ fn words(alloc: Global) -> Result<[u64; 7], Refusal> {
 #[test]
 fn scenario_board_words(rt: HostRuntime) -> Result<(), Fail> {
     assert!(rt; words(rt.alloc())? == [0, 1, 1, 1, 1, 1, 1]);
+    Ok(())
+}
+
+// The number of a change by an enlisted seat of a slot, at a counted board, and the number at its
+// end, by its leading seat.
+fn counted(alloc: Global) -> Result<[u64; 2], Refusal> {
+    let volume = Volume::new(alloc, 9);
+    let create = lawful_file(alloc, &volume, "a")?;
+    let (mut board, mut keeper): (Board<u64>, Keeper<u64>) = Board::new(alloc, &volume)?;
+    let mut head: Seat<u64> = board.lead(&mut keeper);
+    let mut one = board.slot_seat(&mut keeper, 1);
+    board.enlist(&mut head, &mut one);
+    let added = board.add_by(&mut keeper, &mut one, &create);
+    board.dismiss(&mut head, &mut one);
+    board.compare(&mut head, &mut one);
+    board.join(&mut keeper, one);
+    Ok([added, board.close_with(keeper, head)])
+}
+
+#[test]
+fn a_counted_board_counts_an_enlisted_seat(rt: HostRuntime) -> Result<(), Fail> {
+    assert!(rt; counted(rt.alloc())? == [1, 1]);
     Ok(())
 }

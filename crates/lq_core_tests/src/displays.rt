@@ -1,40 +1,40 @@
-//! Display texts of refusals and of faults; the debug text of a volume.
+//! Codes, names and display texts of refusals; those of faults; the debug text of a volume.
 use lq_script_lines::RunFault;
-use lq_value::{Kind, Name, Refusal};
-use lq_volume::{Change, Volume};
+use lq_value::Refusal;
+use lq_volume::Volume;
 use std::alloc::{AllocError, Global};
 use std::fmt::Display;
 use std::test::Fail;
 
-// a refusal and its display text
-const REFUSALS: [(Refusal, &str); 27] = [
-    (Refusal::BadName, "BadName"),
-    (Refusal::NoNode, "NoNode"),
-    (Refusal::NotFolder, "NotFolder"),
-    (Refusal::NoEntry, "NoEntry"),
-    (Refusal::Exists, "Exists"),
-    (Refusal::WouldLoop, "WouldLoop"),
-    (Refusal::NotEmpty, "NotEmpty"),
-    (Refusal::KindClash, "KindClash"),
-    (Refusal::IsFolder, "IsFolder"),
-    (Refusal::NoAttr, "NoAttr"),
-    (Refusal::Reserved, "Reserved"),
-    (Refusal::TooLong, "TooLong"),
-    (Refusal::Exhausted, "Exhausted"),
-    (Refusal::NoMemory, "NoMemory"),
-    (Refusal::BadQuery { place: 7 }, "BadQuery at 7"),
-    (Refusal::BadPort, "BadPort"),
-    (Refusal::BadBacklog, "BadBacklog"),
-    (Refusal::NoSlot, "NoSlot"),
-    (Refusal::NoSeat, "NoSeat"),
-    (Refusal::NotOpen, "NotOpen"),
-    (Refusal::StillOpen, "StillOpen"),
-    (Refusal::LongLine, "LongLine"),
-    (Refusal::NotUtf8, "NotUtf8"),
-    (Refusal::NotJson, "NotJson"),
-    (Refusal::BadLine, "BadLine"),
-    (Refusal::OutOfStep, "OutOfStep"),
-    (Refusal::Mismatch, "Mismatch"),
+// a refusal, its code and its display text
+const REFUSALS: [(Refusal, u64, &str); 27] = [
+    (Refusal::BadName, 1, "BadName"),
+    (Refusal::NoNode, 2, "NoNode"),
+    (Refusal::NotFolder, 3, "NotFolder"),
+    (Refusal::NoEntry, 4, "NoEntry"),
+    (Refusal::Exists, 5, "Exists"),
+    (Refusal::WouldLoop, 6, "WouldLoop"),
+    (Refusal::NotEmpty, 7, "NotEmpty"),
+    (Refusal::KindClash, 8, "KindClash"),
+    (Refusal::IsFolder, 9, "IsFolder"),
+    (Refusal::NoAttr, 10, "NoAttr"),
+    (Refusal::Reserved, 11, "Reserved"),
+    (Refusal::TooLong, 12, "TooLong"),
+    (Refusal::Exhausted, 13, "Exhausted"),
+    (Refusal::NoMemory, 15, "NoMemory"),
+    (Refusal::BadQuery { place: 7 }, 20, "BadQuery at 7"),
+    (Refusal::BadPort, 21, "BadPort"),
+    (Refusal::BadBacklog, 22, "BadBacklog"),
+    (Refusal::NoSlot, 23, "NoSlot"),
+    (Refusal::NoSeat, 24, "NoSeat"),
+    (Refusal::NotOpen, 25, "NotOpen"),
+    (Refusal::StillOpen, 26, "StillOpen"),
+    (Refusal::LongLine, 30, "LongLine"),
+    (Refusal::NotUtf8, 31, "NotUtf8"),
+    (Refusal::NotJson, 32, "NotJson"),
+    (Refusal::BadLine, 33, "BadLine"),
+    (Refusal::OutOfStep, 34, "OutOfStep"),
+    (Refusal::Mismatch, 35, "Mismatch"),
 ];
 
 // a fault and its display text
@@ -46,14 +46,30 @@ const FAULTS: [(RunFault, &str); 5] = [
     (RunFault::Thread, "no thread"),
 ];
 
+// Whether a refusal has this code and this name.
+fn is_refusal(refusal: &Refusal, code: u64, name: &str) -> bool {
+    refusal.code() == code && refusal.name() == name
+}
+
 // Whether this text is shown.
 fn is_shown<D: Display>(alloc: Global, shown: &D, text: &str) -> Result<bool, AllocError> {
     Ok(format!(in alloc; "{shown}")?.as_str() == text)
 }
 
 #[test]
+fn refusals_have_codes_and_names(_rt: HostRuntime) -> Result<(), Fail> {
+    for (refusal, code, text) in &REFUSALS {
+        let name = text.strip_suffix(" at 7").unwrap_or(text);
+        if !is_refusal(refusal, *code, name) {
+            return Err(Fail::from(*text));
+        }
+    }
+    Ok(())
+}
+
+#[test]
 fn a_refusal_shows_its_name_and_a_fault_its_text(rt: HostRuntime) -> Result<(), Fail> {
-    for (refusal, text) in &REFUSALS {
+    for (refusal, _, text) in &REFUSALS {
         if !is_shown(rt.alloc(), refusal, text)? {
             return Err(Fail::from(*text));
         }
@@ -68,15 +84,8 @@ fn a_refusal_shows_its_name_and_a_fault_its_text(rt: HostRuntime) -> Result<(), 
 
 #[test]
 fn a_volume_shows_its_numbers_and_no_entry(rt: HostRuntime) -> Result<(), Fail> {
-    let mut volume = Volume::new(rt.alloc(), 9);
-    volume.apply(&Change::Create {
-        dir: 1,
-        name: Name::read(rt.alloc(), "a")?,
-        kind: Kind::File,
-        size: 0,
-        time: 0,
-    })?;
+    let volume = Volume::new(rt.alloc(), 9);
     let shown = format!(in rt.alloc(); "{volume:?}")?;
-    assert!(rt; shown.as_str() == "Volume { limit: 9, changes: 1, .. }");
+    assert!(rt; shown.as_str() == "Volume { limit: 9, changes: 0, .. }");
     Ok(())
 }

@@ -3,7 +3,7 @@ ghost use Rattle.std.specs.Prelude.{◌≡◌, ◌<◌, ◌≤◌, ◌+◌, IsTr
 ghost use Rattle.lq_desk_sub.specs.Held.{is_live};
 
 use crate::boards::lawful_file;
-use lq_desk_sub::Sub;
+use lq_desk::Sub;
 use lq_predicate::read;
 use lq_update::{Cause, Parcel, steps_are_few};
 use lq_value::Refusal;

@@ -20,59 +20,58 @@ fn setting(alloc: Global, attr: &str) -> Result<Change, Refusal> {
     })
 }
 
-// A change of each kind: a creation, a removal, a move, a write, and of the attributes
-// `MAIL:status` and `MAIL:when`.
-fn changes(alloc: Global) -> Result<[Change; 7], Refusal> {
-    Ok([
-        Change::Create {
+// A change of each kind, by its number: a creation, a removal, a move, a write, and of the
+// attributes `MAIL:status` and `MAIL:when`.
+fn change(alloc: Global, number: usize) -> Result<Change, Refusal> {
+    match number {
+        0 => Ok(Change::Create {
             dir: 1,
             name: Name::read(alloc, "a")?,
             kind: Kind::File,
             size: 0,
             time: 0,
-        },
-        Change::Remove { node: 2 },
-        Change::Move {
+        }),
+        1 => Ok(Change::Remove { node: 2 }),
+        2 => Ok(Change::Move {
             node: 2,
             dir: 1,
             name: Name::read(alloc, "a")?,
             clobber: false,
-        },
-        Change::Write {
+        }),
+        3 => Ok(Change::Write {
             node: 2,
             size: 1,
             time: 0,
-        },
-        setting(alloc, "MAIL:status")?,
-        setting(alloc, "MAIL:when")?,
-        Change::RemoveAttr {
+        }),
+        4 => setting(alloc, "MAIL:status"),
+        5 => setting(alloc, "MAIL:when"),
+        _ => Ok(Change::RemoveAttr {
             node: 2,
             attr: AttrName::read(alloc, "MAIL:when")?,
-        },
-    ])
+        }),
+    }
 }
 
 // To whom each of these changes is shown, as a word with a bit for each.
-fn shown(watch: &Watch, changes: &[Change; 7]) -> [u64; 7] {
+fn shown(alloc: Global, watch: &Watch) -> Result<[u64; 7], Refusal> {
     let mut words = [0; 7];
-    for index in 0..7 {
-        words[index] = watch.slots_for(&changes[index]);
+    for number in 0..7 {
+        words[number] = watch.slots_for(&change(alloc, number)?);
     }
-    words
+    Ok(words)
 }
 
 // To whom they are shown where index 3 looks at a status and index 5 at sizes, and then where both
 // look at sizes.
 fn asked(alloc: Global) -> Result<([u64; 7], [u64; 7]), Refusal> {
-    let changes = changes(alloc)?;
     let status = subscribed(alloc, "MAIL:status==\"New\"")?;
     let sizes = subscribed(alloc, "size>7")?;
     let mut watch = Watch::new();
     watch.set(3, &status);
     watch.set(5, &sizes);
-    let first = shown(&watch, &changes);
+    let first = shown(alloc, &watch)?;
     watch.set(3, &sizes);
-    Ok((first, shown(&watch, &changes)))
+    Ok((first, shown(alloc, &watch)?))
 }
 
 #[test]

@@ -44,6 +44,10 @@ pub enum Act {
     Opened,
     /// What the reader has to have.
     Result(&'static [Row]),
+    /// Of the reader: whether the last change that it read of is read whole.
+    Settled,
+    /// Of the reader: the last change that it read of.
+    LastChange,
     ReaderLatest,
     /// The seat of the reader and the thread's own meet.
     Meet,

@@ -6,7 +6,8 @@ use crate::scenario::Scenario;
 use lq_update::Cause;
 use lq_value::Refusal;
 
-/// Each call with memory; each of the six changes; a query with moved messages and one without.
+/// Each call with memory; each of the six changes; a query with moved messages and one without; and
+/// what a volume refuses.
 pub static EACH: Scenario = Scenario {
     name: "each call answers",
     threads: 1,
@@ -15,10 +16,15 @@ pub static EACH: Scenario = Scenario {
         1,
         &[
             (Act::Latest, Told::Number(0)),
+            (Act::Find("a"), Told::Refused(Refusal::NoEntry)),
+            (Act::Listing(2, "a"), Told::Refused(Refusal::NoNode)),
             (Act::Create("a"), Told::Changed(1, 2)),
+            (Act::Create("a"), Told::Refused(Refusal::Exists)),
             (Act::Open("name=*", 4, 16), Told::Number(1)),
             (Act::Slot, Told::Number(1)),
+            (Act::Opened, Told::Number(1)),
             (Act::Result(&[("a", 2)]), Told::Is(true)),
+            (Act::LastChange, Told::Number(1)),
             (Act::SetAttr(2, 7), Told::Changed(2, 2)),
             (Act::Fetch("x=7", &[("a", 2)]), Told::Number(2)),
             (Act::RemoveAttr(2), Told::Changed(3, 2)),
@@ -29,7 +35,10 @@ pub static EACH: Scenario = Scenario {
             (Act::Read, Told::Empty),
             (Act::Move(2, "b"), Told::Changed(5, 2)),
             (Act::Read, Told::Update(1, 5, 2)),
+            (Act::Settled, Told::Is(false)),
             (Act::Read, Told::Update(2, 5, 2)),
+            (Act::Settled, Told::Is(true)),
+            (Act::LastChange, Told::Number(5)),
             (Act::Result(&[("b", 2)]), Told::Is(true)),
             (Act::Remove(2), Told::Changed(6, 2)),
             (Act::Pump, Told::Done),
@@ -49,6 +58,7 @@ pub static EACH: Scenario = Scenario {
             (Act::Move(3, "d"), Told::Changed(8, 3)),
             (Act::Read, Told::Update(1, 7, 3)),
             (Act::Read, Told::Update(2, 8, 3)),
+            (Act::HangUp, Told::Done),
             (Act::HangUp, Told::Done),
             (Act::ReadWaiting, Told::End(3, 8, Cause::HungUp)),
             (Act::Result(&[("d", 3)]), Told::Is(true)),

@@ -6,7 +6,7 @@ use crate::random_changes::DrawnOpening;
 use crate::reference::{Log, text};
 use lq_board::Seat;
 use lq_predicate::read;
-use lq_server::{Accepted, Identity, Named, Reader, Server, Synced};
+use lq_server::{Accepted, Found, Identity, Named, Reader, Server, Synced};
 use lq_value::{Name, Refusal};
 use lq_volume::Change;
 use std::alloc::Global;
@@ -160,7 +160,7 @@ impl<N: Named> SeatOf<N> {
         rows: &[Row],
     ) -> Result<Told, Refusal> {
         let predicate = read(alloc, query)?;
-        let found = server.fetch(rt, &mut self.seat, &predicate)?;
+        let found: Found = server.fetch(rt, &mut self.seat, &predicate)?;
         if are_entries(&found.entries, rows) {
             Ok(Told::Number(found.at))
         } else {
@@ -221,6 +221,8 @@ impl<N: Named> ReaderOf<N> {
             Act::Slot => Ok(Told::Number(self.reader.slot())),
             Act::Opened => Ok(Told::Number(self.reader.opened())),
             Act::Result(rows) => Ok(Told::Is(are_entries(self.reader.result(), rows))),
+            Act::Settled => Ok(Told::Is(self.reader.is_settled())),
+            Act::LastChange => Ok(Told::Number(self.reader.last_change())),
             _ => Err(Refusal::OutOfStep),
         }
     }

@@ -17,7 +17,7 @@ pub enum Ask {
 }
 
 /// The value of a view.
-fn value(alloc: Global, view: &View<'_>) -> Result<Value, Refusal> {
+pub fn value(alloc: Global, view: &View<'_>) -> Result<Value, Refusal> {
     match view {
         View::Text(text) => Value::text(alloc, text),
         View::Int32(number) => Ok(Value::Int32(*number)),

@@ -4,8 +4,8 @@ ghost use Rattle.lq_volume.specs.Change.{IsLawful};
 
 use crate::act::Act;
 use lq_predicate::{Stack, StackOp, read, write};
-use lq_update::{Message, Opcode, Rebuild, step};
-use lq_value::{Name, Refusal};
+use lq_update::{IndexedRebuild, Message, Opcode, Rebuild, step};
+use lq_value::{Entry, Name, Refusal};
 use lq_volume::{Change, Volume};
 use std::alloc::Global;
 use std::test::Fail;
@@ -40,6 +40,25 @@ fn scenario_fold_refusals(rt: HostRuntime) -> Result<(), Fail> {
     assert!(rt; !rebuild.is_settled());
     let next = message(alloc, (2, 2), true, Opcode::Created)?;
     assert!(rt; rebuild.apply(&next).err() == Some(Refusal::OutOfStep));
+    Ok(())
+}
+
+// Whether this is the file of that message.
+fn is_kept(entries: &[Entry]) -> bool {
+    match entries {
+        [entry] => entry.dir == 1 && entry.name.as_str() == "a" && entry.node == 2,
+        _ => false,
+    }
+}
+
+#[test]
+fn an_indexed_rebuild_keeps_its_entries(rt: HostRuntime) -> Result<(), Fail> {
+    let alloc = rt.alloc();
+    let mut rebuild = IndexedRebuild::new(alloc, 3, &[])?;
+    assert!(rt; rebuild.is_settled() && rebuild.last_change() == 3);
+    rebuild.apply(&message(alloc, (1, 4), false, Opcode::Created)?)?;
+    assert!(rt; !rebuild.is_settled() && rebuild.last_change() == 4);
+    assert!(rt; is_kept(&rebuild.entries()?));
     Ok(())
 }
 

@@ -2,7 +2,8 @@
 //! up with memory for each variant of its arguments (`variants`), listings and paths (`folders`),
 //! calls that are given again where memory ran out (`again`), the plain body of `step` beside the
 //! fast one (`plain`, `bodies`), and changes without a message (`skipped_writes`, `creates`). And
-//! each public call of five crates (`surface`). Begin with `events`. Nothing here waits.
+//! calls that no script and no other test makes (`values`, `predicates`, `attributes`, `folds`).
+//! Begin with `events`. Nothing here waits.
 #![tactic(auto)]
 
 #[cfg(test)]
@@ -11,6 +12,8 @@ mod act;
 mod again;
 #[cfg(test)]
 mod ask;
+#[cfg(test)]
+mod attributes;
 #[cfg(test)]
 mod bodies;
 #[cfg(test)]
@@ -26,8 +29,10 @@ mod folds;
 #[cfg(test)]
 mod plain;
 #[cfg(test)]
+mod predicates;
+#[cfg(test)]
 mod skipped_writes;
 #[cfg(test)]
-mod surface;
+mod values;
 #[cfg(test)]
 mod variants;
