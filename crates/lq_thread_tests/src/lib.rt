@@ -1,5 +1,5 @@
 //! Tests of scripts by one thread and by a server and threads, and of the program's words; and each
-//! public call of lq_script, from its home and with its signature (`scripts`). Begin with `scripts`.
+//! public call of lq_script, from its home (`scripts`). Begin with `scripts`.
 #![tactic(auto)]
 
 #[cfg(test)]
