@@ -1,14 +1,12 @@
-//! What each call does for every slot: it notices who hung up, and fills the ports.
+//! What each call does for every slot, by its tables: it notices who hung up, and fills the ports.
 use crate::acts::{Act, Told};
-use crate::scenario::{Done, Scenario, base, stage};
+use crate::scenario::Scenario;
 use lq_update::Cause;
 use lq_value::Refusal;
-use std::marker::Brand;
-use std::test::Fail;
 
 /// A refused change fills the port, and ends the subscription whose reader hung up; so does a
 /// close, which comes too late for it.
-const REFUSED: Scenario = Scenario {
+pub static REFUSED: Scenario = Scenario {
     name: "a refused change notices and fills",
     threads: 1,
     rounds: 1,
@@ -35,7 +33,7 @@ const REFUSED: Scenario = Scenario {
 };
 
 /// A refused change makes room before the port, so that the next is held and not an overrun.
-const ROOM: Scenario = Scenario {
+pub static ROOM: Scenario = Scenario {
     name: "a refused change makes room",
     threads: 1,
     rounds: 1,
@@ -58,7 +56,7 @@ const ROOM: Scenario = Scenario {
 };
 
 /// What a sync and a close put is what the next reads give, and after the mark there is nothing.
-const ENDS: Scenario = Scenario {
+pub static ENDS: Scenario = Scenario {
     name: "nothing comes after a mark",
     threads: 1,
     rounds: 1,
@@ -89,31 +87,23 @@ const ENDS: Scenario = Scenario {
     )]],
 };
 
-#[test]
-fn a_refused_change_notices_and_fills(rt: HostRuntime) -> Result<(), Fail> {
-    let base = base(rt.alloc())?;
-    let done = stage::<Brand, _>(&rt, rt.alloc(), base, 1, 0, &REFUSED)?;
-    assert!(rt; is_played(&done, 2));
-    Ok(())
-}
-
-#[test]
-fn a_refused_change_makes_room(rt: HostRuntime) -> Result<(), Fail> {
-    let base = base(rt.alloc())?;
-    let done = stage::<Brand, _>(&rt, rt.alloc(), base, 1, 0, &ROOM)?;
-    assert!(rt; is_played(&done, 3));
-    Ok(())
-}
-
-#[test]
-fn nothing_comes_after_a_mark(rt: HostRuntime) -> Result<(), Fail> {
-    let base = base(rt.alloc())?;
-    let done = stage::<Brand, _>(&rt, rt.alloc(), base, 1, 0, &ENDS)?;
-    assert!(rt; is_played(&done, 4));
-    Ok(())
-}
-
-/// Whether each call was answered as wanted, and this many changes were made.
-fn is_played(done: &Done, changes: u64) -> bool {
-    done.acted.stop.is_none() && done.retired.changes == changes
-}
+/// A sync counts the messages that wait in the port and those that are held, and then has the mark.
+pub static COUNTED: Scenario = Scenario {
+    name: "a sync answers each number",
+    threads: 1,
+    rounds: 1,
+    turns: &[&[(
+        1,
+        &[
+            (Act::Open("name=*", 2, 8), Told::Number(1)),
+            (Act::Create("a"), Told::Changed(1, 2)),
+            (Act::Create("b"), Told::Changed(2, 3)),
+            (Act::Create("c"), Told::Changed(3, 4)),
+            (Act::Create("d"), Told::Changed(4, 5)),
+            (Act::Create("e"), Told::Changed(5, 6)),
+            (Act::Sync, Told::Live(5, 2, 3)),
+            (Act::HangUp, Told::Done),
+            (Act::Sync, Told::End(6, 5, Cause::HungUp)),
+        ],
+    )]],
+};

@@ -4,7 +4,7 @@
 //! plays it at a new server, and `Done::is_told` compares what was accepted and read with a plain
 //! reference, which takes the difference of two whole results. Begin with `acts`, then `scenario`,
 //! `party` and `reference`; the tests stand in `one_thread`, `more_threads`, `scenarios`, `seats`,
-//! `waits`, `fills`, `followed` and `again`.
+//! `waits`, `followed` and `again`.
 #![tactic(auto)]
 
 #[cfg(test)]

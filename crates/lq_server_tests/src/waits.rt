@@ -1,12 +1,11 @@
-//! Reads that wait, and the numbers of a sync.
+//! Reads that wait.
 ghost use Rattle.std.specs.Prelude.{◌≡◌, true};
 ghost use Rattle.lq_server.specs.Own.{IsOwn};
 
 use crate::acts::file;
 use crate::scenario::base;
 use lq_predicate::{Predicate, read};
-use lq_server::{Base, Named, Read, Reader, Seat, Server, Synced, Work, join_over};
-use lq_update::Cause;
+use lq_server::{Base, Named, Read, Reader, Seat, Server, Work, join_over, map_over};
 use lq_value::{Name, Refusal};
 use lq_volume::Change;
 use std::alloc::Global;
@@ -181,24 +180,39 @@ fn wait_beside<N: Named + Send + Sync, R: Threads + Wait + Sync>(
     waited
 }
 
-/// What a sync answers after these changes, with a port of 2 and a backlog of 8, and what it
-/// answers once the reader hung up.
-fn sync_twice<N: Named, R: Wait>(
+/// A look at the server: its own number and the number of changes.
+#[derive(Drop)]
+struct Looks {
+    number: u64,
+}
+
+impl Work for Looks {
+    type Given = Result<(u64, u64), Refusal>;
+
+    ghost can = { λ _ _. Unit {0} };
+
+    ghost gives = { λ _ _ _. Unit {0} };
+
+    fn work<N: Named, R: Wait>(self, rt: &R, server: &Server<N>) -> Result<(u64, u64), Refusal> {
+        let mut seat = server.seat(rt)?;
+        Ok((self.number, server.latest(&mut seat)))
+    }
+}
+
+/// The answers of three looks at a server without changes.
+fn look_thrice<N: Named + Send + Sync, R: Threads + Wait + Sync>(
     rt: &R,
+    alloc: Global,
     base: Base,
-    predicate: &Predicate,
-    changes: &[Change],
-) -> Result<(Synced, Synced), Refusal>
+) -> Result<Vec<Result<(u64, u64), Refusal>>, Refusal>
     requires { (base.board ≡ N.board) × (base.volume ≡ N.start) }
 {
     let server: Server<N> = Server::new(base);
-    let mut seat = server.seat(rt)?;
-    let mut reader = server.open(rt, &mut seat, predicate, 2, 8, false)?;
-    apply_all(rt, &server, &mut seat, changes)?;
-    let live = server.sync(rt, &mut reader);
-    reader.hang_up(&server);
-    let ended = server.sync(rt, &mut reader);
-    Ok((live, ended))
+    let mut works = Vec::with_capacity(alloc, 3)?;
+    for number in 1..4 {
+        works.push(Looks { number })?;
+    }
+    map_over(rt, &server, works)
 }
 
 /// Five files.
@@ -221,15 +235,12 @@ fn a_read_waits_for_the_next_change(rt: HostRuntime) -> Result<(), Fail> {
 }
 
 #[test]
-fn a_sync_answers_each_number(rt: HostRuntime) -> Result<(), Fail> {
+fn works_are_answered_in_order(rt: HostRuntime) -> Result<(), Fail> {
     let base = base(rt.alloc())?;
-    let predicate = read(rt.alloc(), "name=*")?;
-    let changes = files(rt.alloc())?;
-    let (live, ended) = sync_twice::<Brand, _>(&rt, base, &predicate, &changes)?;
-    assert!(rt; live.change == 5 && live.waiting == 2 && live.held == 3);
-    assert!(rt; live.mark.is_none());
-    assert!(rt; ended.change == 5 && ended.waiting == 2 && ended.held == 3);
-    let mark = ended.mark.ok_or("no mark")?;
-    assert!(rt; mark.seq == 6 && mark.change == 5 && mark.cause == Cause::HungUp);
+    let given = look_thrice::<Brand, _>(&rt, rt.alloc(), base)?;
+    assert!(rt; given.len() == 3);
+    for (place, one) in given.into_iter().enumerate() {
+        assert!(rt; one? == (place as u64 + 1, 0));
+    }
     Ok(())
 }

@@ -1,4 +1,0 @@
-use Rattle.lq_server_tests.proofs.fills.nothing_comes_after_a_mark.Given as goal
-
-abbrev pub ghosts-stage : goal.ghosts-stage
-ghosts-stage g a = record { board = a.base.board; start = a.base.volume }
