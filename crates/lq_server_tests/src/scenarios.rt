@@ -1,5 +1,5 @@
 //! The scenarios, played.
-ghost use Rattle.std.specs.Prelude.{◌≤◌};
+ghost use Rattle.std.specs.Prelude.{◌≡◌, ◌≤◌};
 
 use crate::fills::{COUNTED, ENDS, REFUSED, ROOM};
 use crate::more_threads::{DRAWN, HANG_UP_BESIDE_CHANGES, WINDOW, WRITERS_CREATE, WRITERS_WRITE};
@@ -7,7 +7,9 @@ use crate::one_thread::{
     EACH, READERS_DROPPED, SEATS, SLOT_AFTER_CLOSE, SLOT_AFTER_HANG_UP, SLOTS, TWO_OPENINGS,
 };
 use crate::reference::LIMIT;
-use crate::scenario::{Scenario, base_with, stage};
+use crate::scenario::{Scenario, base, base_with, stage};
+use lq_server::{Base, Named, Server};
+use lq_value::Refusal;
 use std::alloc::Global;
 use std::marker::Brand;
 use std::sync::Wait;
@@ -84,8 +86,25 @@ fn scenario_hang_up_races_changes(rt: HostRuntime) -> Result<(), Fail> {
     play(&rt, rt.alloc(), LIMIT, &[&HANG_UP_BESIDE_CHANGES])
 }
 
+// Whether 16 seats are given, no 17th, and one more after one is given back.
+fn seats_run_out<N: Named, R: Wait>(rt: &R, base: Base) -> Result<bool, Refusal>
+    requires { (base.board ≡ N.board) × (base.volume ≡ N.start) }
+{
+    let server: Server<N> = Server::new(base);
+    let seat = server.seat(rt)?;
+    for _ in 0..15 {
+        server.seat(rt)?;
+    }
+    let refused = server.seat(rt).err();
+    server.give_back(rt, seat);
+    server.seat(rt)?;
+    Ok(refused == Some(Refusal::NoSeat))
+}
+
 #[test]
 fn scenario_seats_and_drops(rt: HostRuntime) -> Result<(), Fail> {
+    let seats = base(rt.alloc())?;
+    assert!(rt; seats_run_out::<Brand, _>(&rt, seats)?);
     play(&rt, rt.alloc(), LIMIT, &[&SEATS, &READERS_DROPPED])?;
     play(&rt, rt.alloc(), 2, &[&TWO_OPENINGS])
 }

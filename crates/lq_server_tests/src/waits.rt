@@ -1,4 +1,4 @@
-//! Reads that wait.
+//! Reads that wait, and works in threads.
 ghost use Rattle.std.specs.Prelude.{◌≡◌, true};
 ghost use Rattle.lq_server.specs.Own.{IsOwn};
 
