@@ -84,6 +84,8 @@ pub enum Told {
     Ended,
     /// change, waiting, held.
     Live(u64, u64, u64),
+    /// The same of a subscription that ended, and its mark: seq, change, cause.
+    Marked(u64, u64, u64, u64, u64, Cause),
     Done,
     /// As `OutOfStep`, which no server answers, where there is no reader.
     Refused(Refusal),

@@ -171,9 +171,10 @@ impl<N: Named> SeatOf<N> {
 
 // What a sync answered.
 fn told_by(synced: &Synced) -> Told {
+    let (change, waiting, held) = (synced.change, synced.waiting, synced.held);
     match synced.mark {
-        None => Told::Live(synced.change, synced.waiting, synced.held),
-        Some(mark) => Told::End(mark.seq, mark.change, mark.cause),
+        None => Told::Live(change, waiting, held),
+        Some(mark) => Told::Marked(change, waiting, held, mark.seq, mark.change, mark.cause),
     }
 }
 
