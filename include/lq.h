@@ -1,5 +1,5 @@
 /* Yazgoulm, a live query server in the manner of the Be file system, in the caller's own process.
- * Version 0.1.0.
+ * Version 0.2.0.
  *
  * A handle holds one volume, its live queries and the messages that wait for their readers. Each
  * call is one act: it starts no thread, takes no lock, waits for nothing and prints nothing. Nodes,
@@ -55,8 +55,8 @@ extern "C" {
 #endif
 
 /* The version of this header: a million for each major version, a thousand for each minor one. */
-#define LQ_VERSION 1000
-#define LQ_VERSION_TEXT "0.1.0"
+#define LQ_VERSION 2000
+#define LQ_VERSION_TEXT "0.2.0"
 
 /* The version of the library. */
 uint32_t lq_version(void);

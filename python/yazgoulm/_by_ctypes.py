@@ -8,7 +8,7 @@ from typing import Any, Dict, List, Optional, Tuple, Union
 from ._arguments import encode, encode_name, kind, natural, whole
 from ._types import TYPES, Applied, Attr, Attribute, Cause, Entry, Info, Mark, Message, Op, Opcode, refusal
 
-_VERSION = 1000  # of the header whose structs stand below
+_VERSION = 2000  # of the header whose structs stand below
 _ROOM = 64  # entries that are taken at a time
 _KINDS = "file", "folder"
 _UPDATE, _END = 1, 2

@@ -2,7 +2,7 @@
 import ctypes.util, os
 from typing import Any, Tuple
 
-VERSION = "0.1.0"
+VERSION = "0.2.0"
 
 
 def _found() -> str:
