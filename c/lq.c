@@ -86,9 +86,15 @@ const char *lq_status_name(lq_status status)
     return NULL;
 }
 
+/* Whether a caller of this version has the structs and the statuses of the library. */
+static bool is_served(uint32_t version)
+{
+    return version / 1000 == LQ_VERSION / 1000 && version <= LQ_VERSION;
+}
+
 lq_status lq_volume_open_as(lq *handle, uint32_t version)
 {
-    if (!handle || is_open(handle) || version > LQ_VERSION) return LQ_MISUSE;
+    if (!handle || is_open(handle) || !is_served(version)) return LQ_MISUSE;
     served made;
     lq_status status = lqp_start(&made);
     if (status != LQ_OK) return status;

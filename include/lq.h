@@ -111,8 +111,7 @@ typedef enum lq_status {
 const char *lq_status_name(lq_status status);
 
 /* A handle. Its fields belong to the library. `version` is the version of the header with which it
- * was opened: if a later version of the library adds fields at the end of a struct below, calls on
- * this handle still write only the fields of its own version. */
+ * was opened. */
 typedef struct lq {
     void *at;
     uint64_t tag;
@@ -124,8 +123,11 @@ typedef struct lq {
 /* A handle that isn't open. */
 #define LQ_INIT { 0, 0, 0, 0, 0 }
 
-/* Opens a handle over a volume with the root alone. LQ_MISUSE: it is null or open already, or
- * the library is older than `version`, which is LQ_VERSION. LQ_NO_MEMORY: it stays as it was. */
+/* Opens a handle over a volume with the root alone. `version` is LQ_VERSION, that of the header
+ * with which the caller was compiled. Until 1.0 a minor version may change structs and statuses; so
+ * a library opens no volume for a caller of another minor version, or of a later version than its
+ * own. LQ_MISUSE: `version` is one of these, or the handle is null or open already. LQ_NO_MEMORY:
+ * the handle stays as it was. */
 lq_status lq_volume_open_as(lq *handle, uint32_t version);
 
 static inline lq_status lq_volume_open(lq *handle)

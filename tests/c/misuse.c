@@ -1,4 +1,5 @@
-/* Misuse is answered: handles that aren't open, null for an `out` or a text, sizes beyond limits, too many pushes. */
+/* Misuse is answered: handles that aren't open, callers of other versions, null for an `out` or a text, sizes beyond
+   limits, too many pushes. */
 #include "check.h"
 
 /* A call of each kind on a handle that isn't open: it answers LQ_MISUSE, or 0, and writes nothing. */
@@ -67,8 +68,6 @@ static void handles(void) {
     not_open(NULL);
     not_open(&it);
     WANT(lq_volume_open(NULL), LQ_MISUSE);
-    WANT(lq_volume_open_as(&it, LQ_VERSION + 1), LQ_MISUSE);
-    not_open(&it);
     OK(lq_volume_open(&it));
     created(&it, LQ_ROOT, "a", LQ_FILE, 1);
     /* one that is open keeps what it has */
@@ -85,6 +84,22 @@ static void handles(void) {
     OK(lq_volume_open(&copy));
     CHECK(lq_changes(&copy) == 0);
     lq_volume_close(&copy);
+}
+
+/* A volume is opened for callers of this minor version alone, and for none that is later than the library. */
+static void versions(void) {
+    enum { FIRST = LQ_VERSION - LQ_VERSION % 1000 }; /* of this minor version */
+    static const uint32_t others[] = {0, 1, 1000, FIRST - 1000, FIRST - 1, LQ_VERSION + 1, FIRST + 1000, UINT32_MAX};
+    lq it = LQ_INIT;
+    for (size_t at = 0; at < sizeof others / sizeof *others; at++) {
+        WANT(lq_volume_open_as(&it, others[at]), LQ_MISUSE);
+        not_open(&it);
+    }
+    for (uint32_t version = FIRST; version <= LQ_VERSION; version++) {
+        OK(lq_volume_open_as(&it, version));
+        created(&it, LQ_ROOT, "a", LQ_FILE, 1);
+        lq_volume_close(&it);
+    }
 }
 
 /* Null where there is nothing to write to or to read, and where that is allowed. */
@@ -238,6 +253,7 @@ static void pushes(void) {
 
 int main(void) {
     handles();
+    versions();
     nulls();
     sizes();
     pushes();
