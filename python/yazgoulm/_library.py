@@ -1,18 +1,29 @@
 """Finds the shared library, and chooses the way to call it."""
 import ctypes.util, os
-from typing import Any, Tuple
+from typing import Any, Optional, Tuple
 
 VERSION = "0.2.0"
+# The shared library of this minor version, which alone has the structs of this package. The other name is its link,
+# which may be of another version, and the name in a wheel.
+_NAMES = "liblq.so." + VERSION.rpartition(".")[0], "liblq.so"
 
 
 def _found() -> str:
-    """The path of the shared library."""
+    """The path of the shared library, or its name where the system has it."""
     here, named = os.path.dirname(os.path.realpath(__file__)), os.environ.get("YAZGOULM_LIBRARY")
-    beside = [f"{here}/{place}liblq.so" for place in ("", "../../", "../../crates/lq_c/out/")]
-    found = named or next(filter(os.path.exists, beside), None) or ctypes.util.find_library("lq")
+    beside = [f"{here}/{place}{name}" for name in _NAMES for place in ("", "../../", "../../crates/lq_c/out/")]
+    found = named or next(filter(os.path.exists, beside), None) or _of_system()
     if not found:
-        raise ImportError("no liblq.so was found: build it with `make library`, or set YAZGOULM_LIBRARY to its path")
+        raise ImportError(f"no {' or '.join(_NAMES)} was found: build it with `make library`, or set YAZGOULM_LIBRARY")
     return found
+
+
+def _of_system() -> Optional[str]:
+    try:
+        ctypes.CDLL(_NAMES[0])
+    except OSError:
+        return ctypes.util.find_library("lq")
+    return _NAMES[0]
 
 
 def _by_extension(path: str) -> Any:

@@ -1,5 +1,6 @@
 """The Python module: scenarios by lines and by methods, and what a method gives, refuses and wants."""
-import asyncio, copy, gc, glob, inspect, json, operator, os, pathlib, pickle, re, sys, threading, typing, unittest
+import asyncio, copy, gc, glob, inspect, json, operator, os, pathlib, pickle, re, shutil, subprocess, sys, tempfile
+import threading, typing, unittest
 
 TOP = os.path.dirname(os.path.dirname(os.path.dirname(os.path.realpath(__file__))))
 sys.dont_write_bytecode = True
@@ -771,6 +772,49 @@ class EventLoops(Case):
 
         self.run_until(go(lambda query: query.drop()))
         self.run_until(go(lambda _: self.volume.close()))
+
+
+class Libraries(unittest.TestCase):
+    """Which shared library is taken, and which is refused."""
+
+    def imports(self, script, **variables):
+        """What another Python writes that imports the package in the same way: its output, or its last line of error."""
+        environment = {**os.environ, "PYTHONPATH": os.path.dirname(os.path.dirname(yazgoulm.__file__)),
+                       "YAZGOULM_BACKEND": yazgoulm.backend, **variables}
+        ran = subprocess.run([sys.executable, "-B", "-c", script], env=environment, stdout=subprocess.PIPE,
+                             stderr=subprocess.PIPE, encoding="utf-8")
+        return ran.stdout or ran.stderr.strip().rpartition("\n")[2]
+
+    def test_the_library_of_this_minor_version_comes_first(self):
+        """It stands beside the package, or above it as `make install` has it. The link may be of another version."""
+        own = "liblq.so." + yazgoulm.__version__.rpartition(".")[0]
+        with tempfile.TemporaryDirectory() as room:
+            above, package = os.path.realpath(room), os.path.realpath(f"{room}/yazgoulm/yazgoulm")
+            shutil.copytree(os.path.dirname(yazgoulm.__file__), package, ignore=shutil.ignore_patterns("*.so*", "*.c"))
+            for path in f"{above}/liblq.so", f"{package}/liblq.so", f"{above}/{own}", f"{package}/{own}":
+                with open(path, "wb"):
+                    pass  # which is no library, and is found before all those that stand already
+                said = self.imports("import yazgoulm", PYTHONPATH=os.path.dirname(package), YAZGOULM_LIBRARY="",
+                                    YAZGOULM_BACKEND="ctypes")
+                error, _, found = said.partition(" is not the library")[0].partition(": ")
+                self.assertEqual((error, os.path.realpath(found)), ("ImportError", path))
+
+    @unittest.skipUnless(shutil.which(os.environ.get("CC") or "cc"), "there is no C compiler")
+    def test_a_library_of_another_minor_version_is_refused(self):
+        """Each stands for one that has all calls and another version."""
+        from yazgoulm import _by_ctypes
+
+        own = _by_ctypes._VERSION
+        self.assertEqual("{}.{}.{}".format(own // 1000000, own // 1000 % 1000, own % 1000), yazgoulm.__version__)
+        calls = {*_by_ctypes._STATUS, *_by_ctypes._OTHERS} - {"lq_version"}
+        with tempfile.TemporaryDirectory() as room:
+            for version in own - 1000, own + 1000, own + 1000000:
+                path = f"{room}/{version}.so"
+                text = "".join(f"void {call}(void) {{}}\n" for call in calls)
+                subprocess.run([os.environ.get("CC") or "cc", "-shared", "-fPIC", "-x", "c", "-", "-o", path], check=True,
+                               input=f"{text}unsigned lq_version(void) {{ return {version}; }}\n".encode())
+                self.assertEqual(self.imports("import yazgoulm", YAZGOULM_LIBRARY=path),
+                                 f"ImportError: {path} has version {version}, and this module is for {own}")
 
 
 class Documents(unittest.TestCase):
