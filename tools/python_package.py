@@ -9,7 +9,7 @@ It is the build backend of pyproject.toml too, so `pip install .` works without 
 import base64, glob, hashlib, os, shutil, subprocess, sys, sysconfig, zipfile
 
 TOP = os.path.dirname(os.path.dirname(os.path.realpath(__file__)))
-PACKAGE, LIBRARY = f"{TOP}/python/yazgoulm", f"{TOP}/crates/lq_c/out/liblq.so"
+PACKAGE = f"{TOP}/python/yazgoulm"
 SOURCES = f"{PACKAGE}/_native.c", f"{TOP}/include/lq.h"
 NATIVE = f"{PACKAGE}/_native{sysconfig.get_config_var('EXT_SUFFIX')}"
 
@@ -30,6 +30,11 @@ def build_extension():
     return None
 
 
+def said_by(*words):
+    """What a script of tools/ prints, without its last LF."""
+    return subprocess.run([f"{TOP}/tools/{words[0]}", *words[1:]], stdout=subprocess.PIPE, text=True, check=True).stdout.strip()
+
+
 def facts():
     """The project's fields in pyproject.toml that are texts."""
     with open(f"{TOP}/pyproject.toml", encoding="utf-8") as file:
@@ -39,17 +44,20 @@ def facts():
 
 def build_wheel(wheel_directory, config_settings=None, metadata_directory=None):
     """Writes the wheel into a folder, and returns its name."""
-    subprocess.run([f"{TOP}/tools/library"], check=True, stdout=sys.stderr)
+    library = f"{said_by('take', 'library')}/{said_by('soname')}"
     missing = build_extension()
     if missing:
         print(f"python_package: {missing}, so the wheel calls the library by ctypes", file=sys.stderr)
     python = "py3-none" if missing else "cp{0}{1}-cp{0}{1}".format(*sys.version_info)
     tag = f"{python}-{sysconfig.get_platform().replace('-', '_').replace('.', '_')}"
     it, files = facts(), {}
-    for path in sorted([*glob.glob(f"{PACKAGE}/*.py"), f"{PACKAGE}/py.typed", LIBRARY, *([] if missing else [NATIVE])]):
+    for path in sorted([*glob.glob(f"{PACKAGE}/*.py"), f"{PACKAGE}/py.typed", library, *([] if missing else [NATIVE])]):
         with open(path, "rb") as file:
             files[f"yazgoulm/{os.path.basename(path)}"] = file.read()
     info = f"yazgoulm-{it['version']}.dist-info"
+    if os.path.exists(f"{TOP}/release/NOTICE"):
+        with open(f"{TOP}/release/NOTICE", "rb") as file:
+            files[f"{info}/licenses/NOTICE"] = file.read()
     files[f"{info}/METADATA"] = (
         f"Metadata-Version: 2.1\nName: {it['name']}\nVersion: {it['version']}\nSummary: {it['description']}\n"
         f"Requires-Python: {it['requires-python']}\n"

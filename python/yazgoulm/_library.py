@@ -1,5 +1,5 @@
 """Finds the shared library, and chooses the way to call it."""
-import ctypes.util, os
+import ctypes.util, os, subprocess
 from typing import Any, Optional, Tuple
 
 VERSION = "0.2.0"
@@ -11,11 +11,21 @@ _NAMES = "liblq.so." + VERSION.rpartition(".")[0], "liblq.so"
 def _found() -> str:
     """The path of the shared library, or its name where the system has it."""
     here, named = os.path.dirname(os.path.realpath(__file__)), os.environ.get("YAZGOULM_LIBRARY")
-    beside = [f"{here}/{place}{name}" for name in _NAMES for place in ("", "../../", "../../crates/lq_c/out/")]
-    found = named or next(filter(os.path.exists, beside), None) or _of_system()
+    beside = [f"{here}/{place}{name}" for name in _NAMES for place in ("", "../../")]
+    found = named or next(filter(os.path.exists, beside), None) or _of_clone(f"{here}/../..") or _of_system()
     if not found:
         raise ImportError(f"no {' or '.join(_NAMES)} was found: build it with `make library`, or set YAZGOULM_LIBRARY")
     return found
+
+
+def _of_clone(top: str) -> Optional[str]:
+    """The library of the sources beside this package, if it is in a clone: as built there, or as released."""
+    if not os.path.exists(f"{top}/tools/take"):
+        return None
+    took = subprocess.run([f"{top}/tools/take", "--only", "library"], capture_output=True, text=True)
+    if took.returncode != 0:
+        raise ImportError(took.stderr.strip())
+    return f"{took.stdout.strip()}/{_NAMES[0]}"
 
 
 def _of_system() -> Optional[str]:
