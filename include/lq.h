@@ -152,8 +152,8 @@ uint64_t lq_fault_place(const lq *handle);
  * below act on the same volume and slots. `*size` is the size of the reply, which lq_text copies
  * until another lq_answer or lq_path; 0 for an empty line, which has none. A refused line is
  * answered with LQ_OK, and says so in its reply. LQ_NO_MEMORY: there is no reply, and nothing is
- * said of whether the line was carried out; a message that it read is lost, to lq_result too, which
- * from then on may answer an old result of that slot. */
+ * said of whether the line was carried out; a message that it read is lost, but lq_result has it,
+ * or the slot is left without a rebuilt result. */
 lq_status lq_answer(lq *handle, const char *line, size_t line_size, size_t *size);
 
 /* Copies the text of the last lq_answer or lq_path, and answers its size. Where `room` is smaller
@@ -345,7 +345,7 @@ typedef struct lq_rebuilt {
 } lq_rebuilt;
 
 /* LQ_NOT_OPEN: the slot is free, or it has no rebuilt result: it was opened with `no_result`, or
- * memory ran out for it in its lq_open or in a read. LQ_NO_MEMORY. */
+ * memory ran out for it as it was opened or read, by a call or by a line. LQ_NO_MEMORY. */
 lq_status lq_result(lq *handle, uint64_t slot, lq_rebuilt *out);
 
 /* ---- looks at the volume, which change nothing ---- */

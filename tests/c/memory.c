@@ -256,6 +256,12 @@ static const act acts[] = {FOLDER_AT(1, "folder"),
                            OF(REMOVE, 6),
                            OF(READ, 1)};
 
+/* Results that begin empty and grow as they are read: their rows take memory then. */
+#define GROWS(name) FILE_AT(1, name), OF(READ, 1), OF(READ, 2)
+static const act growing[] = {QUERY(OPEN, "size>100", 64, false), QUERY(OPEN, "name==*", 64, true),
+                              GROWS("a"), GROWS("b"), GROWS("c"), GROWS("d"), GROWS("e"), GROWS("f"),
+                              GROWS("g"), GROWS("h"), GROWS("i")};
+
 /* The second list begins anew with the entries of two acts. */
 static const act values[] = {FOLDER_AT(1, "folder"),
                              FILE_AT(2, "a.txt"),
@@ -366,11 +372,27 @@ static bool run(int script, size_t refused, long which, text *wanted, lq_status 
     return was_met;
 }
 
-/* A line whose growths are refused in turn, each time on a handle of its own that has answered the lines before. */
-static void refuse_lines(void) {
-    for (size_t last = 0; last < sizeof acts / sizeof *acts; last++) {
-        unsigned long before;
-        long number = 1;
+/* The rebuilt results of the two slots, once all that waits there was read. A handle to which nothing was refused says
+   which they are. On one whose line found no memory they are the same, or there are none. */
+static void want_results(lq *handle, text *wanted, bool was_refused) {
+    for (uint64_t slot = 1; slot <= 2; slot++) {
+        const act result = OF(RESULT, slot);
+        text seen = {NULL, 0, 0}, *its = &wanted[slot - 1];
+        lq_message message;
+        while (lq_read(handle, slot, &message) == LQ_OK && message.what == LQ_UPDATE) continue;
+        lq_status status = by_call(handle, &result, was_refused ? &seen : its);
+        CHECK(status == LQ_NOT_OPEN || (status == LQ_OK && (!was_refused || is_same(&seen, its))));
+        free(seen.at);
+    }
+}
+
+/* A line whose growths are refused in turn, after one round without, each time on a handle of its own that has answered
+   the lines before. A refused line that reads or opens leaves no slot with a result that lacks a message. */
+static void refuse_lines(const act *all, size_t count) {
+    for (size_t last = 0; last < count; last++) {
+        bool folds = all[last].word == READ || all[last].word == OPEN, was_refused;
+        text wanted[2] = {{NULL, 0, 0}, {NULL, 0, 0}};
+        long number = 0;
         do {
             lq handle = LQ_INIT;
             text line = {NULL, 0, 0}, seen = {NULL, 0, 0};
@@ -378,19 +400,23 @@ static void refuse_lines(void) {
             OK(lq_volume_open(&handle));
             for (size_t at = 0; at <= last; at++) {
                 line.size = 0;
-                say_line(&line, &acts[at]);
+                say_line(&line, &all[at]);
                 if (at < last) OK(answer(&handle, line.at, line.size, &seen));
             }
-            before = refusals;
-            left = number++;
+            unsigned long before = refusals;
+            left = number;
             lq_status status = lq_answer(&handle, line.at, line.size, &size);
             left = 0;
-            WANT(status, refusals == before ? LQ_OK : LQ_NO_MEMORY);
+            was_refused = refusals != before;
+            WANT(status, was_refused ? LQ_NO_MEMORY : LQ_OK);
             CHECK((size == 77) == (status == LQ_NO_MEMORY));
+            if (folds && (was_refused || number == 0)) want_results(&handle, wanted, was_refused);
             lq_volume_close(&handle);
             free(line.at);
             free(seen.at);
-        } while (refusals != before && !failures);
+        } while ((number++ == 0 || was_refused) && !failures);
+        free(wanted[0].at);
+        free(wanted[1].at);
     }
 }
 
@@ -426,7 +452,8 @@ int main(void) {
             wanted[number] = (text){NULL, 0, 0};
         }
     }
-    refuse_lines();
+    refuse_lines(acts, ACTS);
+    refuse_lines(growing, sizeof growing / sizeof *growing);
     CHECK(live == before);
     /* if none was refused, the linker has put nothing in place */
     CHECK(refusals > 100);

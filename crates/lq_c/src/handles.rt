@@ -5,7 +5,7 @@ ghost use Rattle.lq_script_desk.specs.Script.{world_rules};
 ghost use Rattle.lq_embed.specs.Outs.{text_put};
 ghost use Rattle.lq_embed.specs.SessionState.{volume_in, with_session, with_text};
 ghost use Rattle.lq_script_desk.specs.History.{request_of};
-ghost use Rattle.lq_script_desk.specs.SessionHistory.{LineKeepsHistory};
+ghost use Rattle.lq_script_desk.specs.Turned.{TurnedByLine};
 ghost use Rattle.lq_c.specs.Held.{held_state, line_result};
 
 use crate::handle::{Lq, Opaque};
@@ -59,8 +59,8 @@ pub extern "C" fn lqp_answer(handle: &mut Lq, line: &[u8], size: &mut usize) -> 
         ≡ state_after world_rules (held_state handle.old).session (line_of line.now) }
     ensures size { result ≡ 0 → size.new ≡ length (held_state handle.new).text }
     ensures status { (result ≡ 0) ⊎ ((result ≡ 15) × (size.new ≡ size.old)) }
-    ensures history { LineKeepsHistory (held_state handle.old).session.core
-        (held_state handle.new).session.core (line_result result) (request_of (line_of line.now)) }
+    ensures turned { TurnedByLine (held_state handle.old).session (held_state handle.new).session
+        (line_result result) (request_of (line_of line.now)) }
     ensures beside { held_state handle.new
         ≡ with_text (with_session (held_state handle.old) (held_state handle.new).session)
         (held_state handle.new).text }

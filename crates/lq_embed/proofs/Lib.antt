@@ -1,4 +1,5 @@
 pub mod CallLemmas
+pub mod LineLemmas
 pub mod PushedLemmas
 pub mod AttrLemmas
 pub mod FolderLemmas

@@ -4,7 +4,7 @@ ghost use Rattle.lq_value.specs.declared.refusal.Refusal.TheVariants.{NoMemory};
 ghost use Rattle.lq_script_lines.specs.Lines.{line_of, reply_to, state_after};
 ghost use Rattle.lq_script_desk.specs.Script.{world_rules};
 ghost use Rattle.lq_script_desk.specs.History.{request_of};
-ghost use Rattle.lq_script_desk.specs.SessionHistory.{LineKeepsHistory};
+ghost use Rattle.lq_script_desk.specs.Turned.{TurnedByLine};
 ghost use Rattle.lq_embed.specs.SessionState.{holds, with_session, with_text};
 
 use crate::embedded::Embedded;
@@ -15,15 +15,16 @@ impl Embedded {
     /// Answers a line of a script, without its LF, as `run` answers it: the text of the reply is
     /// kept. An empty line has none.
     ///
-    /// Refused: `NoMemory`; no clause says then what the text is and what the line did.
+    /// Refused: `NoMemory`. No clause says then what the text is, or whether the line's event was
+    /// carried out; where it was, a rebuilt result that lacks what it read is dropped.
     pub fn answer(&mut self, line: &[u8]) -> Result<(), Refusal>
         ensures text { OnOk result ((holds self.new).text
             ≡ reply_to world_rules (holds self.old).session (line_of line.now)) }
         ensures after { OnOk result ((holds self.new).session
             ≡ state_after world_rules (holds self.old).session (line_of line.now)) }
         ensures memory { IfErr result (λ e. e ≡ NoMemory) }
-        ensures history { LineKeepsHistory (holds self.old).session.core
-            (holds self.new).session.core result (request_of (line_of line.now)) }
+        ensures turned { TurnedByLine (holds self.old).session (holds self.new).session
+            result (request_of (line_of line.now)) }
         ensures beside { holds self.new
             ≡ with_text (with_session (holds self.old) (holds self.new).session)
             (holds self.new).text }

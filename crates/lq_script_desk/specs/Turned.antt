@@ -1,10 +1,13 @@
--- A turn that comes without a line: its answer, and the session after it.
-use Rattle.std.specs.Prelude.{◌≡◌, ◌⊎◌, ℕ, None}
+-- A turn: its answer, and the session after it. It comes without a line, or by one.
+use Rattle.std.specs.Prelude.{◌≡◌, ◌⊎◌, ℕ, Option, Some, None, Result, IsErr, OnOk}
+use Rattle.lq_value.specs.declared.refusal.Refusal.{Refusal}
 use Rattle.lq_value.specs.declared.refusal.Refusal.TheVariants.{NoMemory}
 use Rattle.lq_desk_world.specs.declared.event.Event.{Event}
 use Rattle.lq_desk_world.specs.Events.{Answer, Opened, Refused}
 use Rattle.lq_desk_world.specs.Turns.{turn_outcome}
 use Rattle.lq_desk.specs.Turn.{TurnRuns}
+use Rattle.lq_script_request.specs.declared.request.Request.{Request}
+use Rattle.lq_script_request.specs.declared.request.Request.TheVariants as request
 use Rattle.lq_script_desk.specs.SessionHistory.{KeepsHistory}
 use Rattle.lq_script_desk.specs.Folds.{Folds, folds_after, with_fold}
 use Rattle.lq_script_desk.specs.Session.{Session}
@@ -28,3 +31,12 @@ pub record Turned (old new : Session) (e : Event) (a : Answer) : Type 0 where
   pub outcome : (a ≡ Refused NoMemory) ⊎ ((a, new.core) ≡ turn_outcome old.core e)
   pub folds : Follow (slot_named e) a old.folds new.folds
   pub history : KeepsHistory old.core new.core e a
+
+-- What a line that asks this does to the session. Its event, if it asks for one, has its turn, also
+-- where memory runs out after it, and the reply tells the answer of that turn. A line that was
+-- refused for want of memory may leave the session as it was. Any other line leaves it.
+abbrev pub TurnedByLine : Session → Session → Result (Unit {0}) Refusal → Option Request → Type 0
+TurnedByLine old new result (Some (request.Event e)) =
+    (IsErr result × (new ≡ old))
+    ⊎ ((a : Answer) × Turned old new e a × OnOk result (a ≡ (turn_outcome old.core e).0))
+TurnedByLine old new result other = new ≡ old

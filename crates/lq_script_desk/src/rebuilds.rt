@@ -77,7 +77,7 @@ pub fn follow(alloc: Global, rebuilds: &mut Vec<Option<IndexedRebuild>>, slot: u
 }
 
 // The slot whose result a reply updates: the one that it opened, else the event's own.
-fn folded_slot(slot: u64, reply: &Reply) -> u64
+pub(crate) fn folded_slot(slot: u64, reply: &Reply) -> u64
     ensures { result ≡ folded_slot slot (answer_of reply.now) }
 {
     match reply {

@@ -9,12 +9,12 @@ ghost use Rattle.lq_script_desk.specs.Reply.{reply_text};
 ghost use Rattle.lq_script_desk.specs.Answered.{answered_event, look_response, slot_named};
 ghost use Rattle.lq_script_desk.specs.Keeps.{keeps};
 ghost use Rattle.lq_script_desk.specs.Session.{session_with};
-ghost use Rattle.lq_script_desk.specs.SessionHistory.{KeepsHistory};
+ghost use Rattle.lq_script_desk.specs.Turned.{Turned};
 ghost use Rattle.lq_desk_world.specs.Events.{Answer};
 
 mod typed;
 
-use crate::rebuilds::fold_reply;
+use crate::rebuilds::{fold_reply, folded_slot, put};
 use crate::reply::{put_event_reply, put_reply};
 use crate::response::Response;
 use lq_desk::{Desk, Event, Reply};
@@ -60,6 +60,7 @@ impl Session {
     }
 
     // Carries out an event, updates its slot's result by the reply, and appends the reply to `out`.
+    // Where memory runs out for the result, the slot is left without one.
     fn write_answer(&mut self, event: &Event, out: &mut Vec<u8>) -> Result<(), Refusal>
         ensures ok { OnOk result (out.new.items ≡ out.old.items
             ++ reply_text (answered_event (slot_named event.now) self.old.rebuilds.items
@@ -69,7 +70,7 @@ impl Session {
             (turn_outcome self.old.desk event.now)).1) }
         ensures err { OnErr result (IsPrefix out.old.items out.new.items) }
         ensures memory { IfErr result (λ e. e ≡ NoMemory) }
-        ensures history { (a : Answer) × KeepsHistory self.old.desk self.new.desk event.now a
+        ensures turned { (a : Answer) × Turned (keeps self.old) (keeps self.new) event.now a
             × OnOk result (a ≡ (turn_outcome self.old.desk event.now).0) }
     {
         // Two calls for what they prove: a result rises by node, and the desk's volume is a tree.
@@ -80,7 +81,10 @@ impl Session {
             return Err(Refusal::NoMemory);
         }
         let slot = slot_of(event);
-        fold_reply(self.alloc, &mut self.rebuilds, slot, &reply)?;
+        if fold_reply(self.alloc, &mut self.rebuilds, slot, &reply).is_err() {
+            put(&mut self.rebuilds, folded_slot(slot, &reply), None);
+            return Err(Refusal::NoMemory);
+        }
         put_event_reply(out, slot, &reply)
     }
 
@@ -131,7 +135,7 @@ impl Responder for Session {
     ghost use Rattle.lq_script_desk.specs.Session as spec;
     ghost use Rattle.lq_script_desk.specs.Script.{world_rules};
     ghost use Rattle.std.specs.Result.{result_ok};
-    ghost use Rattle.lq_script_desk.specs.SessionHistory.{LineKeepsHistory};
+    ghost use Rattle.lq_script_desk.specs.Turned.{TurnedByLine};
     ghost use Rattle.lq_script_request.specs.Request.{request_in};
 
     ghost State = { spec.Session };
@@ -140,7 +144,7 @@ impl Responder for Session {
 
     ghost rules = { world_rules };
 
-    // The trait's clauses, and the history.
+    // The trait's clauses, and the turn.
     fn respond(&mut self, line: &[u8], out: &mut Vec<u8>) -> Result<(), Refusal>
         ensures ok { OnOk result (out.new.items ≡ out.old.items ++ world_rules.reply
             (session_with self.old.desk self.old.rebuilds.items) line.now) }
@@ -148,7 +152,7 @@ impl Responder for Session {
             ≡ world_rules.after (session_with self.old.desk self.old.rebuilds.items) line.now) }
         ensures err { OnErr result (IsPrefix out.old.items out.new.items) }
         ensures memory { IfErr result (λ e. e ≡ NoMemory) }
-        ensures history { LineKeepsHistory self.old.desk self.new.desk result
+        ensures turned { TurnedByLine (keeps self.old) (keeps self.new) result
             (result_ok (request_in line.now)) }
     {
         match request_in(self.alloc, &mut self.scratch, line) {
