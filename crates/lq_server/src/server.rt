@@ -86,8 +86,8 @@ impl<N: Named> Server<N> {
         Server { state, board }
     }
 
-    /// A counted server over a base, and its leading seat. Another seat may make changes just while
-    /// the leading seat has it enlisted.
+    /// A counted server over a base, and its leading seat, one of the 16. Another seat may make
+    /// changes just while the leading seat has it enlisted.
     ///
     /// So all changes are answers to the calls by enlisted seats (`calls_make_the_book`), once the
     /// leading seat has dismissed them and is the one that `retire` takes: it has then gathered the

@@ -113,14 +113,14 @@ impl Base {
             volume,
             alloc,
         } = self;
-        (board, ServerState::new(alloc, slots, volume))
+        (board, ServerState::new(alloc, slots, volume, 0))
     }
 
-    /// As `into_parts`, with the leading seat of the board, which is then counted.
+    /// As `into_parts`, with the leading seat of the board, which is then counted. It is out.
     pub fn into_counted<N: Named>(self) -> (Board<Identity>, ServerState<N>, Seat)
         requires { (N.board ≡ counted_board self.board) × (self.volume ≡ N.start) }
         ensures board { result.0 ≡ N.board }
-        ensures seats { result.1.seats ≡ 0 }
+        ensures seats { result.1.seats ≡ 1 }
         ensures openings { result.1.slots.openings ≡ 0 }
         ensures head { result.2 ≡ leading_seat N.board N.start }
         ensures book { result.2.book ≡ result.1.slots.keeper.book }
@@ -132,6 +132,6 @@ impl Base {
             alloc,
         } = self;
         let head = board.lead(&mut slots.keeper);
-        (board, ServerState::new(alloc, slots, volume), head)
+        (board, ServerState::new(alloc, slots, volume, 1), head)
     }
 }

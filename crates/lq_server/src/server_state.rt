@@ -80,8 +80,13 @@ impl<N: Named> Model for ServerState<N> {
 }
 
 impl<N: Named> ServerState<N> {
-    /// The state under the lock of a new server: no seat is out, and no slot is taken.
-    pub(crate) fn new(alloc: Global, slots: ServerSlots, volume: Volume) -> ServerState<N>
+    /// The state under the lock of a new server: this many seats are out, and no slot is taken.
+    pub(crate) fn new(
+        alloc: Global,
+        slots: ServerSlots,
+        volume: Volume,
+        seats: u64,
+    ) -> ServerState<N>
         requires board { slots.keeper.board ≡ N.board }
         requires volume { volume ≡ state_of slots.keeper.book }
         requires full { IsFullBook slots.keeper.book }
@@ -90,12 +95,12 @@ impl<N: Named> ServerState<N> {
         requires counted { slots.keeper.register.openings ≡ 0 }
         requires holding { AreConsistent slots slots.keeper.book }
         ensures slots { result.slots ≡ slots }
-        ensures seats { result.seats ≡ 0 }
+        ensures seats { result.seats ≡ seats }
     {
         ServerState {
             slots,
             volume,
-            seats: 0,
+            seats,
             alloc,
             of: PhantomData,
         }

@@ -31,12 +31,12 @@ pub struct Callers {
 }
 
 impl<N: Named> Server<N> {
-    /// As `counted`, with a seat besides (one of the 16, as the code says), and with the reader of
-    /// a live query that this seat opens first of all.
+    /// As `counted`, with a seat besides (both are of the 16, as the code says), and with the reader
+    /// of a live query that this seat opens first of all.
     ///
-    /// The numbers are as in `open`. No other caller has the server yet, so no seat and no slot is
-    /// taken. Refused, the first that fits: `BadPort`, `BadBacklog`, `Exhausted` where the volume
-    /// takes no changes, `NoMemory`.
+    /// The numbers are as in `open`. No other caller has the server yet, so no other seat and no
+    /// slot is taken. Refused, the first that fits: `BadPort`, `BadBacklog`, `Exhausted` where the
+    /// volume takes no changes, `NoMemory`.
     pub fn counted_with_reader(
         base: Base,
         predicate: &Predicate,
@@ -56,7 +56,7 @@ impl<N: Named> Server<N> {
         ensures refused { IsRefusedBy result (first_opening_refusal N.start port backlog) }
     {
         let (board, mut locked, head) = base.into_counted();
-        // No seat is out, so none is refused.
+        // The leading seat alone is out, so this one isn't refused.
         let Ok(mut seat) = locked.seat(&board) else {
             unreachable!()
         };

@@ -163,6 +163,34 @@ fn a_counted_server_counts_a_readers_seat(rt: HostRuntime) -> Result<(), Fail> {
     Ok(())
 }
 
+/// Takes this many seats and drops them, so that they stay out. Refused: `NoSeat`.
+fn take_seats<N: Named, R: Wait>(rt: &R, server: &Server<N>, number: u64) -> Result<(), Refusal> {
+    for _ in 0..number {
+        server.seat(rt)?;
+    }
+    Ok(())
+}
+
+/// Whether 15 seats can be out beside the leading seat, and one more in place of that.
+fn seats_beside_a_leading_one<N: Named, R: Wait>(rt: &R, base: Base) -> Result<bool, Refusal>
+    requires { (N.board ≡ counted_board base.board) × (base.volume ≡ N.start) }
+{
+    let (server, head): (Server<N>, Seat) = Server::counted(base);
+    take_seats(rt, &server, 15)?;
+    let refused = server.seat(rt).err();
+    server.give_back(rt, head);
+    take_seats(rt, &server, 1)?;
+    let again = server.seat(rt).err();
+    Ok(refused == Some(Refusal::NoSeat) && again == Some(Refusal::NoSeat))
+}
+
+#[test]
+fn a_leading_seat_is_one_of_the_16(rt: HostRuntime) -> Result<(), Fail> {
+    let base = base(rt.alloc())?;
+    assert!(rt; seats_beside_a_leading_one::<Brand, _>(&rt, base)?);
+    Ok(())
+}
+
 #[test]
 fn a_readers_seat_serves_each_call(rt: HostRuntime) -> Result<(), Fail> {
     let base = base(rt.alloc())?;
