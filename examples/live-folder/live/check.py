@@ -1,7 +1,7 @@
 """Compares the entries of lq with the disk, and a window with the entries of lq."""
-from .disk import look_below
-from .mirror import ROOT
-from .names import printable, to_text
+from yazgoulm.folder._disk import look_below
+from yazgoulm.folder._mirror import ROOT
+from yazgoulm.folder._text import printable, to_text
 
 
 def is_same(mirror, window, say):

@@ -1,20 +1,11 @@
 """Talks to lq, in a process or in this one. A window has a live query."""
 import io, json, subprocess, sys
 
-from . import ENDED, UNUSABLE, Trouble
+from . import ENDED, UNUSABLE, Refused, Trouble
 
 PORT = 4  # places in a window's port
 PATIENCE = 1000  # changes after which the windows are read
 BACKLOG = 3 * PATIENCE  # a change sends a window at most three messages
-
-
-class Refused(Trouble):
-    """lq can't read a formula, or has no free slot for a window. `reply` has the code."""
-
-    def __init__(self, formula, reply):
-        place = f" at byte {reply['place']}" if "place" in reply else ""
-        super().__init__(f"{formula}: {reply['error']}{place}", UNUSABLE)
-        self.reply = reply
 
 
 class Process:

@@ -4,7 +4,8 @@ import os, sys
 from case import HERE, Case
 
 sys.path.insert(0, HERE)
-from live.inotify import MOVED_FROM, MOVED_TO, Inotify
+import live  # which finds the package
+from yazgoulm.folder._inotify import MOVED_FROM, MOVED_TO, Inotify
 
 
 class Halves(Case):

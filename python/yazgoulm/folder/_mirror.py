@@ -1,10 +1,10 @@
 """Keeps the entries of lq the same as a folder on disk."""
 import collections, os
 
-from . import ENDED, UNUSABLE, Trouble
-from .disk import identity, look, names_in
-from .inotify import IGNORED, OVERFLOW, Inotify
-from .names import printable, to_text
+from ._trouble import ENDED, UNUSABLE, Trouble
+from ._disk import identity, look, names_in
+from ._inotify import IGNORED, OVERFLOW, Inotify
+from ._text import printable, to_text
 
 ROOT = 1  # the folder's node
 

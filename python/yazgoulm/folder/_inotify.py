@@ -1,8 +1,8 @@
 """The system's inotify by ctypes: a watch for each folder, and the names that changed in it."""
 import ctypes, errno, os, struct, time
 
-from . import ENDED, UNUSABLE, Trouble
-from .disk import within_reach
+from ._trouble import ENDED, UNUSABLE, Trouble
+from ._disk import within_reach
 
 MODIFY, ATTRIB, CLOSE_WRITE = 0x2, 0x4, 0x8
 MOVED_FROM, MOVED_TO, CREATE, DELETE = 0x40, 0x80, 0x100, 0x200

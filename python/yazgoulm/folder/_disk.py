@@ -1,7 +1,7 @@
 """What is on disk, also at paths that are longer than the system accepts."""
 import collections, contextlib, os, re, stat
 
-from .names import to_text
+from ._text import to_text
 
 PATH_MAX = 4096  # with the NUL that ends a path
 VALUE_MAX = 1024  # bytes of an extended attribute

@@ -6,9 +6,8 @@ formula to /open, and the number of a window to /close.
 """
 import collections, contextlib, http.server, itertools, json, os, queue, re, sys, threading
 
-from . import UNUSABLE, Trouble
-from .names import printable, to_text
-from .server import Refused
+from ._trouble import UNUSABLE, Refused, Trouble
+from ._text import printable, to_text
 
 ADDRESS = "127.0.0.1"
 ROWS = 1000  # rows of a window on a page; the page counts the others
