@@ -75,8 +75,10 @@ install-c:
 	sed 's|@PREFIX@|$(PREFIX)|; s|@LIBDIR@|$(LIBDIR)|; s|@VERSION@|$(VERSION)|' tools/lq.pc \
 		> $(DESTDIR)$(LIBDIR)/pkgconfig/lq.pc
 install-python: library
-	install -d $(DESTDIR)$(PYTHON_DIR)/yazgoulm
+	install -d $(DESTDIR)$(PYTHON_DIR)/yazgoulm/folder/page
 	install -m 644 $(wildcard python/yazgoulm/*.py) python/yazgoulm/py.typed $(DESTDIR)$(PYTHON_DIR)/yazgoulm
+	install -m 644 $(wildcard python/yazgoulm/folder/*.py) $(DESTDIR)$(PYTHON_DIR)/yazgoulm/folder
+	install -m 644 $(wildcard python/yazgoulm/folder/page/*) $(DESTDIR)$(PYTHON_DIR)/yazgoulm/folder/page
 	for each in python/yazgoulm/_native*.so; do \
 		[ ! -f "$$each" ] || install -m 755 "$$each" $(DESTDIR)$(PYTHON_DIR)/yazgoulm || exit 1; \
 	done

@@ -35,11 +35,17 @@ def said_by(*words):
     return subprocess.run([f"{TOP}/tools/{words[0]}", *words[1:]], stdout=subprocess.PIPE, text=True, check=True).stdout.strip()
 
 
-def facts():
-    """The project's fields in pyproject.toml that are texts."""
+def facts(part):
+    """The fields of a part of pyproject.toml that are texts."""
     with open(f"{TOP}/pyproject.toml", encoding="utf-8") as file:
-        lines = file.read().partition("[project]\n")[2].splitlines()
+        lines = file.read().partition(f"[{part}]\n")[2].partition("\n[")[0].splitlines()
     return {name: value.strip('"') for name, _, value in (line.partition(" = ") for line in lines) if value[:1] == '"'}
+
+
+def package_files():
+    """The paths of the package's files but for what is built, below PACKAGE."""
+    found = glob.glob(f"{PACKAGE}/**/*.py", recursive=True) + glob.glob(f"{PACKAGE}/folder/page/*")
+    return sorted(os.path.relpath(path, PACKAGE) for path in [*found, f"{PACKAGE}/py.typed"])
 
 
 def build_wheel(wheel_directory, config_settings=None, metadata_directory=None):
@@ -50,10 +56,12 @@ def build_wheel(wheel_directory, config_settings=None, metadata_directory=None):
         print(f"python_package: {missing}, so the wheel calls the library by ctypes", file=sys.stderr)
     python = "py3-none" if missing else "cp{0}{1}-cp{0}{1}".format(*sys.version_info)
     tag = f"{python}-{sysconfig.get_platform().replace('-', '_').replace('.', '_')}"
-    it, files = facts(), {}
-    for path in sorted([*glob.glob(f"{PACKAGE}/*.py"), f"{PACKAGE}/py.typed", library, *([] if missing else [NATIVE])]):
+    it, files = facts("project"), {}
+    paths = {f"yazgoulm/{name}": f"{PACKAGE}/{name}" for name in package_files()}
+    paths.update({f"yazgoulm/{os.path.basename(path)}": path for path in [library, *([] if missing else [NATIVE])]})
+    for name, path in sorted(paths.items()):
         with open(path, "rb") as file:
-            files[f"yazgoulm/{os.path.basename(path)}"] = file.read()
+            files[name] = file.read()
     info = f"yazgoulm-{it['version']}.dist-info"
     if os.path.exists(f"{TOP}/release/NOTICE"):
         with open(f"{TOP}/release/NOTICE", "rb") as file:
@@ -62,6 +70,8 @@ def build_wheel(wheel_directory, config_settings=None, metadata_directory=None):
         f"Metadata-Version: 2.1\nName: {it['name']}\nVersion: {it['version']}\nSummary: {it['description']}\n"
         f"Requires-Python: {it['requires-python']}\n"
     ).encode()
+    commands = "".join(f"{name} = {to}\n" for name, to in facts("project.scripts").items())
+    files[f"{info}/entry_points.txt"] = f"[console_scripts]\n{commands}".encode()
     files[f"{info}/WHEEL"] = f"Wheel-Version: 1.0\nGenerator: yazgoulm\nRoot-Is-Purelib: false\nTag: {tag}\n".encode()
     record = ""
     for name, bytes_of in files.items():

@@ -1,12 +1,21 @@
-"""Live queries on a real folder: what of it is not in the package yazgoulm.folder.
+"""Live queries on a real folder: what the package yazgoulm.folder hasn't got.
 
-    server    talks to `lq run`: changes, and windows with a live query each
+    server    has `lq run` as a process in place of the package's library
     stream    sends changes to a relay, in place of lq
     check     compares lq with the disk
-    terminal  shows one window as lines of text
+    terminal  shows one window as lines of text: its messages, and nothing else
 """
 import os, sys
 
 sys.path.append(os.path.join(os.path.dirname(os.path.realpath(__file__)), "../../../python"))
 
-from yazgoulm.folder._trouble import DIFFERS, ENDED, SAME, UNREAD, UNUSABLE, Refused, Trouble
+from yazgoulm.folder import _terminal
+from yazgoulm.folder._terminal import ENDED, UNUSABLE, Trouble, Unread, carried_out, is_read, say
+
+SAME = 0  # --check found no difference
+DIFFERS = 1  # --check found one, or its command failed
+
+
+def tell(line):
+    """Writes what was found, and doesn't end the command, to standard error."""
+    _terminal.tell("live_folder", line)

@@ -1,18 +1,20 @@
 """Compares the entries of lq with the disk, and a window with the entries of lq."""
 from yazgoulm.folder._disk import look_below
 from yazgoulm.folder._mirror import ROOT
-from yazgoulm.folder._text import printable, to_text
+from yazgoulm import Query, to_name
+from yazgoulm.folder._text import printable
 
 
 def is_same(mirror, window, say):
     """Compares each entry, by `entry` alone, and the window, with `fetch` and `result`."""
     server = mirror.server
     held = entries_of(server)
-    disk = {to_text(path): seen and seen[2:] for path, seen in look_below(mirror.root.name).items()}
+    below = look_below(mirror.root.name)
+    disk = {to_name(path): seen and (seen.size, seen.time, seen.attrs) for path, seen in below.items()}
     wrong = [path for path in sorted({*held, *disk}) if held.get(path) != disk.get(path)]
 
     fetched = server.ask("fetch", query=window.formula)["result"]
-    result = server.ask("result", slot=window.slot)["result"]
+    result = result_of(server, window)
     rows = {row["node"]: (row["dir"], row["name"]) for row in fetched}
     is_same_window = fetched == result and window.rows == rows
 
@@ -22,6 +24,13 @@ def is_same(mirror, window, say):
     for path in wrong[:9]:
         say(printable(f"{path}: lq has {held.get(path)}, on disk {disk.get(path)}"))
     return is_same_window and not wrong
+
+
+def result_of(server, window):
+    """The result of a window by its messages: of a query of the package, or of a slot of `lq run`."""
+    if isinstance(window.messages, Query):
+        return [place._asdict() for place in window.messages.result().entries]
+    return server.ask("result", slot=window.slot)["result"]
 
 
 def entries_of(server):

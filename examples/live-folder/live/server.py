@@ -1,15 +1,16 @@
-"""Talks to lq, in a process or in this one. A window has a live query."""
-import io, json, subprocess, sys
+"""`lq run` as a process, in place of the package's library: a line, then its reply."""
+import io, json, subprocess
 
-from . import ENDED, UNUSABLE, Refused, Trouble
+from yazgoulm import BadQuery, Message, Opcode, Refused
+from yazgoulm.folder._server import BACKLOG, PATIENCE, Server, Window
+
+from . import ENDED, UNUSABLE, Trouble
 
 PORT = 4  # places in a window's port
-PATIENCE = 1000  # changes after which the windows are read
-BACKLOG = 3 * PATIENCE  # a change sends a window at most three messages
 
 
 class Process:
-    """One `lq run` over pipes: a line, then its reply. `pipe` reports when it has ended."""
+    """One `lq run` over pipes. `pipe` reports when it has ended."""
 
     def __init__(self, program):
         try:
@@ -36,74 +37,42 @@ class Process:
         return Trouble(f"{self.name} ended {how}, so nothing is followed any more", ENDED)
 
 
-class Library:
-    """lq in this process, by the Python module. There is no pipe, and nothing that could end."""
+class Lines(Server):
+    """The package's server, but with a process that answers lines."""
 
-    pipe = None
+    def __init__(self, lq, tell, patience=PATIENCE):
+        self.lq, self.pipe = lq, lq.pipe
+        super().__init__(tell, patience)
 
-    def __init__(self):
-        try:
-            import yazgoulm
-        except ImportError as error:
-            raise Trouble(f"the library can't be loaded: {error}", UNUSABLE) from None
-        self.name, self.volume = yazgoulm.__name__, yazgoulm.Volume()
-
-    def answer(self, line):
-        return self.volume.answer(line)
-
-
-class Server:
-    """lq, and its windows. It reads them after `patience` changes at the latest."""
-
-    def __init__(self, lq, patience=PATIENCE):
-        self.lq = lq
-        self.windows, self.refused, self.unread, self.patience = [], 0, 0, patience
+    def begin(self):
         if self.ask("fetch", query="name==*") != {"at": 0, "result": []}:
-            raise Trouble(f"{lq.name} isn't lq: it doesn't answer as lq does", UNUSABLE)
+            raise Trouble(f"{self.lq.name} isn't lq: it doesn't answer as lq does", UNUSABLE)
 
-    def exchange(self, do, **fields):
-        """Sends a line. Returns the reply, and its line as it came."""
+    def ask(self, do, **fields):
         line = self.lq.answer(json.dumps({"do": do, **fields}).encode())
         try:
-            return json.loads(line), line.decode().rstrip("\n")
+            return json.loads(line)
         except ValueError:
             raise Trouble(f"{self.lq.name} answered with a line that isn't JSON", ENDED) from None
 
-    def ask(self, do, **fields):
-        return self.exchange(do, **fields)[0]
+    def asked(self, do, fields):
+        """A reply that is no refusal; else the refusal is raised as the package raises it."""
+        reply = self.ask(do, **fields)
+        if "place" in reply:
+            raise BadQuery(reply["code"], reply["error"], do, tuple(fields.values()), reply["place"])
+        if "error" in reply:
+            raise Refused(reply["code"], reply["error"], do, tuple(fields.values()))
+        return reply
 
     def test(self, formula):
-        """Raises Refused where lq can't read a formula."""
-        reply = self.ask("fetch", query=formula)
-        if "error" in reply:
-            raise Refused(formula, reply)
+        self.asked("fetch", {"query": formula})
 
-    def change(self, do, **fields):
-        """Makes a change. Returns its node, or None where lq refuses it."""
-        reply = self.ask(do, **fields)
-        if "error" in reply:
-            self.refused += 1
-            line = f"live_folder: lq refused {do} {json.dumps(fields)}: {reply['error']}"
-            print(line, file=sys.stderr)
-        self.unread += 1
-        if self.unread >= self.patience:
-            self.read()
-        return reply.get("node")
+    def act(self, do, fields):
+        return self.asked(do, fields)["node"]
 
-    def read(self):
-        """Reads the windows' messages, if there was a change since the last time."""
-        if self.unread:
-            self.unread = 0
-            for window in self.windows:
-                window.read()
-
-    def open(self, formula, heard):
-        """Opens a window. It calls `heard` with itself, a message, and the message's line."""
-        reply = self.ask("open", query=formula, port=PORT, backlog=BACKLOG, moved=True)
-        if "error" in reply:
-            raise Refused(formula, reply)
-        self.windows.append(Window(self, formula, reply, heard))
-        return self.windows[-1]
+    def new_window(self, formula):
+        reply = self.asked("open", {"query": formula, "port": PORT, "backlog": BACKLOG, "moved": True})
+        return LinesWindow(self, formula, reply["slot"], reply["result"])
 
     def close(self, window):
         """Closes a window, reads up to its mark, and gives its slot back."""
@@ -114,28 +83,25 @@ class Server:
         self.ask("finish", slot=window.slot)
 
 
-class Window:
-    """A live query. `rows` is its result: the folder's node and the name for each node."""
+class LinesWindow(Window):
+    """A window whose messages are read by lines."""
 
-    def __init__(self, server, formula, opening, heard):
-        self.server, self.formula, self.slot, self.heard = server, formula, opening["slot"], heard
-        self.rows = {row["node"]: (row["dir"], row["name"]) for row in opening["result"]}
-        self.told = 0  # messages so far
+    def __init__(self, server, formula, slot, result):
+        super().__init__(formula, [], [])
+        self.server, self.slot = server, slot
+        self.rows = {row["node"]: (row["dir"], row["name"]) for row in result}
 
     def read(self):
-        """Takes all messages that are there."""
-        while True:
-            message, line = self.server.exchange("read", slot=self.slot)
-            if message["what"] == "EMPTY":
-                return
-            if message["what"] != "B_QUERY_UPDATE":
-                raise Trouble(f"a window of {self.formula} has ended: {line}", ENDED)
-            self.fold(message)
-            self.heard(self, message, line)
+        self.messages = self.new_messages()
+        super().read()
 
-    def fold(self, message):
-        self.told = message["seq"]
-        if message["op"] == "B_ENTRY_REMOVED":
-            del self.rows[message["node"]]
-        else:
-            self.rows[message["node"]] = message["dir"], message["name"]
+    def new_messages(self):
+        while True:
+            reply = self.server.ask("read", slot=self.slot)
+            what = reply.pop("what")
+            if what == "EMPTY":
+                return
+            if what != "B_QUERY_UPDATE":
+                raise Trouble(f"a window of {self.formula} has ended: {reply}", ENDED)
+            moved = {"from_dir": None, "from_name": None}
+            yield Message(**{**moved, **reply, "op": Opcode[reply["op"]]})

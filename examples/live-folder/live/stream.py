@@ -23,8 +23,8 @@ class Stream:
 
     pipe = None
 
-    def __init__(self, url, name):
-        self.lq = self
+    def __init__(self, url, name, tell):
+        self.tell = tell
         with as_ours():
             need_redis()
             log = Log(url, name)
@@ -41,6 +41,5 @@ class Stream:
         with as_ours():
             reply = self.producer.change(do=do, **fields)
         if "error" in reply:
-            line = f"live_folder: the relay refused {do} {json.dumps(fields)}: {reply['error']}"
-            print(line, file=sys.stderr)
+            self.tell(f"the relay refused {do} {json.dumps(fields)}: {reply['error']}")
         return reply.get("node")

@@ -50,8 +50,8 @@ class Words(Case):
     def test_a_formula_that_is_refused(self):
         self.write_raw(LONG)  # a second line, if the listing came first
         status, out, error = self.check("true", formula="name==*&&size>")
-        self.assert_said(status, error, 2, "name==*&&size>: BadQuery at byte 14")
-        self.assertEqual(out, "")
+        said = "live_folder: the formula can't be read: BadQuery at byte 14\n    name==*&&size>\n                  ^\n"
+        self.assertEqual((status, out, error), (2, "", said))
 
     @of_a_process
     def test_a_program_that_is_not_lq(self):

@@ -1,8 +1,14 @@
-"""What live_folder has of a folder on disk, in order from the disk to the user.
+"""The files of a folder on disk that match a formula, and what happens to them.
 
-    _text     names as text: for lq, and for people
-    _disk     what is at a path
-    _inotify  which names changed
-    _mirror   keeps the entries of lq the same as the folder on disk
-    _web      shows many windows as a page: page.html, page.css, page.js
-"""
+    async for change in watch("docs", "name==*.txt && size>100"):
+        print(change.what, change.path)
+
+A plain `for` waits in the same way. The folder is mirrored in a volume, and a live query on it selects what matches. So
+a file that is renamed, grows, or gets another attribute comes into the result, or leaves it. On Linux the system's
+inotify says what changed; elsewhere everything is looked at every second. Links below the folder aren't followed, and
+nothing is written."""
+from ._followed import Change
+from ._mirror import FolderGone
+from ._watch import Watch, watch
+
+__all__ = ["watch", "Change", "Watch", "FolderGone"]

@@ -6,8 +6,8 @@ formula to /open, and the number of a window to /close.
 """
 import collections, contextlib, http.server, itertools, json, os, queue, re, sys, threading
 
-from ._trouble import UNUSABLE, Refused, Trouble
-from ._text import printable, to_text
+from .. import BadQuery, Error, Refused
+from ._server import line_of
 
 ADDRESS = "127.0.0.1"
 ROWS = 1000  # rows of a window on a page; the page counts the others
@@ -42,12 +42,14 @@ class Pane:
     def __init__(self, mirror, formula, numbers):
         self.mirror = mirror
         self.fresh, self.latest = collections.deque((), MESSAGES), collections.deque((), MESSAGES)
-        self.window = mirror.server.open(formula, self.hear)
+        self.window = mirror.server.open(formula)
+        self.window.heard = self.hear
         self.number = next(numbers)
         self.paths = {}
         self.paths = self.new_paths()
 
-    def hear(self, _, __, line):
+    def hear(self, _, message):
+        line = line_of(message)
         self.fresh.append(line)
         self.latest.append(line)
 
@@ -94,7 +96,7 @@ class Site:
     def __exit__(self, kind, error, trace):
         """Tells the pages why this ends, and gives them a second to receive it."""
         with self.lock:
-            self.tell("end", error=str(error))
+            self.tell("end", error=getattr(error, "strerror", None) or str(error))
             for events in self.pages:
                 events.put(None)
             threads = [*self.pages.values()]
@@ -145,8 +147,7 @@ class Site:
                 events = None
             else:
                 windows = [pane.whole() for pane in self.panes.values()]
-                folder = printable(to_text(self.mirror.given or b"/"))
-                events.put(as_event("hello", {"folder": folder, "windows": windows}))
+                events.put(as_event("hello", {"folder": self.mirror.shown_root(), "windows": windows}))
                 self.pages[events] = threading.current_thread()
         try:
             yield events
@@ -162,7 +163,7 @@ class Http(http.server.ThreadingHTTPServer):
         try:
             super().__init__((ADDRESS, port), Request)
         except OSError as error:
-            raise Trouble(f"port {port}: {error.strerror}", UNUSABLE) from None
+            raise OSError(error.errno, error.strerror, f"port {port}") from None
 
     def handle_error(self, request, client_address):
         """Passes over a browser that goes away during a reply."""
@@ -171,7 +172,7 @@ class Http(http.server.ThreadingHTTPServer):
 
 
 class Request(http.server.BaseHTTPRequestHandler):
-    timeout, server_version, sys_version = SECONDS, "live_folder", ""
+    timeout, server_version, sys_version = SECONDS, "yazgoulm-folder", ""
 
     def parse_request(self):
         if not super().parse_request():
@@ -216,9 +217,10 @@ class Request(http.server.BaseHTTPRequestHandler):
         try:
             reply = act(value)
         except Refused as refused:
-            return self.answer(400, refused.reply)
-        except Trouble as trouble:
-            return self.answer(503, {"error": str(trouble)})
+            place = {"place": refused.place} if isinstance(refused, BadQuery) else {}
+            return self.answer(400, {"code": refused.code, "error": refused.name, **place})
+        except (Error, ValueError) as error:
+            return self.answer(503 if isinstance(error, Error) else 400, {"error": str(error)})
         self.answer(200 if reply else 404, reply or {"error": "no such window"})
 
     def body(self):

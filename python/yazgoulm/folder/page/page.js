@@ -1,5 +1,5 @@
 "use strict";
-// The page of live_folder. It sets names and formulas as text, never as HTML.
+// The page of a folder. It sets names and formulas as text, never as HTML.
 
 const MESSAGES = 50;
 const GOING = 700; // milliseconds that a row takes to go
@@ -77,7 +77,7 @@ async function post(path, body) {
     const response = await fetch(path, { method: "POST", headers, body: JSON.stringify(body) });
     return await response.json();
   } catch {
-    return { error: "live_folder doesn't answer" };
+    return { error: "the command doesn't answer" };
   }
 }
 
@@ -130,6 +130,6 @@ on("end", ({ error }) => {
 source.onerror = () => {
   document.body.className = "ended";
   if (source.readyState === EventSource.CLOSED) { // else the browser tries again by itself
-    byId("fault").textContent = "live_folder sends this page no events";
+    byId("fault").textContent = "the command sends this page no events";
   }
 };

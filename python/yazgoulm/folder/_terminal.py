@@ -1,0 +1,96 @@
+"""What the commands share: how they write, and how they end."""
+import errno, os, re, select, signal, sys
+from typing import Any, Callable, Optional
+
+from .. import BadQuery, Error, Refused
+from ._mirror import FolderGone
+from ._text import printable
+
+UNUSABLE = 2  # the command can't begin with its arguments
+ENDED = 3  # the folder, or another thing that it needs, has gone
+UNREAD = 141  # nobody reads standard output, as after SIGPIPE
+
+
+class Unread(Exception):
+    """Nobody reads standard output any more, as after `| head -1`."""
+
+
+class Trouble(Error):
+    """Why a command can't go on, in one line, and its exit status."""
+
+    def __init__(self, line: str, status: int) -> None:
+        super().__init__(printable(line))
+        self.status = status
+
+
+def write(text: bytes) -> None:
+    """Writes to standard output at once."""
+    if sys.stdout is None:
+        return
+    try:
+        sys.stdout.buffer.write(text)
+        sys.stdout.buffer.flush()
+    except BrokenPipeError:
+        raise Unread() from None
+    except OSError as error:
+        raise Trouble(f"standard output: {error.strerror}", ENDED) from None
+
+
+def say(line: str) -> None:
+    """Writes a line to standard output at once, in the characters that it has."""
+    encoding = sys.stdout.encoding if sys.stdout else "utf-8"
+    write(f"{line}\n".encode(encoding, "backslashreplace"))
+
+
+def tell(name: str, line: str) -> None:
+    """Writes what a command found, and doesn't end it, to standard error."""
+    if sys.stderr:
+        print(f"{name}: {printable(line)}", file=sys.stderr, flush=True)
+
+
+def is_read() -> bool:
+    """Whether standard output has a reader, or is no pipe."""
+    if sys.stdout is None:
+        return True
+    waiting = select.poll()
+    waiting.register(sys.stdout, 0)  # reports only that the other end has gone
+    return not waiting.poll(0)
+
+
+def fault(formula: str, refused: BadQuery) -> str:
+    """Why a formula can't be read, with a mark below its fault."""
+    before = formula.encode("utf-8", "surrogatepass")[: refused.place].decode("utf-8", "ignore")
+    hint = ""
+    if not re.search("[=<>]", formula):
+        hint = "\nput the formula in quotes, as 'size>1000'; names are asked for by 'name==*.txt'"
+    mark = " " * len(printable(before)) + "^"
+    return f"the formula can't be read: BadQuery at byte {refused.place}\n    {printable(formula)}\n    {mark}{hint}"
+
+
+def carried_out(name: str, main: Callable[[], Optional[int]]) -> int:
+    """The status of a command. What ends it is said on standard error, and Ctrl-C ends it quietly."""
+    signal.signal(signal.SIGINT, signal.SIG_DFL)
+    try:
+        return main() or 0
+    except Unread:
+        os.dup2(os.open(os.devnull, os.O_WRONLY), sys.stdout.fileno())  # for what Python has still to write
+        return UNREAD
+    except (Error, OSError, ValueError) as error:
+        line, status = reason(error)
+        if sys.stderr:
+            print(f"{name}: {line}", file=sys.stderr)
+        return status
+
+
+def reason(error: Any) -> Any:
+    """A line that says why a command can't go on, and its status."""
+    if isinstance(error, BadQuery) and error.arguments and isinstance(error.arguments[0], str):
+        return fault(error.arguments[0], error), UNUSABLE
+    if isinstance(error, Trouble):
+        return str(error), error.status
+    if isinstance(error, FolderGone):
+        return error.strerror, ENDED
+    if isinstance(error, OSError) and not isinstance(error, Refused):
+        where = f"{printable(str(error.filename))}: " if error.filename is not None else ""
+        return f"{where}{error.strerror}", ENDED if error.errno == errno.ENOSPC else UNUSABLE
+    return printable(str(error)), UNUSABLE
