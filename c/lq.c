@@ -7,7 +7,8 @@
 /* The most bytes of a line; a longer one is refused unread. */
 enum { LINE_SIZE = 65536 };
 
-/* What is passed in place of a text that is longer than its limit: the proved call tests the length first. */
+/* What is passed in place of a text that is longer than its limit: the proved call tests the length first. Of a path it
+   tests the first name, which this is: one of more bytes than a name can have. */
 static const char too_long[LINE_SIZE + 1];
 
 /* ---- tests of arguments ---- */
@@ -100,7 +101,6 @@ lq_status lq_volume_open_as(lq *handle, uint32_t version)
     if (status != LQ_OK) return status;
     handle->at = made;
     handle->tag = tag_of(handle);
-    handle->result = 0;
     handle->version = version;
     handle->pushes = 0;
     return LQ_OK;
@@ -112,6 +112,7 @@ void lq_volume_close(lq *handle)
     served held = handle->at;
     handle->at = NULL;
     handle->tag = 0;
+    handle->result++; /* a number that no result has, so that the last one of this volume is out of date too */
     lqp_free(held);
 }
 
@@ -299,7 +300,7 @@ lq_status lq_find(const lq *handle, uint64_t dir, const char *name, size_t name_
 
 lq_status lq_find_path(const lq *handle, uint64_t dir, const char *path, size_t path_size, uint64_t *node)
 {
-    if (!is_open(handle) || !node || !is_text(&path, &path_size, SIZE_MAX)) return LQ_MISUSE;
+    if (!is_open(handle) || !node || !is_text(&path, &path_size, LQ_PATH_SIZE)) return LQ_MISUSE;
     return lqp_find_path(in(handle), dir, path, path_size, node);
 }
 

@@ -13,8 +13,8 @@
  * Texts. A text that is given is a pointer and its size in bytes; it is UTF-8, and needs no NUL.
  * Null with size 0 is the empty text. A text that a call writes has its size beside it and a NUL
  * after it, which doesn't count; a value may have NULs inside. Sizes are tested before a text is
- * read: a name above LQ_NAME_SIZE, a value above LQ_TEXT_SIZE and a formula above LQ_FORMULA_SIZE
- * are refused by their sizes alone, as if they were UTF-8.
+ * read: a name above LQ_NAME_SIZE, a value above LQ_TEXT_SIZE, a formula above LQ_FORMULA_SIZE and
+ * a path above LQ_PATH_SIZE are refused by their sizes alone, as if they were UTF-8.
  *
  * Statuses. A call that can be refused answers a status: LQ_OK, or why it was refused. A refused
  * call leaves its `out` as it was, and doesn't do its act. Two things may happen all the same, as
@@ -64,8 +64,8 @@ uint32_t lq_version(void);
 /* The node of the root, and the number of slots. */
 enum { LQ_ROOT = 1, LQ_SLOTS = 64 };
 
-/* Limits in bytes: a name or the name of an attribute, the text of a value, and a formula. */
-enum { LQ_NAME_SIZE = 255, LQ_TEXT_SIZE = 4096, LQ_FORMULA_SIZE = 4096 };
+/* Limits in bytes: a name or the name of an attribute, the text of a value, a formula, a path. */
+enum { LQ_NAME_SIZE = 255, LQ_TEXT_SIZE = 4096, LQ_FORMULA_SIZE = 4096, LQ_PATH_SIZE = 65536 };
 
 /* The largest backlog of a query, and the one that it has where none is given. */
 enum { LQ_BACKLOG = 65536 };
@@ -120,7 +120,7 @@ typedef struct lq {
     uint32_t pushes;
 } lq;
 
-/* A handle that isn't open. */
+/* A handle that isn't open, and was never: it counts its results from 1. */
 #define LQ_INIT { 0, 0, 0, 0, 0 }
 
 /* Opens a handle over a volume with the root alone. `version` is LQ_VERSION, that of the header
@@ -228,8 +228,10 @@ typedef struct lq_row {
 /* Takes the next entries of a result, `room` at most, and writes how many there were: fewer than
  * `room`, once none is left. A handle has one result at a time, whose number the call that made it
  * has written as `result` (lq_open, lq_open_pushed, lq_fetch, lq_fetch_pushed, lq_result,
- * lq_children); it doesn't change with the volume. LQ_MISUSE: another result was made since. To use
- * two at once, take all of the first, whose `count` is known, before the second is made. */
+ * lq_children); it doesn't change with the volume. LQ_MISUSE: another result was made since, or the
+ * handle was closed. A handle that is opened again counts on, so no number is given twice, unless
+ * it was set to LQ_INIT in between. To use two results at once, take all of the first, whose
+ * `count` is known, before the second is made. */
 lq_status lq_take(lq *handle, uint64_t result, lq_row *out, size_t room, size_t *got);
 
 /* Takes the next entry alone. LQ_NO_ENTRY: none is left. LQ_MISUSE: as lq_take. */
@@ -367,9 +369,9 @@ lq_status lq_find(const lq *handle, uint64_t dir, const char *name, size_t name_
                   uint64_t *node);
 
 /* The node at the end of a path from a folder: names with one `/` or more between them, before them
- * or after them; a path without a name is the folder itself. A path has no largest size. It is
- * refused as lq_find refuses the first of its names that doesn't lead on; for a path without a name
- * it isn't refused. */
+ * or after them; a path without a name is the folder itself, and isn't refused. LQ_BAD_NAME: it is
+ * above LQ_PATH_SIZE. Else it is refused as lq_find refuses the first of its names that doesn't
+ * lead on. */
 lq_status lq_find_path(const lq *handle, uint64_t dir, const char *path, size_t path_size,
                        uint64_t *node);
 

@@ -216,6 +216,7 @@ static void sizes(void) {
         CHECK(lq_fault_place(&it) == 4096);
         WANT(lq_push_text(&it, text, size), LQ_BAD_QUERY);
         WANT(lq_find(&it, LQ_ROOT, text, size, &node), LQ_BAD_NAME);
+        WANT(lq_find_path(&it, LQ_ROOT, text, size, &node), LQ_BAD_NAME);
         WANT(lq_attr_named(&it, 2, text, size, &attr), LQ_BAD_NAME);
         OK(lq_answer(&it, text, size, &reply));
         CHECK(reply == 31 && lq_text(&it, room, sizeof room) == 31 &&

@@ -205,6 +205,35 @@ static void results(void) {
     lq_volume_close(&it);
 }
 
+/* A handle that is closed and opened again counts on: a number of the volume before is no result of the next one. */
+static void results_of_a_closed_volume(void) {
+    lq it = LQ_INIT;
+    lq_fetched fetched = {0, 0, 0};
+    lq_row row;
+    size_t got = 0;
+    uint64_t last = 0;
+    for (int volume = 0; volume < 3; volume++) {
+        OK(lq_volume_open(&it));
+        created(&it, LQ_ROOT, "a", LQ_FILE, 1);
+        for (uint64_t number = 1; number <= last; number++) {
+            REFUSED(lq_take(&it, number, &row, 1, &got), LQ_MISUSE, row);
+            REFUSED(lq_next(&it, number, &row), LQ_MISUSE, row);
+        }
+        /* the last volume has one, and makes none again */
+        for (int made = 0; made < 3 - volume; made++) {
+            OK(lq_fetch(&it, TEXT("name==a"), &fetched));
+            CHECK(fetched.result > last);
+            last = fetched.result;
+        }
+        REFUSED(lq_take(&it, last - 1, &row, 1, &got), LQ_MISUSE, row);
+        OK(lq_take(&it, last, &row, 1, &got));
+        CHECK(got == 1 && NAMED(row, "a"));
+        lq_volume_close(&it);
+        lq_volume_close(&it);
+        REFUSED(lq_take(&it, last, &row, 1, &got), LQ_MISUSE, row);
+    }
+}
+
 static void paths(void) {
     static const struct {
         const char *path;
@@ -218,6 +247,7 @@ static void paths(void) {
     lq it = LQ_INIT;
     uint64_t node;
     char long_path[600];
+    static char longest[LQ_PATH_SIZE + 1];
     OK(lq_volume_open(&it));
     created(&it, LQ_ROOT, "f", LQ_FOLDER, 0);
     created(&it, 2, "g", LQ_FOLDER, 0);
@@ -239,6 +269,13 @@ static void paths(void) {
     long_path[0] = 'f';
     long_path[1] = '/';
     REFUSED(lq_find_path(&it, LQ_ROOT, long_path, sizeof long_path, &node), LQ_BAD_NAME, node);
+    /* a path is as long as a line may be */
+    memset(longest, '/', sizeof longest);
+    longest[LQ_PATH_SIZE - 1] = 'f';
+    OK(lq_find_path(&it, LQ_ROOT, longest, LQ_PATH_SIZE, &node));
+    CHECK(node == 2);
+    REFUSED(lq_find_path(&it, LQ_ROOT, longest, LQ_PATH_SIZE + 1, &node), LQ_BAD_NAME, node);
+    REFUSED(lq_find_path(&it, 9, longest, LQ_PATH_SIZE + 1, &node), LQ_BAD_NAME, node);
     lq_volume_close(&it);
 }
 
@@ -249,6 +286,7 @@ int main(void) {
     the_largest_backlog();
     drops();
     results();
+    results_of_a_closed_volume();
     paths();
     return done("windows");
 }
