@@ -2,6 +2,8 @@
 import operator, os, re
 from typing import Any, Union
 
+from ._types import Attr, Op
+
 # A byte that is no UTF-8: what Python decodes it to, and the private character that stands for it (docs/EMBEDDING.md).
 _PRIVATE = {0xDC00 + byte: 0xF700 + byte for byte in range(0x80, 0x100)}
 _BYTES = {private: escaped for escaped, private in _PRIVATE.items()}
@@ -76,6 +78,14 @@ def formula(value: Any) -> Any:
     if isinstance(value, (bytes, bytearray)):
         raise TypeError(f"formula must be a str or pushes, not {type(value).__name__}")
     try:
-        return tuple(value)
+        pushes = tuple(value)
     except TypeError:
         raise TypeError(f"formula must be a str or pushes, not {value!r}") from None
+    return tuple(map(_push, pushes))
+
+
+def _push(item: Any) -> Any:
+    """A push of which nothing is left for Python to work out: its number, and its text as a str."""
+    if isinstance(item, Attr):
+        return item if isinstance(item.name, str) else Attr(encode_name("formula", item.name).decode())
+    return item if isinstance(item, (str, Op)) else whole("formula", item, most=(1 << 64) - 1)

@@ -1,5 +1,5 @@
-"""The calls of the library by ctypes, for where there is no extension. _native.c has the same handles."""
-import ctypes, functools, threading
+"""The calls of the library by ctypes, for where there is no extension. _native.c has the same handles and readers."""
+import ctypes, threading
 from ctypes import (
     POINTER, Structure, byref, c_bool, c_char_p, c_int32, c_int64, c_size_t, c_uint8, c_uint32, c_uint64,
 )  # fmt: skip
@@ -124,8 +124,8 @@ _OTHERS = {
 _lq: Any = None
 
 
-def load(path: str) -> None:
-    """Loads the shared library, with the types of its calls."""
+def load(path: str) -> Tuple[Any, Any]:
+    """Loads the shared library, with the types of its calls. Returns the types of handles and of readers."""
     global _lq
     try:
         library = ctypes.CDLL(path)
@@ -141,6 +141,7 @@ def load(path: str) -> None:
     if version // 1000 != _VERSION // 1000 or version < _VERSION:
         raise ImportError(f"{path} has version {version}, and this module is for {_VERSION}")
     _lq = library
+    return Handle, Reader
 
 
 def _text(array: Any, size: int) -> str:
@@ -148,11 +149,12 @@ def _text(array: Any, size: int) -> str:
 
 
 class Handle:
-    """A handle of the library. It takes and gives what Volume and Query do. Each call takes its lock."""
+    """A handle of the library, with the lock of its volume: a call takes it, and `with` does for what takes several.
+    Arguments are made ready before that, since what they are may call Python."""
 
     def __init__(self) -> None:
         self._at: Any = None
-        self._lock = threading.RLock()
+        self.lock = threading.RLock()
         self._handle = _Handle()
         at = byref(self._handle)
         status = _lq.lq_volume_open_as(at, _VERSION)
@@ -162,13 +164,14 @@ class Handle:
         self._applied, self._message = _Applied(), _Message()
 
     def free(self) -> None:
-        at, self._at = self._at, None
-        if at is not None:
-            _lq.lq_volume_close(at)
+        with self.lock:
+            at, self._at = self._at, None
+            if at is not None:
+                _lq.lq_volume_close(at)
 
     def __del__(self) -> None:
         if getattr(self, "_at", None) is not None and _lq is not None:
-            self.free()
+            _lq.lq_volume_close(self._at)
 
     def is_open(self) -> bool:
         return self._at is not None
@@ -179,33 +182,39 @@ class Handle:
         return self._at
 
     def _call(self, name: str, said: Tuple[Any, ...], call: Any, *given: Any) -> None:
-        """Makes a call. Where it is refused, the exception says the name and what the caller said."""
+        """Makes a call, under the lock. Where it is refused, the exception says the name and what the caller said."""
         status = call(self._own(), *given)
         if status:
             raise refusal(status, _lq.lq_status_name(status).decode(), _lq.lq_fault_place(self._at), name, said)
 
     def _change(self, name: str, said: Tuple[Any, ...], call: Any, *given: Any) -> Applied:
-        self._call(name, said, call, *given, byref(self._applied))
-        return Applied(self._applied.change, self._applied.node)
+        with self.lock:
+            self._call(name, said, call, *given, byref(self._applied))
+            return Applied(self._applied.change, self._applied.node)
 
     def create(self, name: Any, dir: Any, what: Any, size: Any, time: Any) -> Applied:
+        self._own()
         raw, said = encode_name("name", name), (name, dir, what, size, time)
         numbers = kind(what), natural("size", size), whole("time", time)
         return self._change("create", said, _lq.lq_create, natural("dir", dir), raw, len(raw), *numbers)
 
     def remove(self, node: Any) -> Applied:
+        self._own()
         return self._change("remove", (node,), _lq.lq_remove, natural("node", node))
 
     def move(self, node: Any, dir: Any, name: Any, clobber: Any) -> Applied:
+        self._own()
         raw, said = encode_name("name", name), (node, dir, name, clobber)
         places = natural("node", node), natural("dir", dir)
         return self._change("move", said, _lq.lq_move, *places, raw, len(raw), bool(clobber))
 
     def write(self, node: Any, size: Any, time: Any) -> Applied:
+        self._own()
         numbers = natural("node", node), natural("size", size), whole("time", time)
         return self._change("write", (node, size, time), _lq.lq_write, *numbers)
 
     def set(self, node: Any, attr: Any, value: Any, type: Optional[str]) -> Applied:
+        self._own()
         raw, said = encode_name("attr", attr), (node, attr, value, type)
         head = natural("node", node), raw, len(raw)
         if isinstance(value, str):
@@ -225,13 +234,16 @@ class Handle:
         raise ValueError(f"type is {type!r}, and value is no text")
 
     def unset(self, node: Any, attr: Any) -> Applied:
+        self._own()
         raw = encode_name("attr", attr)
         return self._change("unset", (node, attr), _lq.lq_unset, natural("node", node), raw, len(raw))
 
     def answer(self, line: Union[str, bytes]) -> bytes:
+        self._own()
         raw, size = line if isinstance(line, bytes) else encode("line", line), c_size_t()
-        self._call("answer", (line,), _lq.lq_answer, raw, len(raw), byref(size))
-        return self._copied(size.value)
+        with self.lock:
+            self._call("answer", (line,), _lq.lq_answer, raw, len(raw), byref(size))
+            return self._copied(size.value)
 
     def _copied(self, size: int) -> bytes:
         room = ctypes.create_string_buffer(size)
@@ -239,10 +251,11 @@ class Handle:
         return room.raw
 
     def changes(self) -> int:
-        return _lq.lq_changes(self._own())
+        with self.lock:
+            return _lq.lq_changes(self._own())
 
     def _taken(self, count: int, result: int) -> List[Entry]:
-        """The entries of a result that was just made."""
+        """The entries of a result that was just made, under the same lock."""
         array, got, entries = (_Row * min(count, _ROOM))(), c_size_t(), []
         while len(entries) < count:
             status = _lq.lq_take(self._at, result, array, len(array), byref(got))
@@ -253,7 +266,7 @@ class Handle:
                 entries.append(Entry(it.dir, it.node, name, _KINDS[it.kind], it.size, it.time))
         return entries
 
-    def _push(self, name: str, pushes: Any) -> None:
+    def _push(self, name: str, said: Tuple[Any, ...], pushes: Any) -> None:
         """Pushes each item. Where one doesn't fit none stays, and BadQuery has the number of those before it."""
         if not isinstance(pushes, tuple):
             raise TypeError(f"formula must be a str or pushes, not {type(pushes).__name__}")
@@ -261,103 +274,104 @@ class Handle:
         try:
             for item in pushes:
                 if isinstance(item, Op):
-                    self._call(name, (pushes,), _lq.lq_push_op, item)
+                    self._call(name, said, _lq.lq_push_op, item)
                 elif isinstance(item, Attr):
                     raw = encode_name("formula", item.name)
-                    self._call(name, (pushes,), _lq.lq_push_attr, raw, len(raw))
+                    self._call(name, said, _lq.lq_push_attr, raw, len(raw))
                 elif isinstance(item, str):
                     raw = encode("formula", item)
-                    self._call(name, (pushes,), _lq.lq_push_text, raw, len(raw))
+                    self._call(name, said, _lq.lq_push_text, raw, len(raw))
                 else:
                     number = whole("formula", item, -(1 << 63), (1 << 64) - 1)
                     if -(1 << 31) <= number < 1 << 31:
-                        self._call(name, (pushes,), _lq.lq_push_int32, number)
+                        self._call(name, said, _lq.lq_push_int32, number)
                     elif 0 <= number < 1 << 32:
-                        self._call(name, (pushes,), _lq.lq_push_uint32, number)
+                        self._call(name, said, _lq.lq_push_uint32, number)
                     elif number < 1 << 63:
-                        self._call(name, (pushes,), _lq.lq_push_int64, number)
+                        self._call(name, said, _lq.lq_push_int64, number)
                     else:
-                        self._call(name, (pushes,), _lq.lq_push_uint64, number)
+                        self._call(name, said, _lq.lq_push_uint64, number)
         except BaseException:
             _lq.lq_clear_pushed(self._at)
             raise
 
     def open(self, formula: Any, backlog: int, moved: Any) -> Tuple[int, int, List[Entry]]:
-        it, how = _Opening(), _Options(backlog, bool(moved), True)
-        if isinstance(formula, str):
-            raw = encode("formula", formula)
-            self._call("open", (formula,), _lq.lq_open, raw, len(raw), byref(how), byref(it))
-        else:
-            self._push("open", formula)
-            self._call("open", (formula,), _lq.lq_open_pushed, byref(how), byref(it))
-        try:
-            return it.slot, it.at, self._taken(it.count, it.result)
-        except BaseException:
-            _lq.lq_drop(self._at, it.slot)
-            raise
-
-    def read(self, slot: int, placed: Dict[int, Any]) -> Union[Message, Mark, None]:
-        """What a read gives. A message is put under its node, or takes the node out."""
-        it = self._message
-        self._call("read", (slot,), _lq.lq_read, slot, byref(it))
-        if it.what == _UPDATE:
-            op = Opcode(it.op)
-            is_moved = op is Opcode.B_ENTRY_MOVED
-            place = (it.from_dir, _text(it.from_name, it.from_name_size)) if is_moved else (None, None)
-            message = Message(it.seq, it.change, it.last, op, it.dir, it.node, _text(it.name, it.name_size), *place)
-            if op is Opcode.B_ENTRY_REMOVED:
-                placed.pop(it.node, None)
+        self._own()
+        it, how, said = _Opening(), _Options(backlog, bool(moved), True), (formula, backlog, moved)
+        raw = encode("formula", formula) if isinstance(formula, str) else b""
+        with self.lock:
+            if isinstance(formula, str):
+                self._call("open", said, _lq.lq_open, raw, len(raw), byref(how), byref(it))
             else:
-                placed[it.node] = message
-            return message
-        return Mark(it.seq, it.change, Cause(it.cause)) if it.what == _END else None
+                self._push("open", said, formula)
+                self._call("open", said, _lq.lq_open_pushed, byref(how), byref(it))
+            try:
+                return it.slot, it.at, self._taken(it.count, it.result)
+            except BaseException:
+                _lq.lq_drop(self._at, it.slot)
+                raise
 
     def hang_up(self, slot: int) -> None:
-        self._call("hang_up", (slot,), _lq.lq_hang_up, slot)
+        with self.lock:
+            self._call("hang_up", (slot,), _lq.lq_hang_up, slot)
 
     def close(self, slot: int) -> int:
         change = c_uint64()
-        self._call("close", (slot,), _lq.lq_close, slot, byref(change))
+        with self.lock:
+            self._call("close", (slot,), _lq.lq_close, slot, byref(change))
         return change.value
 
     def finish(self, slot: int) -> None:
-        self._call("finish", (slot,), _lq.lq_finish, slot)
+        with self.lock:
+            self._call("finish", (slot,), _lq.lq_finish, slot)
 
     def drop(self, slot: int) -> None:
-        self._call("drop", (slot,), _lq.lq_drop, slot)
+        with self.lock:
+            self._call("drop", (slot,), _lq.lq_drop, slot)
 
     def ready(self) -> int:
-        return _lq.lq_ready(self._own())
+        with self.lock:
+            return _lq.lq_ready(self._own())
 
     def fetch(self, formula: Any) -> List[Entry]:
-        it = _Fetched()
-        if isinstance(formula, str):
-            raw = encode("formula", formula)
-            self._call("fetch", (formula,), _lq.lq_fetch, raw, len(raw), byref(it))
-        else:
-            self._push("fetch", formula)
-            self._call("fetch", (formula,), _lq.lq_fetch_pushed, byref(it))
-        return self._taken(it.count, it.result)
+        self._own()
+        it, said = _Fetched(), (formula,)
+        raw = encode("formula", formula) if isinstance(formula, str) else b""
+        with self.lock:
+            if isinstance(formula, str):
+                self._call("fetch", said, _lq.lq_fetch, raw, len(raw), byref(it))
+            else:
+                self._push("fetch", said, formula)
+                self._call("fetch", said, _lq.lq_fetch_pushed, byref(it))
+            return self._taken(it.count, it.result)
 
     def find(self, name: Any, dir: Any) -> int:
-        raw, node = encode_name("name", name), c_uint64()
-        self._call("find", (name, dir), _lq.lq_find, natural("dir", dir), raw, len(raw), byref(node))
+        self._own()
+        raw, number, node = encode_name("name", name), natural("dir", dir), c_uint64()
+        with self.lock:
+            self._call("find", (name, dir), _lq.lq_find, number, raw, len(raw), byref(node))
         return node.value
 
     def find_path(self, path: Any, dir: Any) -> int:
-        raw, node = encode_name("path", path), c_uint64()
-        self._call("find_path", (path, dir), _lq.lq_find_path, natural("dir", dir), raw, len(raw), byref(node))
+        self._own()
+        raw, number, node = encode_name("path", path), natural("dir", dir), c_uint64()
+        with self.lock:
+            self._call("find_path", (path, dir), _lq.lq_find_path, number, raw, len(raw), byref(node))
         return node.value
 
     def entry(self, node: Any) -> Info:
-        it = _Info()
-        self._call("entry", (node,), _lq.lq_entry, natural("node", node), byref(it))
-        attributes = [self._attribute("entry", (node,), _lq.lq_attr_at, node, at) for at in range(it.attr_count)]
+        self._own()
+        it, number, said = _Info(), natural("node", node), (node,)
+        with self.lock:
+            self._call("entry", said, _lq.lq_entry, number, byref(it))
+            attributes = [self._attribute("entry", said, _lq.lq_attr_at, number, at) for at in range(it.attr_count)]
         return Info(it.dir, it.node, _text(it.name, it.name_size), _KINDS[it.kind], it.size, it.time, attributes)
 
     def attribute(self, node: Any, name: Any) -> Attribute:
-        raw = encode_name("name", name)
-        return self._attribute("attribute", (node, name), _lq.lq_attr_named, natural("node", node), raw, len(raw))
+        self._own()
+        raw, number = encode_name("name", name), natural("node", node)
+        with self.lock:
+            return self._attribute("attribute", (node, name), _lq.lq_attr_named, number, raw, len(raw))
 
     def _attribute(self, name: str, said: Tuple[Any, ...], call: Any, *given: Any) -> Attribute:
         it = _Attr()
@@ -367,25 +381,70 @@ class Handle:
         return Attribute(_text(it.name, it.name_size), type, value)
 
     def children(self, dir: Any) -> List[Entry]:
-        it = _Listing()
-        self._call("children", (dir,), _lq.lq_children, natural("dir", dir), byref(it))
-        return self._taken(it.count, it.result)
+        self._own()
+        it, number = _Listing(), natural("dir", dir)
+        with self.lock:
+            self._call("children", (dir,), _lq.lq_children, number, byref(it))
+            return self._taken(it.count, it.result)
 
     def path(self, node: Any) -> str:
-        size = c_size_t()
-        self._call("path", (node,), _lq.lq_path, natural("node", node), byref(size))
-        return self._copied(size.value).decode("utf-8")
+        self._own()
+        size, number = c_size_t(), natural("node", node)
+        with self.lock:
+            self._call("path", (node,), _lq.lq_path, number, byref(size))
+            return self._copied(size.value).decode("utf-8")
 
 
-def _locked(method: Any) -> Any:
-    @functools.wraps(method)
-    def call(self: Handle, *given: Any) -> Any:
-        with self._lock:
-            return method(self, *given)
+class Reader:
+    """What a query is read by, and a Query is one. `slot` is None where it has none, `mark` where its end wasn't read.
+    Under the nodes of the result stand `placed`, what says where an entry is, and `rows`, those that were asked for."""
 
-    return call
+    slot: Optional[int] = None
+    mark: Optional[Mark] = None
+    _latest: Optional[Message] = None
+    _reads_by: Any = None
 
+    def _begin(self, handle: Handle, slot: int, placed: Dict[int, Any], rows: Dict[int, Any]) -> None:
+        self._reads_by, self.slot, self._now_placed, self._now_rows = handle, slot, placed, rows
+        self.mark = self._latest = None
 
-for _name, _method in [*vars(Handle).items()]:
-    if not _name.startswith("_"):
-        setattr(Handle, _name, _locked(_method))
+    def __iter__(self) -> "Reader":
+        return self
+
+    def __next__(self) -> Message:
+        handle = self._reads_by
+        if handle is None:
+            raise ValueError("the query was dropped or finished")
+        with handle.lock:
+            slot, mark, it = self.slot, self.mark, handle._message
+            if slot is None:
+                raise ValueError("the query was dropped or finished")
+            if mark is None:
+                handle._call("read", (slot,), _lq.lq_read, slot, byref(it))
+                if it.what == _UPDATE:
+                    return self._followed(it)
+                if it.what == _END:
+                    mark = self.mark = Mark(it.seq, it.change, Cause(it.cause))
+        if mark is not None:
+            self._ended(mark)
+        raise StopIteration
+
+    def _followed(self, it: Any) -> Message:
+        """The message, which is put under its node or takes the node out. Its row, if any, keeps the place it had."""
+        op, node = Opcode(it.op), it.node
+        is_moved = op is Opcode.B_ENTRY_MOVED
+        place = (it.from_dir, _text(it.from_name, it.from_name_size)) if is_moved else (None, None)
+        message = Message(it.seq, it.change, it.last, op, it.dir, node, _text(it.name, it.name_size), *place)
+        placed, rows = self._now_placed, self._now_rows
+        if op is not Opcode.B_ENTRY_REMOVED:
+            placed[node] = message
+        elif node in placed:
+            if node in rows:
+                rows[node]._placed = placed[node]
+                del rows[node]
+            del placed[node]
+        self._latest = message
+        return message
+
+    def _ended(self, mark: Mark) -> None:
+        """What an iteration does after the end: it stops, unless this raises."""

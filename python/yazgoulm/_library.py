@@ -43,22 +43,20 @@ def _by_extension(path: str) -> Any:
     for source in (f"{here}/_native.c", f"{here}/../../include/lq.h"):  # a clone alone has them
         if os.path.exists(source) and os.path.getmtime(source) > os.path.getmtime(_native.__file__):
             raise ImportError(f"{_native.__file__} is older than {source}: make library builds it")
-    _native.load(path, _arguments, _types)
-    return _native.Handle
+    return _native.load(path, _arguments, _types)
 
 
 def _by_ctypes(path: str) -> Any:
     from . import _by_ctypes
 
-    _by_ctypes.load(path)
-    return _by_ctypes.Handle
+    return _by_ctypes.load(path)
 
 
 def _chosen() -> Tuple[str, Any]:
-    """The name of the way, and its handles."""
+    """The name of the way, and its types of handles and of readers."""
     path, wanted = _found(), os.environ.get("YAZGOULM_BACKEND")
     ways = {"extension": _by_extension, "ctypes": _by_ctypes}
-    if wanted is not None and wanted not in ways:
+    if wanted and wanted not in ways:
         raise ImportError(f'YAZGOULM_BACKEND is {wanted!r}, and can be "extension" or "ctypes"')
     if wanted:
         return wanted, ways[wanted](path)
@@ -69,4 +67,4 @@ def _chosen() -> Tuple[str, Any]:
 
 
 #: How the library is called: "extension" or "ctypes".
-backend, Handle = _chosen()
+backend, (Handle, Reader) = _chosen()

@@ -1,11 +1,14 @@
-/* The calls of the library by Python's C API: handles as those of _by_ctypes.py, at an eighth of the cost. Arguments that
-   don't fit at once go to _arguments.py, which takes them or says why not; exceptions are made by _types.py. */
+/* The calls of the library by Python's C API: handles and readers as those of _by_ctypes.py, at an eighth of the cost.
+   Arguments that don't fit at once go to _arguments.py, which takes them or says why not; exceptions are made by
+   _types.py. */
 #define PY_SSIZE_T_CLEAN
 #include <Python.h>
 #include <dlfcn.h>
 #include <lq.h>
+#include <stddef.h>
+#include <structmember.h>
 
-/* ---- the library ---- */
+/* ---- what one import of the package has ---- */
 
 #define CALLS(X) \
     X(version) X(status_name) X(volume_open_as) X(volume_close) X(fault_place) X(answer) X(text) X(create) X(remove) \
@@ -14,54 +17,72 @@
     X(attr_named) X(children) X(path) X(changes) X(push_attr) X(push_text) X(push_int32) X(push_int64) X(push_uint32) \
     X(push_uint64) X(push_op) X(clear_pushed) X(open_pushed) X(fetch_pushed)
 
-static struct {
-#define X(name) __typeof__(&lq_##name) name;
-    CALLS(X)
-#undef X
-} library;
-
 /* What is taken of _arguments.py and _types.py. */
 #define ARGUMENTS(X) X(encode) X(encode_name) X(kind) X(natural) X(whole)
 #define TYPES(X) \
     X(Applied) X(Attr) X(Attribute) X(Cause) X(Entry) X(Info) X(Mark) X(Message) X(Op) X(Opcode) X(FILE) X(FOLDER) \
     X(refusal)
-#define X(name) static PyObject *py_##name;
-ARGUMENTS(X)
-TYPES(X)
-#undef X
 
-static PyObject *opcodes[4], *causes[4];
-
-/* Fills the tables above. An ImportError: it isn't the library, or one of another version. */
-static PyObject *load(PyObject *Py_UNUSED(module), PyObject *args) {
-    const char *path;
-    PyObject *arguments, *types;
-    if (!PyArg_ParseTuple(args, "sOO", &path, &arguments, &types)) return NULL;
-    void *opened = dlopen(path, RTLD_NOW | RTLD_LOCAL);
-    if (!opened) return PyErr_Format(PyExc_ImportError, "%s is not the library: %s", path, dlerror());
-#define X(name) \
-    *(void **)&library.name = dlsym(opened, "lq_" #name); \
-    if (!library.name) return PyErr_Format(PyExc_ImportError, "%s is not the library: it has no lq_" #name, path);
+/* The calls of its library, and what it takes of its modules. A process may import the package more than once: into
+   another interpreter, or again after its modules were taken out of sys.modules. Each import has classes of its own,
+   and what came of an earlier one goes on with those. */
+typedef struct {
+#define X(name) __typeof__(&lq_##name) name;
     CALLS(X)
 #undef X
-    uint32_t version = library.version();
-    if (version / 1000 != LQ_VERSION / 1000 || version < LQ_VERSION)
-        return PyErr_Format(PyExc_ImportError, "%s has version %u, and this module is for %d", path, version,
-                            LQ_VERSION);
-#define X(name) \
-    if (!(py_##name = PyObject_GetAttrString(arguments, #name))) return NULL;
+#define X(name) PyObject *py_##name;
     ARGUMENTS(X)
+    TYPES(X)
 #undef X
-#define X(name) \
-    if (!(py_##name = PyObject_GetAttrString(types, #name))) return NULL;
+    PyObject *opcodes[4], *causes[4];
+} Own;
+
+static void free_own(Own *own) {
+#define X(name) Py_XDECREF(own->py_##name);
+    ARGUMENTS(X)
     TYPES(X)
 #undef X
     for (int number = 1; number < 4; number++) {
-        opcodes[number] = PyObject_CallFunction(py_Opcode, "i", number);
-        causes[number] = PyObject_CallFunction(py_Cause, "i", number);
-        if (!opcodes[number] || !causes[number]) return NULL;
+        Py_XDECREF(own->opcodes[number]);
+        Py_XDECREF(own->causes[number]);
     }
-    Py_RETURN_NONE;
+    PyMem_Free(own);
+}
+
+/* Fills it. -1, with an ImportError: the path is not the library, or one of another version. */
+static int fill_own(Own *own, const char *path, PyObject *arguments, PyObject *types) {
+    void *opened = dlopen(path, RTLD_NOW | RTLD_LOCAL);
+    if (!opened) {
+        PyErr_Format(PyExc_ImportError, "%s is not the library: %s", path, dlerror());
+        return -1;
+    }
+#define X(name) \
+    *(void **)&own->name = dlsym(opened, "lq_" #name); \
+    if (!own->name) { \
+        PyErr_Format(PyExc_ImportError, "%s is not the library: it has no lq_" #name, path); \
+        return -1; \
+    }
+    CALLS(X)
+#undef X
+    uint32_t version = own->version();
+    if (version / 1000 != LQ_VERSION / 1000 || version < LQ_VERSION) {
+        PyErr_Format(PyExc_ImportError, "%s has version %u, and this module is for %d", path, version, LQ_VERSION);
+        return -1;
+    }
+#define X(name) \
+    if (!(own->py_##name = PyObject_GetAttrString(arguments, #name))) return -1;
+    ARGUMENTS(X)
+#undef X
+#define X(name) \
+    if (!(own->py_##name = PyObject_GetAttrString(types, #name))) return -1;
+    TYPES(X)
+#undef X
+    for (int number = 1; number < 4; number++) {
+        own->opcodes[number] = PyObject_CallFunction(own->py_Opcode, "i", number);
+        own->causes[number] = PyObject_CallFunction(own->py_Cause, "i", number);
+        if (!own->opcodes[number] || !own->causes[number]) return -1;
+    }
+    return 0;
 }
 
 /* ---- what is given ---- */
@@ -96,7 +117,7 @@ static PyObject *record(PyObject *class, bool is_flat, Py_ssize_t count, PyObjec
 }
 
 #define COUNT(...) (sizeof((PyObject *[]){__VA_ARGS__}) / sizeof(PyObject *))
-#define RECORD(class, ...) record(class, class != py_Info, COUNT(__VA_ARGS__), (PyObject *[]){__VA_ARGS__})
+#define RECORD(class, ...) record(class, class != own->py_Info, COUNT(__VA_ARGS__), (PyObject *[]){__VA_ARGS__})
 
 static PyObject *same(PyObject *object) {
     Py_INCREF(object);
@@ -111,20 +132,20 @@ static PyObject *text(const char *at, size_t size) {
     return PyUnicode_DecodeUTF8(at, (Py_ssize_t)size, NULL);
 }
 
-static PyObject *kind(uint32_t number) {
-    return same(number == LQ_FOLDER ? py_FOLDER : py_FILE);
+static PyObject *kind(const Own *own, uint32_t number) {
+    return same(number == LQ_FOLDER ? own->py_FOLDER : own->py_FILE);
 }
 
 /* ---- what is taken ---- */
 
 /* A number from 0 to 2^64 - 1. -1: it is none, with an exception that names the argument. */
-static int take_natural(const char *argument, PyObject *given, uint64_t *out) {
+static int take_natural(const Own *own, const char *argument, PyObject *given, uint64_t *out) {
     if (PyLong_CheckExact(given)) {
         *out = PyLong_AsUnsignedLongLong(given);
         if (*out != (uint64_t)-1 || !PyErr_Occurred()) return 0;
         PyErr_Clear();
     }
-    PyObject *number = PyObject_CallFunction(py_natural, "sO", argument, given);
+    PyObject *number = PyObject_CallFunction(own->py_natural, "sO", argument, given);
     if (!number) return -1;
     *out = PyLong_AsUnsignedLongLong(number);
     Py_DECREF(number);
@@ -132,13 +153,13 @@ static int take_natural(const char *argument, PyObject *given, uint64_t *out) {
 }
 
 /* A number from -2^63 to 2^63 - 1, in the same way. */
-static int take_whole(const char *argument, PyObject *given, int64_t *out) {
+static int take_whole(const Own *own, const char *argument, PyObject *given, int64_t *out) {
     if (PyLong_CheckExact(given)) {
         *out = PyLong_AsLongLong(given);
         if (*out != -1 || !PyErr_Occurred()) return 0;
         PyErr_Clear();
     }
-    PyObject *number = PyObject_CallFunction(py_whole, "sO", argument, given);
+    PyObject *number = PyObject_CallFunction(own->py_whole, "sO", argument, given);
     if (!number) return -1;
     *out = PyLong_AsLongLong(number);
     Py_DECREF(number);
@@ -146,10 +167,10 @@ static int take_whole(const char *argument, PyObject *given, int64_t *out) {
 }
 
 /* The number of a kind, in the same way. */
-static int take_kind(PyObject *given, uint32_t *out) {
-    *out = given == py_FOLDER ? LQ_FOLDER : LQ_FILE;
-    if (given == py_FOLDER || given == py_FILE) return 0;
-    PyObject *number = PyObject_CallFunctionObjArgs(py_kind, given, NULL);
+static int take_kind(const Own *own, PyObject *given, uint32_t *out) {
+    *out = given == own->py_FOLDER ? LQ_FOLDER : LQ_FILE;
+    if (given == own->py_FOLDER || given == own->py_FILE) return 0;
+    PyObject *number = PyObject_CallFunctionObjArgs(own->py_kind, given, NULL);
     if (!number) return -1;
     *out = (uint32_t)PyLong_AsUnsignedLong(number);
     Py_DECREF(number);
@@ -189,60 +210,92 @@ static void leave_text(text_given *it) {
 
 /* ---- handles ---- */
 
-/* A handle, with a lock that a call takes; the thread that has it may take it again, from a finalizer say. All of it is
-   read and written under the interpreter's lock. */
+/* A handle, with the lock of its volume: a call takes it, and Python's `with` does for what takes several. The thread
+   that has it may take it again, from a finalizer say. All of it is read and written under the interpreter's lock. */
 typedef struct {
     PyObject_HEAD
     lq handle;
+    const Own *own; /* which the type owns */
     bool is_open;
     PyThread_type_lock lock;
     unsigned long owner;
     int depth;
 } Handle;
 
-static void enter(Handle *self) {
+/* Takes the lock. False: another thread has it, and this one may not wait. */
+static bool enter_if(Handle *self, bool waits) {
     unsigned long me = PyThread_get_thread_ident();
     if (self->depth > 0 && self->owner == me) {
         self->depth++;
-        return;
+        return true;
     }
     if (!PyThread_acquire_lock(self->lock, NOWAIT_LOCK)) {
+        if (!waits) return false;
         Py_BEGIN_ALLOW_THREADS
         PyThread_acquire_lock(self->lock, WAIT_LOCK);
         Py_END_ALLOW_THREADS
     }
     self->owner = me;
     self->depth = 1;
+    return true;
+}
+
+static void enter(Handle *self) {
+    enter_if(self, true);
 }
 
 static void leave(Handle *self) {
     if (--self->depth == 0) PyThread_release_lock(self->lock);
 }
 
-/* Raises what a status says of a call, with what the caller gave. */
-static PyObject *refused(Handle *self, lq_status status, const char *name, PyObject *const *args, Py_ssize_t count) {
-    const char *word = library.status_name(status);
+/* What stands for a status where the call wasn't made: the volume is closed, or an exception is set. */
+static const lq_status CLOSED = (lq_status)UINT32_MAX, RAISED = (lq_status)(UINT32_MAX - 1);
+
+/* The status of a call that is made under the lock. */
+#define LOCKED(call) ({ \
+        enter(self); \
+        lq_status answered = self->is_open ? own->call : CLOSED; \
+        leave(self); \
+        answered; \
+    })
+
+/* Raises what a status says of a call, with what the caller gave. `place` is that of a fault in a query. */
+static PyObject *refused_at(Handle *self, lq_status status, uint64_t place, const char *name, PyObject *const *args,
+                            Py_ssize_t count) {
+    const Own *own = self->own;
+    if (status == RAISED) return NULL;
+    if (status == CLOSED) return PyErr_SetString(PyExc_ValueError, "the volume is closed"), NULL;
+    const char *word = own->status_name(status);
     PyObject *said = PyTuple_New(count);
     if (!said) return NULL;
     for (Py_ssize_t at = 0; at < count; at++) PyTuple_SET_ITEM(said, at, same(args[at]));
-    unsigned long long place = library.fault_place(&self->handle);
-    PyObject *why = PyObject_CallFunction(py_refusal, "isKsN", (int)status, word ? word : "", place, name, said);
+    PyObject *why = PyObject_CallFunction(own->py_refusal, "isKsN", (int)status, word ? word : "",
+                                          (unsigned long long)place, name, said);
     if (why) PyErr_SetObject((PyObject *)Py_TYPE(why), why);
     Py_XDECREF(why);
     return NULL;
 }
 
+#define REFUSED(name) refused_at(self, status, 0, name, args, count)
+
+/* The name in the type's dictionary of what owns its Own. */
+static const char OWN[] = "_own";
+
 static PyObject *Handle_new(PyTypeObject *type, PyObject *Py_UNUSED(args), PyObject *Py_UNUSED(named)) {
-    Handle *self = (Handle *)type->tp_alloc(type, 0);
+    PyObject *owner = PyObject_GetAttrString((PyObject *)type, OWN);
+    const Own *own = owner ? PyCapsule_GetPointer(owner, OWN) : NULL;
+    Py_XDECREF(owner); /* the type has it */
+    Handle *self = own ? (Handle *)type->tp_alloc(type, 0) : NULL;
     if (!self) return NULL;
+    self->own = own;
     self->lock = PyThread_allocate_lock();
     if (!self->lock) {
         Py_DECREF(self);
         return PyErr_NoMemory();
     }
-    lq_status status = library.volume_open_as(&self->handle, LQ_VERSION);
+    lq_status status = own->volume_open_as(&self->handle, LQ_VERSION);
     if (status != LQ_OK) {
-        refused(self, status, "Volume", NULL, 0);
+        refused_at(self, status, 0, "Volume", NULL, 0);
         Py_DECREF(self);
         return NULL;
     }
@@ -251,14 +304,16 @@ static PyObject *Handle_new(PyTypeObject *type, PyObject *Py_UNUSED(args), PyObj
 }
 
 static void close_handle(Handle *self) {
-    if (self->is_open) library.volume_close(&self->handle);
+    if (self->is_open) self->own->volume_close(&self->handle);
     self->is_open = false;
 }
 
 static void Handle_dealloc(Handle *self) {
+    PyTypeObject *type = Py_TYPE(self);
     close_handle(self);
     if (self->lock) PyThread_free_lock(self->lock);
-    Py_TYPE(self)->tp_free((PyObject *)self);
+    type->tp_free((PyObject *)self);
+    Py_DECREF(type);
 }
 
 static PyObject *Handle_free(Handle *self, PyObject *Py_UNUSED(none)) {
@@ -272,24 +327,42 @@ static PyObject *Handle_is_open(Handle *self, PyObject *Py_UNUSED(none)) {
     return PyBool_FromLong(self->is_open);
 }
 
-/* Begins a method of `count` arguments. */
-#define TAKES(wanted) \
-    if (count != (wanted)) return PyErr_Format(PyExc_TypeError, "%zd arguments, not %d", count, wanted); \
-    if (!self->is_open) return PyErr_SetString(PyExc_ValueError, "the volume is closed"), NULL
-/* A method, under the lock. */
-#define METHOD(name) \
-    static PyObject *locked_##name(Handle *self, PyObject *const *args, Py_ssize_t count); \
-    static PyObject *Handle_##name(Handle *self, PyObject *const *args, Py_ssize_t count) { \
-        enter(self); \
-        PyObject *given = locked_##name(self, args, count); \
-        leave(self); \
-        return given; \
-    } \
-    static PyObject *locked_##name(Handle *self, PyObject *const *args, Py_ssize_t count)
-#define REFUSED(name) refused(self, status, name, args, count)
+/* The lock, with the methods of Python's. It is the handle itself. */
+static PyObject *Handle_lock(Handle *self, void *Py_UNUSED(none)) {
+    return same((PyObject *)self);
+}
 
-static PyObject *applied(const lq_applied *it) {
-    return RECORD(py_Applied, natural(it->change), natural(it->node));
+static PyObject *Handle_acquire(Handle *self, PyObject *const *args, Py_ssize_t count) {
+    int waits = count > 0 ? PyObject_IsTrue(args[0]) : 1;
+    return waits < 0 ? NULL : PyBool_FromLong(enter_if(self, waits));
+}
+
+static PyObject *Handle_release(Handle *self, PyObject *Py_UNUSED(none)) {
+    if (self->depth == 0 || self->owner != PyThread_get_thread_ident())
+        return PyErr_SetString(PyExc_RuntimeError, "this thread hasn't the lock"), NULL;
+    leave(self);
+    Py_RETURN_NONE;
+}
+
+static PyObject *Handle_enter(Handle *self, PyObject *Py_UNUSED(none)) {
+    enter(self);
+    Py_RETURN_NONE;
+}
+
+static PyObject *Handle_exit(Handle *self, PyObject *const *Py_UNUSED(args), Py_ssize_t Py_UNUSED(count)) {
+    return Handle_release(self, NULL);
+}
+
+/* A method. */
+#define METHOD(name) static PyObject *Handle_##name(Handle *self, PyObject *const *args, Py_ssize_t count)
+/* Begins one of `wanted` arguments. They are taken before the lock is, since what they are may call Python. */
+#define TAKES(wanted) \
+    const Own *own = self->own; \
+    if (count != (wanted)) return PyErr_Format(PyExc_TypeError, "%zd arguments, not %d", count, wanted); \
+    if (!self->is_open) return refused_at(self, CLOSED, 0, "", args, 0)
+
+static PyObject *applied(const Own *own, const lq_applied *it) {
+    return RECORD(own->py_Applied, natural(it->change), natural(it->node));
 }
 
 /* ---- changes ---- */
@@ -301,21 +374,22 @@ METHOD(create) {
     uint32_t what;
     text_given name;
     lq_applied out;
-    if (take_natural("dir", args[1], &dir) || take_kind(args[2], &what) || take_natural("size", args[3], &size) ||
-        take_whole("time", args[4], &time) || take_text(py_encode_name, "name", args[0], &name))
+    if (take_natural(own, "dir", args[1], &dir) || take_kind(own, args[2], &what) ||
+        take_natural(own, "size", args[3], &size) || take_whole(own, "time", args[4], &time) ||
+        take_text(own->py_encode_name, "name", args[0], &name))
         return NULL;
-    lq_status status = library.create(&self->handle, dir, TEXT(name), what, size, time, &out);
+    lq_status status = LOCKED(create(&self->handle, dir, TEXT(name), what, size, time, &out));
     leave_text(&name);
-    return status == LQ_OK ? applied(&out) : REFUSED("create");
+    return status == LQ_OK ? applied(own, &out) : REFUSED("create");
 }
 
 METHOD(remove) {
     TAKES(1);
     uint64_t node;
     lq_applied out;
-    if (take_natural("node", args[0], &node)) return NULL;
-    lq_status status = library.remove(&self->handle, node, &out);
-    return status == LQ_OK ? applied(&out) : REFUSED("remove");
+    if (take_natural(own, "node", args[0], &node)) return NULL;
+    lq_status status = LOCKED(remove(&self->handle, node, &out));
+    return status == LQ_OK ? applied(own, &out) : REFUSED("remove");
 }
 
 METHOD(move) {
@@ -324,12 +398,12 @@ METHOD(move) {
     text_given name;
     lq_applied out;
     int clobber = PyObject_IsTrue(args[3]);
-    if (clobber < 0 || take_natural("node", args[0], &node) || take_natural("dir", args[1], &dir) ||
-        take_text(py_encode_name, "name", args[2], &name))
+    if (clobber < 0 || take_natural(own, "node", args[0], &node) || take_natural(own, "dir", args[1], &dir) ||
+        take_text(own->py_encode_name, "name", args[2], &name))
         return NULL;
-    lq_status status = library.move(&self->handle, node, dir, TEXT(name), clobber, &out);
+    lq_status status = LOCKED(move(&self->handle, node, dir, TEXT(name), clobber, &out));
     leave_text(&name);
-    return status == LQ_OK ? applied(&out) : REFUSED("move");
+    return status == LQ_OK ? applied(own, &out) : REFUSED("move");
 }
 
 METHOD(write) {
@@ -337,53 +411,55 @@ METHOD(write) {
     uint64_t node, size;
     int64_t time;
     lq_applied out;
-    if (take_natural("node", args[0], &node) || take_natural("size", args[1], &size) ||
-        take_whole("time", args[2], &time))
+    if (take_natural(own, "node", args[0], &node) || take_natural(own, "size", args[1], &size) ||
+        take_whole(own, "time", args[2], &time))
         return NULL;
-    lq_status status = library.write(&self->handle, node, size, time, &out);
-    return status == LQ_OK ? applied(&out) : REFUSED("write");
+    lq_status status = LOCKED(write(&self->handle, node, size, time, &out));
+    return status == LQ_OK ? applied(own, &out) : REFUSED("write");
 }
 
-/* Sets a number of the type that `type` names. -1: it names none, or the number doesn't fit, with an exception. */
-static int set_number(Handle *self, uint64_t node, const text_given *attr, PyObject *value, PyObject *type,
-                      lq_applied *out, lq_status *status) {
+/* Sets a number of the type that `type` names. RAISED: it names none, or the number doesn't fit. */
+static lq_status set_number(Handle *self, uint64_t node, const text_given *attr, PyObject *value, PyObject *type,
+                            lq_applied *out) {
+    const Own *own = self->own;
     const char *named = type == Py_None ? "LLNG" : PyUnicode_Check(type) ? PyUnicode_AsUTF8(type) : "";
-    if (!named) return -1;
+    if (!named) return RAISED;
     bool is_signed = !strcmp(named, "LONG") || !strcmp(named, "LLNG");
     bool is_short = !strcmp(named, "LONG") || !strcmp(named, "ULNG");
     if (!is_signed && !is_short && strcmp(named, "ULLG")) {
         PyErr_Format(PyExc_ValueError, "type is %R, and value is no text", type);
-        return -1;
+        return RAISED;
     }
     PyObject *number;
     if (is_signed && is_short)
-        number = PyObject_CallFunction(py_whole, "sOLL", "value", value, (long long)INT32_MIN, (long long)INT32_MAX);
-    else if (is_signed) number = PyObject_CallFunction(py_whole, "sO", "value", value);
-    else number = PyObject_CallFunction(py_natural, "sOi", "value", value, is_short ? 32 : 64);
-    if (!number) return -1;
+        number = PyObject_CallFunction(own->py_whole, "sOLL", "value", value, (long long)INT32_MIN,
+                                       (long long)INT32_MAX);
+    else if (is_signed) number = PyObject_CallFunction(own->py_whole, "sO", "value", value);
+    else number = PyObject_CallFunction(own->py_natural, "sOi", "value", value, is_short ? 32 : 64);
+    if (!number) return RAISED;
     int64_t whole = is_signed ? PyLong_AsLongLong(number) : 0;
     uint64_t free_of_sign = is_signed ? 0 : PyLong_AsUnsignedLongLong(number);
     Py_DECREF(number);
     lq *handle = &self->handle;
-    if (is_signed && is_short) *status = library.set_int32(handle, node, TEXT(*attr), (int32_t)whole, out);
-    else if (is_signed) *status = library.set_int64(handle, node, TEXT(*attr), whole, out);
-    else if (is_short) *status = library.set_uint32(handle, node, TEXT(*attr), (uint32_t)free_of_sign, out);
-    else *status = library.set_uint64(handle, node, TEXT(*attr), free_of_sign, out);
-    return 0;
+    if (is_signed && is_short) return LOCKED(set_int32(handle, node, TEXT(*attr), (int32_t)whole, out));
+    if (is_signed) return LOCKED(set_int64(handle, node, TEXT(*attr), whole, out));
+    if (is_short) return LOCKED(set_uint32(handle, node, TEXT(*attr), (uint32_t)free_of_sign, out));
+    return LOCKED(set_uint64(handle, node, TEXT(*attr), free_of_sign, out));
 }
 
-/* Sets a text. -1: the type is another, or it is no text for the library, with an exception. */
-static int set_text(Handle *self, uint64_t node, const text_given *attr, PyObject *value, PyObject *type,
-                    lq_applied *out, lq_status *status) {
+/* Sets a text. RAISED: the type is another, or it is no text for the library. */
+static lq_status set_text(Handle *self, uint64_t node, const text_given *attr, PyObject *value, PyObject *type,
+                          lq_applied *out) {
+    const Own *own = self->own;
     if (type != Py_None && (!PyUnicode_Check(type) || PyUnicode_CompareWithASCIIString(type, "CSTR"))) {
         PyErr_Format(PyExc_ValueError, "type is %R, and value is a text", type);
-        return -1;
+        return RAISED;
     }
     text_given text;
-    if (take_text(py_encode, "value", value, &text)) return -1;
-    *status = library.set_text(&self->handle, node, TEXT(*attr), TEXT(text), out);
+    if (take_text(own->py_encode, "value", value, &text)) return RAISED;
+    lq_status status = LOCKED(set_text(&self->handle, node, TEXT(*attr), TEXT(text), out));
     leave_text(&text);
-    return 0;
+    return status;
 }
 
 METHOD(set) {
@@ -391,12 +467,11 @@ METHOD(set) {
     uint64_t node;
     text_given attr;
     lq_applied out;
-    lq_status status = LQ_OK;
-    if (take_natural("node", args[0], &node) || take_text(py_encode_name, "attr", args[1], &attr)) return NULL;
-    int failed = (PyUnicode_Check(args[2]) ? set_text : set_number)(self, node, &attr, args[2], args[3], &out, &status);
+    if (take_natural(own, "node", args[0], &node) || take_text(own->py_encode_name, "attr", args[1], &attr))
+        return NULL;
+    lq_status status = (PyUnicode_Check(args[2]) ? set_text : set_number)(self, node, &attr, args[2], args[3], &out);
     leave_text(&attr);
-    if (failed) return NULL;
-    return status == LQ_OK ? applied(&out) : REFUSED("set");
+    return status == LQ_OK ? applied(own, &out) : REFUSED("set");
 }
 
 METHOD(unset) {
@@ -404,10 +479,11 @@ METHOD(unset) {
     uint64_t node;
     text_given attr;
     lq_applied out;
-    if (take_natural("node", args[0], &node) || take_text(py_encode_name, "attr", args[1], &attr)) return NULL;
-    lq_status status = library.unset(&self->handle, node, TEXT(attr), &out);
+    if (take_natural(own, "node", args[0], &node) || take_text(own->py_encode_name, "attr", args[1], &attr))
+        return NULL;
+    lq_status status = LOCKED(unset(&self->handle, node, TEXT(attr), &out));
     leave_text(&attr);
-    return status == LQ_OK ? applied(&out) : REFUSED("unset");
+    return status == LQ_OK ? applied(own, &out) : REFUSED("unset");
 }
 
 /* ---- lines ---- */
@@ -418,26 +494,31 @@ METHOD(answer) {
     if (PyBytes_Check(args[0])) {
         line.at = PyBytes_AS_STRING(args[0]);
         line.size = PyBytes_GET_SIZE(args[0]);
-    } else if (take_text(py_encode, "line", args[0], &line)) return NULL;
+    } else if (take_text(own->py_encode, "line", args[0], &line)) return NULL;
     size_t size;
-    lq_status status = library.answer(&self->handle, TEXT(line), &size);
+    PyObject *reply = NULL;
+    enter(self);
+    lq_status status = LOCKED(answer(&self->handle, TEXT(line), &size));
+    if (status == LQ_OK) reply = PyBytes_FromStringAndSize(NULL, (Py_ssize_t)size);
+    if (reply) own->text(&self->handle, PyBytes_AS_STRING(reply), size);
+    leave(self);
     leave_text(&line);
-    if (status != LQ_OK) return REFUSED("answer");
-    PyObject *reply = PyBytes_FromStringAndSize(NULL, (Py_ssize_t)size);
-    if (reply) library.text(&self->handle, PyBytes_AS_STRING(reply), size);
-    return reply;
+    return status == LQ_OK ? reply : REFUSED("answer");
 }
 
 METHOD(path) {
     TAKES(1);
     uint64_t node;
     size_t size;
-    if (take_natural("node", args[0], &node)) return NULL;
-    lq_status status = library.path(&self->handle, node, &size);
+    char *room = NULL;
+    if (take_natural(own, "node", args[0], &node)) return NULL;
+    enter(self);
+    lq_status status = LOCKED(path(&self->handle, node, &size));
+    if (status == LQ_OK) room = PyMem_Malloc(size);
+    if (room) own->text(&self->handle, room, size);
+    leave(self);
     if (status != LQ_OK) return REFUSED("path");
-    char *room = PyMem_Malloc(size);
     if (!room) return PyErr_NoMemory();
-    library.text(&self->handle, room, size);
     PyObject *path = text(room, size);
     PyMem_Free(room);
     return path;
@@ -445,31 +526,34 @@ METHOD(path) {
 
 METHOD(changes) {
     TAKES(0);
-    (void)args;
-    return natural(library.changes(&self->handle));
+    enter(self);
+    uint64_t changes = own->changes(&self->handle);
+    leave(self);
+    return natural(changes);
 }
 
 /* ---- results ---- */
 
-static PyObject *entry(const lq_row *it) {
-    return RECORD(py_Entry, natural(it->dir), natural(it->node), text(it->name, it->name_size), kind(it->kind),
-                  natural(it->size), PyLong_FromLongLong(it->time));
+static PyObject *entry(const Own *own, const lq_row *it) {
+    return RECORD(own->py_Entry, natural(it->dir), natural(it->node), text(it->name, it->name_size),
+                  kind(own, it->kind), natural(it->size), PyLong_FromLongLong(it->time));
 }
 
-/* The entries of a result that was just made. */
+/* The entries of a result that was just made, under the same lock. */
 static PyObject *taken(Handle *self, size_t whole, uint64_t result) {
     enum { ROOM = 64 };
+    const Own *own = self->own;
     lq_row rows[ROOM];
     PyObject *list = PyList_New((Py_ssize_t)whole);
     size_t got = 0;
     for (size_t done = 0; list && done < whole; done += got) {
-        lq_status status = library.take(&self->handle, result, rows, ROOM, &got);
+        lq_status status = own->take(&self->handle, result, rows, ROOM, &got);
         if (status != LQ_OK || got == 0 || got > whole - done) {
             PyErr_Format(PyExc_RuntimeError, "the volume was used while it gave a result: %d", (int)status);
             Py_CLEAR(list);
         }
         for (size_t at = 0; list && at < got; at++) {
-            PyObject *made = entry(&rows[at]);
+            PyObject *made = entry(own, &rows[at]);
             if (made) PyList_SET_ITEM(list, (Py_ssize_t)(done + at), made);
             else Py_CLEAR(list);
         }
@@ -477,75 +561,92 @@ static PyObject *taken(Handle *self, size_t whole, uint64_t result) {
     return list;
 }
 
-/* Pushes one item, which the library may refuse. -1: it is none, with an exception. */
-static int push(Handle *self, PyObject *item, lq_status *status) {
+/* Pushes one item, which the library may refuse. RAISED: it is none. */
+static lq_status push(Handle *self, PyObject *item) {
+    const Own *own = self->own;
     lq *handle = &self->handle;
-    if ((PyObject *)Py_TYPE(item) == py_Op) {
-        *status = library.push_op(handle, (uint32_t)PyLong_AsUnsignedLong(item));
-        return 0;
-    }
-    bool is_attr = PyObject_TypeCheck(item, (PyTypeObject *)py_Attr);
+    if ((PyObject *)Py_TYPE(item) == own->py_Op) return own->push_op(handle, (uint32_t)PyLong_AsUnsignedLong(item));
+    bool is_attr = PyObject_TypeCheck(item, (PyTypeObject *)own->py_Attr);
     if (is_attr || PyUnicode_Check(item)) {
         PyObject *given = is_attr ? PyTuple_GET_ITEM(item, 0) : item;
         text_given text;
-        if (take_text(is_attr ? py_encode_name : py_encode, "formula", given, &text)) return -1;
-        *status = (is_attr ? library.push_attr : library.push_text)(handle, TEXT(text));
+        if (take_text(is_attr ? own->py_encode_name : own->py_encode, "formula", given, &text)) return RAISED;
+        lq_status status = (is_attr ? own->push_attr : own->push_text)(handle, TEXT(text));
         leave_text(&text);
-        return 0;
+        return status;
     }
-    PyObject *number = PyObject_CallFunction(py_whole, "sOLK", "formula", item, (long long)INT64_MIN,
+    PyObject *number = PyObject_CallFunction(own->py_whole, "sOLK", "formula", item, (long long)INT64_MIN,
                                              (unsigned long long)UINT64_MAX);
-    if (!number) return -1;
+    if (!number) return RAISED;
     int is_over;
+    lq_status status;
     int64_t whole = PyLong_AsLongLongAndOverflow(number, &is_over);
-    if (is_over) *status = library.push_uint64(handle, PyLong_AsUnsignedLongLong(number));
-    else if (INT32_MIN <= whole && whole <= INT32_MAX) *status = library.push_int32(handle, (int32_t)whole);
-    else if (0 <= whole && whole <= UINT32_MAX) *status = library.push_uint32(handle, (uint32_t)whole);
-    else *status = library.push_int64(handle, whole);
+    if (is_over) status = own->push_uint64(handle, PyLong_AsUnsignedLongLong(number));
+    else if (INT32_MIN <= whole && whole <= INT32_MAX) status = own->push_int32(handle, (int32_t)whole);
+    else if (0 <= whole && whole <= UINT32_MAX) status = own->push_uint32(handle, (uint32_t)whole);
+    else status = own->push_int64(handle, whole);
     Py_DECREF(number);
-    return 0;
+    return status;
 }
 
-/* Pushes each item of a tuple. -1: one doesn't fit; then none stays, and an exception is set. */
-static int push_all(Handle *self, const char *name, PyObject *const *args, Py_ssize_t count) {
-    if (!PyTuple_Check(args[0])) {
-        PyErr_Format(PyExc_TypeError, "formula must be a str or pushes, not %s", Py_TYPE(args[0])->tp_name);
-        return -1;
-    }
-    library.clear_pushed(&self->handle);
-    for (Py_ssize_t at = 0; at < PyTuple_GET_SIZE(args[0]); at++) {
-        lq_status status = LQ_OK;
-        if (push(self, PyTuple_GET_ITEM(args[0], at), &status) == 0 && status == LQ_OK) continue;
-        if (!PyErr_Occurred()) refused(self, status, name, args, count);
-        library.clear_pushed(&self->handle);
-        return -1;
-    }
-    return 0;
+/* Pushes each item of a tuple, under the lock. Where one doesn't fit none stays; `place` is how many came before it. */
+static lq_status push_all(Handle *self, PyObject *pushes, uint64_t *place) {
+    const Own *own = self->own;
+    lq_status status = LQ_OK;
+    own->clear_pushed(&self->handle);
+    for (Py_ssize_t at = 0; status == LQ_OK && at < PyTuple_GET_SIZE(pushes); at++)
+        status = push(self, PyTuple_GET_ITEM(pushes, at));
+    if (status == LQ_OK) return LQ_OK;
+    *place = own->fault_place(&self->handle);
+    own->clear_pushed(&self->handle);
+    return status;
+}
+
+/* A formula: a text, or a tuple of pushes. -1: it is neither, with an exception. */
+static int take_formula(const Own *own, PyObject *given, text_given *out) {
+    *out = (text_given){NULL, 0, NULL};
+    if (PyUnicode_Check(given)) return take_text(own->py_encode, "formula", given, out);
+    if (PyTuple_Check(given)) return 0;
+    PyErr_Format(PyExc_TypeError, "formula must be a str or pushes, not %s", Py_TYPE(given)->tp_name);
+    return -1;
 }
 
 METHOD(fetch) {
     TAKES(1);
     lq_fetched out;
-    lq_status status;
-    if (PyUnicode_Check(args[0])) {
-        text_given formula;
-        if (take_text(py_encode, "formula", args[0], &formula)) return NULL;
-        status = library.fetch(&self->handle, TEXT(formula), &out);
-        leave_text(&formula);
-    } else {
-        if (push_all(self, "fetch", args, 1)) return NULL;
-        status = library.fetch_pushed(&self->handle, &out);
+    text_given formula;
+    lq_status status = CLOSED;
+    uint64_t place = 0;
+    PyObject *entries = NULL;
+    if (take_formula(own, args[0], &formula)) return NULL;
+    enter(self);
+    if (self->is_open && formula.at) {
+        status = own->fetch(&self->handle, TEXT(formula), &out);
+        place = own->fault_place(&self->handle);
+    } else if (self->is_open) {
+        status = push_all(self, args[0], &place);
+        if (status == LQ_OK) {
+            status = own->fetch_pushed(&self->handle, &out);
+            place = own->fault_place(&self->handle);
+        }
     }
-    return status == LQ_OK ? taken(self, out.count, out.result) : REFUSED("fetch");
+    if (status == LQ_OK) entries = taken(self, out.count, out.result);
+    leave(self);
+    leave_text(&formula);
+    return status == LQ_OK ? entries : refused_at(self, status, place, "fetch", args, count);
 }
 
 METHOD(children) {
     TAKES(1);
     uint64_t dir;
     lq_listing out;
-    if (take_natural("dir", args[0], &dir)) return NULL;
-    lq_status status = library.children(&self->handle, dir, &out);
-    return status == LQ_OK ? taken(self, out.count, out.result) : REFUSED("children");
+    PyObject *entries = NULL;
+    if (take_natural(own, "dir", args[0], &dir)) return NULL;
+    enter(self);
+    lq_status status = LOCKED(children(&self->handle, dir, &out));
+    if (status == LQ_OK) entries = taken(self, out.count, out.result);
+    leave(self);
+    return status == LQ_OK ? entries : REFUSED("children");
 }
 
 /* ---- looks ---- */
@@ -554,10 +655,11 @@ static PyObject *found(Handle *self, bool is_path, PyObject *const *args, Py_ssi
     TAKES(2);
     uint64_t dir, node;
     text_given name;
-    if (take_natural("dir", args[1], &dir) ||
-        take_text(py_encode_name, is_path ? "path" : "name", args[0], &name))
+    if (take_natural(own, "dir", args[1], &dir) ||
+        take_text(own->py_encode_name, is_path ? "path" : "name", args[0], &name))
         return NULL;
-    lq_status status = (is_path ? library.find_path : library.find)(&self->handle, dir, TEXT(name), &node);
+    lq_status status = is_path ? LOCKED(find_path(&self->handle, dir, TEXT(name), &node))
+                               : LOCKED(find(&self->handle, dir, TEXT(name), &node));
     leave_text(&name);
     return status == LQ_OK ? natural(node) : REFUSED(is_path ? "find_path" : "find");
 }
@@ -570,11 +672,11 @@ METHOD(find_path) {
     return found(self, true, args, count);
 }
 
-static PyObject *attribute(const lq_attr *it) {
+static PyObject *attribute(const Own *own, const lq_attr *it) {
     char type[4];
     for (int at = 0; at < 4; at++) type[at] = (char)(it->type >> (24 - 8 * at));
     bool is_signed = it->type == LQ_INT32 || it->type == LQ_INT64;
-    return RECORD(py_Attribute, text(it->name, it->name_size), text(type, sizeof type),
+    return RECORD(own->py_Attribute, text(it->name, it->name_size), text(type, sizeof type),
                   it->type == LQ_TEXT ? text(it->text, it->text_size)
                   : is_signed         ? PyLong_FromLongLong(it->whole)
                                       : natural(it->natural));
@@ -585,18 +687,21 @@ METHOD(entry) {
     uint64_t node;
     lq_info it;
     lq_attr attr;
-    if (take_natural("node", args[0], &node)) return NULL;
-    lq_status status = library.entry(&self->handle, node, &it);
-    if (status != LQ_OK) return REFUSED("entry");
-    PyObject *attributes = PyList_New((Py_ssize_t)it.attr_count);
+    PyObject *attributes = NULL;
+    if (take_natural(own, "node", args[0], &node)) return NULL;
+    enter(self);
+    lq_status status = LOCKED(entry(&self->handle, node, &it));
+    if (status == LQ_OK) attributes = PyList_New((Py_ssize_t)it.attr_count);
     for (size_t at = 0; attributes && at < it.attr_count; at++) {
-        status = library.attr_at(&self->handle, node, at, &attr);
-        PyObject *made = status == LQ_OK ? attribute(&attr) : REFUSED("entry");
+        status = own->attr_at(&self->handle, node, at, &attr);
+        PyObject *made = status == LQ_OK ? attribute(own, &attr) : NULL;
         if (made) PyList_SET_ITEM(attributes, (Py_ssize_t)at, made);
         else Py_CLEAR(attributes);
     }
+    leave(self);
+    if (status != LQ_OK) return REFUSED("entry");
     if (!attributes) return NULL;
-    return RECORD(py_Info, natural(it.dir), natural(it.node), text(it.name, it.name_size), kind(it.kind),
+    return RECORD(own->py_Info, natural(it.dir), natural(it.node), text(it.name, it.name_size), kind(own, it.kind),
                   natural(it.size), PyLong_FromLongLong(it.time), attributes);
 }
 
@@ -605,10 +710,11 @@ METHOD(attribute) {
     uint64_t node;
     text_given name;
     lq_attr out;
-    if (take_natural("node", args[0], &node) || take_text(py_encode_name, "name", args[1], &name)) return NULL;
-    lq_status status = library.attr_named(&self->handle, node, TEXT(name), &out);
+    if (take_natural(own, "node", args[0], &node) || take_text(own->py_encode_name, "name", args[1], &name))
+        return NULL;
+    lq_status status = LOCKED(attr_named(&self->handle, node, TEXT(name), &out));
     leave_text(&name);
-    return status == LQ_OK ? attribute(&out) : REFUSED("attribute");
+    return status == LQ_OK ? attribute(own, &out) : REFUSED("attribute");
 }
 
 /* ---- live queries ---- */
@@ -617,99 +723,180 @@ METHOD(open) {
     TAKES(3);
     lq_options options = LQ_OPTIONS_INIT;
     lq_opening out;
-    lq_status status;
+    text_given formula;
+    lq_status status = CLOSED;
+    uint64_t place = 0;
+    PyObject *entries = NULL;
     int moved = PyObject_IsTrue(args[2]);
-    if (moved < 0 || take_natural("backlog", args[1], &options.backlog)) return NULL;
+    if (moved < 0 || take_natural(own, "backlog", args[1], &options.backlog) ||
+        take_formula(own, args[0], &formula))
+        return NULL;
     options.moved = moved;
     options.no_result = true; /* a Query keeps rows of its own */
-    if (PyUnicode_Check(args[0])) {
-        text_given formula;
-        if (take_text(py_encode, "formula", args[0], &formula)) return NULL;
-        status = library.open(&self->handle, TEXT(formula), &options, &out);
-        leave_text(&formula);
-    } else {
-        if (push_all(self, "open", args, 1)) return NULL;
-        status = library.open_pushed(&self->handle, &options, &out);
+    enter(self);
+    if (self->is_open && formula.at) {
+        status = own->open(&self->handle, TEXT(formula), &options, &out);
+        place = own->fault_place(&self->handle);
+    } else if (self->is_open) {
+        status = push_all(self, args[0], &place);
+        if (status == LQ_OK) {
+            status = own->open_pushed(&self->handle, &options, &out);
+            place = own->fault_place(&self->handle);
+        }
     }
-    if (status != LQ_OK) return REFUSED("open");
-    PyObject *entries = taken(self, out.count, out.result);
-    if (!entries) {
-        library.drop(&self->handle, out.slot);
-        return NULL;
-    }
+    if (status == LQ_OK) entries = taken(self, out.count, out.result);
+    if (status == LQ_OK && !entries) own->drop(&self->handle, out.slot);
+    leave(self);
+    leave_text(&formula);
+    if (status != LQ_OK) return refused_at(self, status, place, "open", args, count);
+    if (!entries) return NULL;
     return Py_BuildValue("KKN", (unsigned long long)out.slot, (unsigned long long)out.at, entries);
 }
 
-static PyObject *message(const lq_message *it) {
-    bool is_moved = it->op == LQ_ENTRY_MOVED;
-    return RECORD(py_Message, natural(it->seq), natural(it->change), PyBool_FromLong(it->last), same(opcodes[it->op]),
-                  natural(it->dir), natural(it->node), text(it->name, it->name_size),
-                  is_moved ? natural(it->from_dir) : same(Py_None),
-                  is_moved ? text(it->from_name, it->from_name_size) : same(Py_None));
-}
-
-/* Puts a message under its node, or takes the node out. */
-static int follow(PyObject *placed, uint32_t op, PyObject *message) {
-    enum { NODE = 5 };
-    PyObject *node = PyTuple_GET_ITEM(message, NODE);
-    if (op != LQ_ENTRY_REMOVED) return PyDict_SetItem(placed, node, message);
-    if (PyDict_DelItem(placed, node) == 0) return 0;
-    if (PyErr_ExceptionMatches(PyExc_KeyError)) PyErr_Clear();
-    return PyErr_Occurred() ? -1 : 0;
-}
-
-METHOD(read) {
-    TAKES(2);
-    uint64_t slot;
-    lq_message out;
-    if (take_natural("slot", args[0], &slot)) return NULL;
-    if (!PyDict_Check(args[1])) return PyErr_SetString(PyExc_TypeError, "no dict of messages by node"), NULL;
-    lq_status status = library.read(&self->handle, slot, &out);
-    if (status != LQ_OK) return refused(self, status, "read", args, 1);
-    if (out.what == LQ_UPDATE) {
-        PyObject *made = message(&out);
-        if (made && follow(args[1], out.op, made)) Py_CLEAR(made);
-        return made;
-    }
-    if (out.what != LQ_END) Py_RETURN_NONE;
-    return RECORD(py_Mark, natural(out.seq), natural(out.change), same(causes[out.cause]));
-}
-
 /* A call of a slot that gives nothing. */
-static PyObject *of_slot(Handle *self, lq_status (*call)(lq *, uint64_t), const char *name, PyObject *const *args,
-                         Py_ssize_t count) {
-    TAKES(1);
-    uint64_t slot;
-    if (take_natural("slot", args[0], &slot)) return NULL;
-    lq_status status = call(&self->handle, slot);
-    if (status != LQ_OK) return REFUSED(name);
-    Py_RETURN_NONE;
-}
-
-METHOD(hang_up) {
-    return of_slot(self, library.hang_up, "hang_up", args, count);
-}
-
-METHOD(finish) {
-    return of_slot(self, library.finish, "finish", args, count);
-}
-
-METHOD(drop) {
-    return of_slot(self, library.drop, "drop", args, count);
-}
+#define OF_SLOT(name) \
+    METHOD(name) { \
+        TAKES(1); \
+        uint64_t slot; \
+        if (take_natural(own, "slot", args[0], &slot)) return NULL; \
+        lq_status status = LOCKED(name(&self->handle, slot)); \
+        if (status != LQ_OK) return REFUSED(#name); \
+        Py_RETURN_NONE; \
+    }
+OF_SLOT(hang_up)
+OF_SLOT(finish)
+OF_SLOT(drop)
 
 METHOD(close) {
     TAKES(1);
     uint64_t slot, change;
-    if (take_natural("slot", args[0], &slot)) return NULL;
-    lq_status status = library.close(&self->handle, slot, &change);
+    if (take_natural(own, "slot", args[0], &slot)) return NULL;
+    lq_status status = LOCKED(close(&self->handle, slot, &change));
     return status == LQ_OK ? natural(change) : REFUSED("close");
 }
 
 METHOD(ready) {
     TAKES(0);
-    (void)args;
-    return natural(library.ready(&self->handle));
+    enter(self);
+    uint64_t ready = own->ready(&self->handle);
+    leave(self);
+    return natural(ready);
+}
+
+/* ---- readers ---- */
+
+/* What a query is read by, and a Query is one: `slot` is None where it has none, `mark` where its end wasn't read.
+   Under the nodes of the result stand `placed`, what says where an entry is, and `rows`, those that were asked for. */
+typedef struct {
+    PyObject_HEAD
+    Handle *handle;
+    PyObject *slot, *mark, *latest, *placed, *rows;
+} Reader;
+
+static int Reader_traverse(Reader *self, visitproc visit, void *arg) {
+    Py_VISIT(Py_TYPE(self));
+    Py_VISIT(self->handle);
+    Py_VISIT(self->slot);
+    Py_VISIT(self->mark);
+    Py_VISIT(self->latest);
+    Py_VISIT(self->placed);
+    Py_VISIT(self->rows);
+    return 0;
+}
+
+static int Reader_clear(Reader *self) {
+    Py_CLEAR(self->handle);
+    Py_CLEAR(self->slot);
+    Py_CLEAR(self->mark);
+    Py_CLEAR(self->latest);
+    Py_CLEAR(self->placed);
+    Py_CLEAR(self->rows);
+    return 0;
+}
+
+static void Reader_dealloc(Reader *self) {
+    PyTypeObject *type = Py_TYPE(self);
+    PyObject_GC_UnTrack(self);
+    Reader_clear(self);
+    type->tp_free((PyObject *)self);
+    Py_DECREF(type);
+}
+
+/* Begins to read by a handle, in a slot that was opened: its number, and the dicts `placed` and `rows`. */
+static PyObject *Reader_begin(Reader *self, PyObject *const *args, Py_ssize_t count) {
+    if (count != 4 || Py_TYPE(args[0])->tp_dealloc != (destructor)Handle_dealloc || !PyDict_Check(args[2]) ||
+        !PyDict_Check(args[3]))
+        return PyErr_SetString(PyExc_TypeError, "no handle, slot and dicts"), NULL;
+    PyObject **fields[] = {(PyObject **)&self->handle, &self->slot, &self->placed, &self->rows};
+    for (int at = 0; at < 4; at++) {
+        PyObject *old = *fields[at];
+        *fields[at] = same(args[at]);
+        Py_XDECREF(old);
+    }
+    Py_CLEAR(self->mark);
+    Py_CLEAR(self->latest);
+    Py_RETURN_NONE;
+}
+
+static PyObject *message(const Own *own, const lq_message *it) {
+    bool is_moved = it->op == LQ_ENTRY_MOVED;
+    return RECORD(own->py_Message, natural(it->seq), natural(it->change), PyBool_FromLong(it->last),
+                  same(own->opcodes[it->op]), natural(it->dir), natural(it->node), text(it->name, it->name_size),
+                  is_moved ? natural(it->from_dir) : same(Py_None),
+                  is_moved ? text(it->from_name, it->from_name_size) : same(Py_None));
+}
+
+/* Takes a node out of the dicts. Its row, if it has one, keeps the place that it had. */
+static int leave_result(Reader *self, PyObject *node) {
+    PyObject *placed = PyDict_GetItemWithError(self->placed, node);
+    if (!placed) return PyErr_Occurred() ? -1 : 0;
+    PyObject *row = PyDict_GET_SIZE(self->rows) > 0 ? PyDict_GetItemWithError(self->rows, node) : NULL;
+    if (!row && PyErr_Occurred()) return -1;
+    if (row && (PyObject_SetAttrString(row, "_placed", placed) || PyDict_DelItem(self->rows, node))) return -1;
+    return PyDict_DelItem(self->placed, node);
+}
+
+/* The next message, under the lock. Null without an exception: none waits, or the end was read, and `mark` is there. */
+static PyObject *read_next(Reader *self) {
+    enum { NODE = 5 };
+    Handle *handle = self->handle;
+    const Own *own = handle->own;
+    uint64_t slot;
+    lq_message out;
+    if (take_natural(own, "slot", self->slot, &slot)) return NULL;
+    lq_status status = handle->is_open ? own->read(&handle->handle, slot, &out) : CLOSED;
+    if (status != LQ_OK) return refused_at(handle, status, 0, "read", &self->slot, 1);
+    if (out.what == LQ_END) {
+        PyObject *mark = RECORD(own->py_Mark, natural(out.seq), natural(out.change), same(own->causes[out.cause]));
+        if (mark) Py_XSETREF(self->mark, mark);
+    }
+    if (out.what != LQ_UPDATE) return NULL;
+    PyObject *made = message(own, &out);
+    if (!made) return NULL;
+    PyObject *node = PyTuple_GET_ITEM(made, NODE);
+    int failed = out.op == LQ_ENTRY_REMOVED ? leave_result(self, node) : PyDict_SetItem(self->placed, node, made);
+    if (failed) Py_CLEAR(made);
+    else Py_XSETREF(self->latest, same(made));
+    return made;
+}
+
+static bool is_there(PyObject *field) {
+    return field && field != Py_None;
+}
+
+/* One step of the iteration. After the end `_ended` says whether it stops or raises. */
+static PyObject *Reader_next(Reader *self) {
+    PyObject *made = NULL, *mark = NULL;
+    Handle *handle = self->handle;
+    if (handle) enter(handle);
+    if (!handle || !is_there(self->slot)) PyErr_SetString(PyExc_ValueError, "the query was dropped or finished");
+    else {
+        if (!is_there(self->mark)) made = read_next(self);
+        if (!made && !PyErr_Occurred() && is_there(self->mark)) mark = same(self->mark);
+    }
+    if (handle) leave(handle);
+    if (mark) Py_XDECREF(PyObject_CallMethod((PyObject *)self, "_ended", "(N)", mark));
+    return made;
 }
 
 /* ---- the module ---- */
@@ -719,32 +906,95 @@ METHOD(ready) {
 static PyMethodDef handle_methods[] = {
     {"free", (PyCFunction)Handle_free, METH_NOARGS, NULL},
     {"is_open", (PyCFunction)Handle_is_open, METH_NOARGS, NULL},
-    FAST(create) FAST(remove) FAST(move) FAST(write) FAST(set) FAST(unset) FAST(answer) FAST(path) FAST(changes)
-    FAST(fetch) FAST(children) FAST(find) FAST(find_path) FAST(entry) FAST(attribute) FAST(open) FAST(read)
+    {"release", (PyCFunction)Handle_release, METH_NOARGS, NULL},
+    {"__enter__", (PyCFunction)Handle_enter, METH_NOARGS, NULL},
+    {"__exit__", (PyCFunction)(void (*)(void))Handle_exit, METH_FASTCALL, NULL},
+    FAST(acquire) FAST(create) FAST(remove) FAST(move) FAST(write) FAST(set) FAST(unset) FAST(answer) FAST(path)
+    FAST(changes) FAST(fetch) FAST(children) FAST(find) FAST(find_path) FAST(entry) FAST(attribute) FAST(open)
     FAST(hang_up) FAST(finish) FAST(drop) FAST(close) FAST(ready)
     {NULL, NULL, 0, NULL}
 };
 
-static PyTypeObject handle_type = {
-    PyVarObject_HEAD_INIT(NULL, 0)
-    .tp_name = "yazgoulm._native.Handle",
-    .tp_basicsize = sizeof(Handle),
-    .tp_flags = Py_TPFLAGS_DEFAULT,
-    .tp_doc = "A handle of the library. Each call takes its lock.",
-    .tp_new = Handle_new,
-    .tp_dealloc = (destructor)Handle_dealloc,
-    .tp_methods = handle_methods,
+static PyGetSetDef handle_fields[] = {{"lock", (getter)Handle_lock, NULL, NULL, NULL}, {NULL, NULL, NULL, NULL, NULL}};
+
+static PyType_Slot handle_slots[] = {
+    {Py_tp_doc, (void *)"A handle of the library. Each call takes its lock."},
+    {Py_tp_new, Handle_new},
+    {Py_tp_dealloc, Handle_dealloc},
+    {Py_tp_methods, handle_methods},
+    {Py_tp_getset, handle_fields},
+    {0, NULL},
 };
+
+static PyType_Spec handle_spec = {"yazgoulm._native.Handle", sizeof(Handle), 0, Py_TPFLAGS_DEFAULT, handle_slots};
+
+static PyMethodDef reader_methods[] = {
+    {"_begin", (PyCFunction)(void (*)(void))Reader_begin, METH_FASTCALL, NULL},
+    {NULL, NULL, 0, NULL},
+};
+
+static PyMemberDef reader_fields[] = {
+    {"slot", T_OBJECT, offsetof(Reader, slot), 0, NULL},
+    {"mark", T_OBJECT, offsetof(Reader, mark), 0, NULL},
+    {"_latest", T_OBJECT, offsetof(Reader, latest), 0, NULL},
+    {NULL, 0, 0, 0, NULL},
+};
+
+static PyType_Slot reader_slots[] = {
+    {Py_tp_doc, (void *)"What a query is read by."},
+    {Py_tp_traverse, Reader_traverse},
+    {Py_tp_clear, Reader_clear},
+    {Py_tp_dealloc, Reader_dealloc},
+    {Py_tp_iter, PyObject_SelfIter},
+    {Py_tp_iternext, Reader_next},
+    {Py_tp_methods, reader_methods},
+    {Py_tp_members, reader_fields},
+    {0, NULL},
+};
+
+static PyType_Spec reader_spec = {
+    "yazgoulm._native.Reader", sizeof(Reader), 0, Py_TPFLAGS_DEFAULT | Py_TPFLAGS_BASETYPE | Py_TPFLAGS_HAVE_GC,
+    reader_slots,
+};
+
+static void free_owner(PyObject *owner) {
+    free_own(PyCapsule_GetPointer(owner, OWN));
+}
+
+/* The types of handles and of readers for a path of the library, and for the modules of _arguments.py and _types.py. */
+static PyObject *load(PyObject *Py_UNUSED(module), PyObject *args) {
+    const char *path;
+    PyObject *arguments, *types;
+    if (!PyArg_ParseTuple(args, "sOO", &path, &arguments, &types)) return NULL;
+    Own *own = PyMem_Calloc(1, sizeof *own);
+    if (!own) return PyErr_NoMemory();
+    PyObject *owner = fill_own(own, path, arguments, types) ? NULL : PyCapsule_New(own, OWN, free_owner);
+    if (!owner) {
+        free_own(own);
+        return NULL;
+    }
+    PyObject *handle = PyType_FromSpec(&handle_spec), *reader = PyType_FromSpec(&reader_spec), *both = NULL;
+    if (handle && reader && PyObject_SetAttrString(handle, OWN, owner) == 0) both = PyTuple_Pack(2, handle, reader);
+    Py_XDECREF(handle);
+    Py_XDECREF(reader);
+    Py_DECREF(owner);
+    return both;
+}
 
 static PyMethodDef module_methods[] = {{"load", load, METH_VARARGS, NULL}, {NULL, NULL, 0, NULL}};
 
+/* Nothing here is written after it is compiled, so each interpreter may have the module, with a lock of its own. */
+static PyModuleDef_Slot module_slots[] = {
+#if PY_VERSION_HEX >= 0x030C0000
+    {Py_mod_multiple_interpreters, Py_MOD_PER_INTERPRETER_GIL_SUPPORTED},
+#endif
+    {0, NULL},
+};
+
 static struct PyModuleDef module = {
-    PyModuleDef_HEAD_INIT, .m_name = "yazgoulm._native", .m_size = -1, .m_methods = module_methods,
+    PyModuleDef_HEAD_INIT, .m_name = "yazgoulm._native", .m_methods = module_methods, .m_slots = module_slots,
 };
 
 PyMODINIT_FUNC PyInit__native(void) {
-    if (PyType_Ready(&handle_type)) return NULL;
-    PyObject *made = PyModule_Create(&module);
-    if (made && PyModule_AddObject(made, "Handle", same((PyObject *)&handle_type))) Py_CLEAR(made);
-    return made;
+    return PyModuleDef_Init(&module);
 }

@@ -1,16 +1,19 @@
 """Volumes, their queries, and the rows of a query."""
 import os, threading, weakref
-from typing import Any, Callable, Dict, Iterator, List, Mapping, Optional, Tuple, Union
+from typing import Any, Callable, Dict, ItemsView, Iterator, List, Mapping, Optional, Tuple, Union, ValuesView
 
 from . import _arguments
 from ._library import Handle
+from ._library import Reader as _Reader
 from ._types import (
-    B_ENTRY_REMOVED, FILE, ROOT, Applied, Attribute, Cause, Difference, Entry, Formula, Info, Mark, Message, NotFound,
-    Overrun, Place, Refused, Result,
+    FILE, ROOT, Applied, Attribute, Cause, Difference, Entry, Formula, Info, Mark, Message, NotFound, Overrun, Place,
+    Refused, Result,
 )  # fmt: skip
 
 # A name of an entry: a str, or the name of a file on disk as bytes or as a path.
 Name = Union[str, bytes, "os.PathLike[Any]"]
+_NOT_OPEN = 25  # the refusal of what only a query that hasn't ended can do
+_IN_A_ROW = 100  # messages of an `async for`, after which the loop has a turn
 
 
 def _no_copy(self: Any, _protocol: int) -> Any:
@@ -20,21 +23,25 @@ def _no_copy(self: Any, _protocol: int) -> Any:
 class Volume:
     """A tree of folders, files and typed attributes, and the live queries on it. It begins with the root, node 1.
 
-    Each call takes a lock, so a volume and its queries can be used on any thread. As a context manager the volume is
-    closed at the end; once it is, each call but `close` raises ValueError.
+    A volume, its queries and their rows can be used on any thread: a call holds the volume's lock, so none sees another
+    one half done. After a fork the child has a volume of its own, with all that this one held. As a context manager the
+    volume is closed at the end; once it is, each call but `close` raises ValueError.
 
     `wake`, if it is set, is called without arguments after each change, line, `close` and `hang_up` after which a query
-    has something to read, on the thread of that call: there an event loop can be told to read. What it raises, the
-    call raises."""
+    has something to read, on the thread of that call, once the lock is free: there an event loop can be told to read.
+    What it raises, the call raises."""
 
     def __init__(self) -> None:
-        self._handle = Handle()  # which has a lock for its calls
-        self._lock = threading.RLock()  # for what stands below
+        self._handle = Handle()
+        self._lock = self._handle.lock  # of the volume, its queries and their rows; `with` may take it again
         self._queries: Dict[int, "weakref.ref[Query]"] = {}
         self._forgotten: List[int] = []  # slots of queries that nobody has any more
-        self._waiting: List[Tuple["Query", Any, Any]] = []  # a query, and the loop and future of who awaits it
+        self._waiting: Dict[Any, Tuple["Query", Any]] = {}  # under the future of who awaits a query, with its loop
         self._wake: Optional[Callable[[], Any]] = None
         self._is_due = False  # whether there is something to do after a turn
+        self._of_parent: Any = None  # after a fork: who awaits a query in the process that this one comes from
+        with _FORKS.lock:
+            _FORKS.volumes.add(self)
 
     def close(self) -> None:
         """Frees the volume and its queries. It may be called again."""
@@ -68,15 +75,20 @@ class Volume:
     def _turned(self) -> None:
         """What is due after a turn: frees the slots that nobody has any more, and wakes who waits for messages."""
         with self._lock:
+            self._is_due = False  # before what follows is looked at: a query may be forgotten at any moment
             self._free_forgotten()
             ready = self._handle.ready() if self._handle.is_open() else 0
-            woken = [it for it in self._waiting if it[0]._is_ready(ready)]
-            self._waiting = [it for it in self._waiting if it not in woken]
+            woken = [(loop, future) for future, (query, loop) in self._waiting.items() if query._is_ready(ready)]
+            for _, future in woken:
+                del self._waiting[future]
             wake = self._wake if ready else None
-            self._is_due = bool(self._waiting or self._wake or self._forgotten)
-        for _, loop, future in woken:
-            if not loop.is_closed():
+            if self._waiting or self._wake or self._forgotten:
+                self._is_due = True
+        for loop, future in woken:
+            try:
                 loop.call_soon_threadsafe(_settle, future)
+            except RuntimeError:
+                pass  # the loop was closed
         if wake is not None:
             wake()
 
@@ -159,7 +171,7 @@ class Volume:
         """The queries that have a message, or their mark, to be read."""
         with self._lock:
             bits, found = self._handle.ready(), []
-            for slot, query in self._queries.items():
+            for slot, query in [*self._queries.items()] if bits else ():
                 it = query() if bits >> (slot - 1) & 1 else None
                 if it is not None:
                     found.append(it)
@@ -174,7 +186,7 @@ class Volume:
         return self._handle.find(name, dir)
 
     def find_path(self, path: Name, dir: int = ROOT) -> int:
-        """The node at the end of a path from a folder: names with `/` between them."""
+        """The node at the end of a path from a folder: names with `/` between them, 65,536 bytes at most."""
         return self._handle.find_path(path, dir)
 
     def entry(self, node: int) -> Info:
@@ -199,6 +211,57 @@ def _settle(future: Any) -> None:
         future.set_result(None)
 
 
+class _Forks:
+    """Holds the lock of each volume during a fork: so no other thread is within a call, and the child has locks that
+    are free and volumes that are whole. Whoever awaits a query does so in the parent alone."""
+
+    def __init__(self) -> None:
+        self.lock = threading.RLock()  # of the volumes that there are
+        self.volumes: "weakref.WeakSet[Volume]" = weakref.WeakSet()
+        self.held: List[Any] = []
+        if hasattr(os, "register_at_fork"):
+            os.register_at_fork(before=self.before, after_in_parent=self.after, after_in_child=self.after_in_child)
+
+    def before(self) -> None:
+        """Takes all locks. While it waits for one it has no other, so that who has that one may take others."""
+        busy: Any = self.lock
+        while busy is not None:
+            busy.acquire()
+            held = [busy]
+            busy = self.take(held)
+            if busy is not None:
+                _release(held)
+        self.held = held
+
+    def take(self, held: List[Any]) -> Any:
+        """Takes the locks that are free. Returns one that another thread has, or None."""
+        if not self.lock.acquire(False):
+            return self.lock
+        held.append(self.lock)
+        for volume in self.volumes:
+            if not volume._lock.acquire(False):
+                return volume._lock
+            held.append(volume._lock)
+        return None
+
+    def after(self) -> None:
+        held, self.held = self.held, []  # first: another thread may fork once the last one is free
+        _release(held)
+
+    def after_in_child(self) -> None:
+        for volume in self.volumes:
+            volume._of_parent, volume._waiting = volume._waiting, {}
+        self.after()
+
+
+def _release(locks: List[Any]) -> None:
+    for lock in locks:
+        lock.release()
+
+
+_FORKS = _Forks()
+
+
 # What says where an entry is: what an opening gave, or the latest message of it.
 _Placed = Union[Place, Entry, Message]
 
@@ -221,8 +284,8 @@ class Row:
     @property
     def place(self) -> Place:
         """Its folder's node, its node and its name; the last ones, once it has left the result."""
-        self._placed = self._rows._placed.get(self.node, self._placed)
-        return _place(self._placed)
+        placed = self._rows._placed.get(self.node)
+        return _place(self._placed if placed is None else placed)  # it was given the last one before it left
 
     @property
     def name(self) -> str:
@@ -239,12 +302,14 @@ class Row:
 
     def refresh(self) -> bool:
         """Looks the entry up again. True where `info` is another now; an entry that has gone keeps its last one."""
-        old = self._info
-        try:
-            self._info = self._rows._volume.entry(self.node)
-        except NotFound:
-            return False
-        return self._info != old
+        volume = self._rows._volume
+        with volume._lock:
+            old = self._info
+            try:
+                self._info = volume._handle.entry(self.node)
+            except NotFound:
+                return False
+            return self._info != old
 
     __reduce_ex__ = _no_copy
 
@@ -253,50 +318,83 @@ class Row:
 
 
 class Rows(Mapping[int, Row]):
-    """The rows of a query by their nodes. A row stays the same object while its entry is in the result."""
+    """The rows of a query by their nodes. A row stays the same object while its entry is in the result. An iteration
+    goes over those that are there when it begins, and messages may be read meanwhile."""
 
     def __init__(self, volume: Volume) -> None:
         self._volume = volume
-        self._placed: Dict[int, _Placed] = {}  # which a read keeps
+        self._placed: Dict[int, _Placed] = {}  # which a read keeps, as it does the next
         self._rows: Dict[int, Row] = {}  # those that were asked for
 
     def __getitem__(self, node: int) -> Row:
         row = self._rows.get(node)
         if row is None:
-            row = self._rows[node] = Row(self, node)
+            with self._volume._lock:
+                row = self._rows.get(node)
+                if row is None:
+                    row = self._rows[node] = Row(self, node)
         return row
 
     def __contains__(self, node: object) -> bool:
         return node in self._placed
 
     def __iter__(self) -> Iterator[int]:
-        return iter(self._placed)
+        with self._volume._lock:
+            return iter([*self._placed])
 
     def __len__(self) -> int:
         return len(self._placed)
+
+    def items(self) -> ItemsView[int, Row]:
+        """The nodes and their rows."""
+        return _Items(self)
+
+    def values(self) -> ValuesView[Row]:
+        """The rows."""
+        return _Values(self)
 
     __reduce_ex__ = _no_copy
 
     def __repr__(self) -> str:
         return f"<Rows of {len(self)} entries>"
 
-    def _begin(self, entries: List[Entry]) -> Difference:
-        """Has these entries alone. Returns how they differ from those before; rows of entries in both stay."""
-        old, new = self._placed, {it.node: it for it in entries}
-        self._placed = new
-        self._rows = {node: row for node, row in self._rows.items() if node in new}
-        both = [(_place(old[node]), _place(it)) for node, it in new.items() if node in old]
-        return Difference(
-            [_place(old[node]) for node in sorted(old.keys() - new.keys())],
-            [_place(it) for node, it in new.items() if node not in old],
-            [it for it in both if it[0] != it[1]],
-        )
+    def _all(self) -> List[Row]:
+        with self._volume._lock:
+            return [self[node] for node in self._placed]
+
+    def _begin(self, placed: Dict[int, _Placed]) -> None:
+        """Has these entries alone. Rows of those that it had stay."""
+        for node, row in self._rows.items():
+            if node not in placed:
+                row._placed = self._placed[node]
+        self._rows = {node: row for node, row in self._rows.items() if node in placed}
+        self._placed = placed
 
     def _in_order(self) -> List[Place]:
         return [_place(self._placed[node]) for node in sorted(self._placed)]
 
 
-class Query:
+class _Items(ItemsView[int, Row]):
+    def __iter__(self) -> Iterator[Tuple[int, Row]]:
+        return iter([(row.node, row) for row in self._mapping._all()])  # type: ignore[attr-defined]
+
+
+class _Values(ValuesView[Row]):
+    def __iter__(self) -> Iterator[Row]:
+        return iter(self._mapping._all())  # type: ignore[attr-defined]
+
+
+def _difference(old: Dict[int, _Placed], new: Dict[int, _Placed]) -> Difference:
+    """How two results differ, by rising node, which is the order of the new one."""
+    both = [(_place(old[node]), _place(it)) for node, it in new.items() if node in old]
+    return Difference(
+        [_place(old[node]) for node in sorted(old.keys() - new.keys())],
+        [_place(it) for node, it in new.items() if node not in old],
+        [it for it in both if it[0] != it[1]],
+    )
+
+
+class Query(_Reader):  # type: ignore[misc]
     """A live query of a volume. `entries` is its result at the opening, `at` the number of changes then, `slot` its
     number, and `rows` its result by the messages read so far.
 
@@ -308,87 +406,90 @@ class Query:
     As a context manager it is dropped at the end; a query that nobody has any more is dropped too."""
 
     def __init__(self, volume: Volume, formula: Formula, backlog: int, moved: bool, on_overrun: str) -> None:
-        self.slot: Optional[int] = None
         if on_overrun not in ("raise", "mark"):
             raise ValueError(f'on_overrun must be "raise" or "mark", not {on_overrun!r}')
         self._volume, self._moved, self._on_overrun = volume, moved, on_overrun
         self._backlog = _arguments.whole("backlog", backlog, 1, 65_536)
+        self._in_a_row = 0  # messages of an `async for` that waited for nothing
         self.formula = _arguments.formula(formula)
         self.rows = Rows(volume)
-        self._begin()
-
-    def _begin(self) -> Difference:
-        volume = self._volume
         with volume._lock:
-            volume._free_forgotten()
-            self.slot, self.at, self.entries = volume._handle.open(self.formula, self._backlog, self._moved)
-            volume._queries[self.slot] = weakref.ref(self)
-            self.mark: Optional[Mark] = None
-            self._latest: Optional[Message] = None
-            return self.rows._begin(self.entries)
+            self._open()
+
+    def _open(self) -> None:
+        """Opens it in a slot, under the lock."""
+        volume, rows = self._volume, self.rows
+        volume._free_forgotten()
+        slot, self.at, self.entries = volume._handle.open(self.formula, self._backlog, self._moved)
+        self._covered: Optional[int] = None  # the last change that is covered, if `close` has ended it
+        rows._begin({it.node: it for it in self.entries})
+        self._begin(volume._handle, slot, rows._placed, rows._rows)
+        volume._queries[slot] = weakref.ref(self)
 
     def _own(self) -> int:
-        if self.slot is None:
+        slot: Optional[int] = self.slot
+        if slot is None:
             raise ValueError("the query was dropped or finished")
-        return self.slot
+        return slot
 
     def _is_ready(self, ready: int) -> bool:
-        """Whether it has something to read, or can't be read any more, by the word of who is ready."""
-        return self.slot is None or bool(ready >> (self.slot - 1) & 1) or not self._volume._handle.is_open()
+        """Whether who awaits it has something to do, by the word of who is ready: also where its mark was read by
+        another, or it can't be read any more."""
+        slot = self.slot
+        return (
+            slot is None
+            or bool(ready >> (slot - 1) & 1)
+            or self.mark is not None
+            or not self._volume._handle.is_open()
+        )
+
+    def _ended(self, mark: Mark) -> None:
+        """What an iteration does after the end: it stops, unless this raises."""
+        if mark.cause is Cause.OVERRUN and self._on_overrun == "raise":
+            raise Overrun(mark.change, self.formula)
 
     def read(self) -> Optional[Message]:
         """The next message, or None where none waits or the query has ended: `mark` is then there. Overrun: it has
         ended, since more messages came than its backlog has room for, and those from before were read."""
         return next(self, None)
 
-    def __iter__(self) -> "Query":
-        return self
-
-    def __next__(self) -> Message:
-        if self.mark is None:
-            rows = self.rows
-            it = self._volume._handle.read(self.slot or self._own(), rows._placed)
-            if type(it) is Message:
-                if it.op is B_ENTRY_REMOVED and rows._rows:
-                    rows._rows.pop(it.node, None)
-                if self._latest is None or self._latest.seq < it.seq:  # another thread may have read a later one
-                    self._latest = it
-                return it
-            if it is None:
-                raise StopIteration
-            self.mark = it
-        self._own()
-        if self.mark.cause is Cause.OVERRUN and self._on_overrun == "raise":
-            raise Overrun(self.mark.change, self.formula)
-        raise StopIteration
-
     def __aiter__(self) -> "Query":
         return self
 
     async def __anext__(self) -> Message:
-        import asyncio  # which takes longer to load than all of this module
+        if self._in_a_row >= _IN_A_ROW:
+            import asyncio  # which takes longer to load than all of this module
 
-        loop = asyncio.get_running_loop()
+            self._in_a_row = 0
+            await asyncio.sleep(0)  # before the read, so that who is cancelled here loses no message
         while True:
-            message = self.read()
+            message: Optional[Message] = next(self, None)
             if message is not None:
+                self._in_a_row += 1
                 return message
-            if self.mark is not None:
+            mark = self.mark
+            if mark is not None:
+                self._ended(mark)
                 raise StopAsyncIteration
-            await self._told(loop)
+            self._in_a_row = 0
+            await self._told()
 
-    def _told(self, loop: Any) -> Any:
-        """A future that has its result once there is something to read."""
-        future, volume = loop.create_future(), self._volume
-        waiting = self, loop, future
-        with volume._lock:
-            # first, so that a change on another thread is seen here or sees this
-            volume._waiting.append(waiting)
-            volume._is_due = True
+    async def _told(self) -> None:
+        """Waits until there is something to read. Nothing is left of it where it is cancelled."""
+        import asyncio
+
+        loop, volume = asyncio.get_running_loop(), self._volume
+        future = loop.create_future()
+        with volume._lock:  # so that a change on another thread is seen here or sees this
             if self._is_ready(volume._handle.ready()):
-                volume._waiting.remove(waiting)
-                future.set_result(None)
-        return future
+                return
+            volume._waiting[future] = self, loop
+            volume._is_due = True
+        try:
+            await future
+        finally:
+            with volume._lock:
+                volume._waiting.pop(future, None)
 
     def result(self) -> Result:
         """The result as the messages read so far make it, by rising node."""
@@ -401,17 +502,27 @@ class Query:
     def hang_up(self) -> None:
         """Asks for the end, as a reader does; the next change, read or close carries it out."""
         volume = self._volume
-        volume._handle.hang_up(self._own())
+        with volume._lock:
+            volume._handle.hang_up(self._own())
         if volume._is_due:
             volume._turned()
 
-    def close(self) -> int:
-        """Ends the query: what waits can still be read. Returns the last change that is covered."""
+    def close(self) -> Optional[int]:
+        """Ends the query: what waits can still be read. Returns the last change that is covered. It may be called
+        again, and after another end; None: the query had ended by itself, and the mark that says so wasn't read."""
         volume = self._volume
-        change = volume._handle.close(self._own())
+        with volume._lock:
+            slot, mark = self._own(), self.mark
+            if mark is None and self._covered is None:
+                try:
+                    self._covered = volume._handle.close(slot)
+                except Refused as refused:
+                    if refused.code != _NOT_OPEN:
+                        raise
+            covered = self._covered if mark is None else mark.change
         if volume._is_due:
             volume._turned()
-        return change
+        return covered
 
     def finish(self) -> None:
         """Frees the slot of a query whose mark was read."""
@@ -419,6 +530,8 @@ class Query:
         with volume._lock:
             volume._handle.finish(self._own())
             self._leave()
+        if volume._is_due:
+            volume._turned()
 
     def drop(self) -> None:
         """Ends the query, drops what wasn't read, and frees its slot. It may be called again."""
@@ -445,8 +558,10 @@ class Query:
         volume = self._volume
         try:
             with volume._lock:
+                old = self.rows._placed
                 self._drop()
-                return self._begin()
+                self._open()
+                return _difference(old, self.rows._placed)
         finally:
             if volume._is_due:
                 volume._turned()
@@ -459,12 +574,14 @@ class Query:
 
     def __del__(self) -> None:
         # no call here: a thread may be in one, and this may run at any point of it
-        if getattr(self, "slot", None) is not None:
+        if self.slot is not None:
             self._volume._forgotten.append(self.slot)
             self._volume._is_due = True
 
     __reduce_ex__ = _no_copy
 
     def __repr__(self) -> str:
-        how = "dropped" if self.slot is None else f"slot {self.slot}" + (f", {self.mark.cause}" if self.mark else "")
+        with self._volume._lock:
+            slot, mark = self.slot, self.mark
+        how = "dropped" if slot is None else f"slot {slot}" + (f", {mark.cause}" if mark else "")
         return f"<Query {self.formula!r}, {how}>"

@@ -1,6 +1,6 @@
 """The Python module: scenarios by lines and by methods, and what a method gives, refuses and wants."""
-import asyncio, copy, gc, glob, inspect, json, operator, os, pathlib, pickle, re, shutil, subprocess, sys, tempfile
-import threading, typing, unittest
+import asyncio, code, contextlib, copy, gc, glob, inspect, io, itertools, json, operator, os, pathlib, pickle, re
+import shutil, signal, subprocess, sys, tempfile, threading, time, typing, unittest, warnings
 
 TOP = os.path.dirname(os.path.dirname(os.path.dirname(os.path.realpath(__file__))))
 sys.dont_write_bytecode = True
@@ -103,7 +103,8 @@ class ByMethods:
         return {"slot": slot}
 
     def close(self, slot, **_):
-        return {"change": self.queries[slot].close(), "slot": slot}
+        """Query.close may be called again, and a line may not: so this is its call of the library."""
+        return {"change": self.volume._handle.close(slot), "slot": slot}
 
     def finish(self, slot, **_):
         self.queries[slot].finish()
@@ -283,6 +284,46 @@ class Volumes(Case):
         self.assertEqual((refused.place, str(refused)), (5, "BadQuery at 5: fetch('size>')"))
         self.assertEqual(volume.changes, 0)
 
+    def test_exceptions_have_all_arguments(self):
+        """What was given, with the defaults, whichever way calls the library."""
+        volume, pushes = self.volume, (Attr("size"), 1, Op.GT)
+        volume.create("a")
+        query = volume.open("size>=0", 7, True)
+        slots = [volume.open("size>1") for _ in range(63)]
+        for arguments, call in (
+            (("a", ROOT, FILE, 0, 0), lambda: volume.create("a")),
+            ((9,), lambda: volume.remove(9)),
+            ((9, ROOT, "b", False), lambda: volume.move(9, ROOT, "b")),
+            ((9, 1, 2), lambda: volume.write(9, 1, 2)),
+            ((9, "x", "t", None), lambda: volume.set(9, "x", "t")),
+            ((9, "x", 1, "LONG"), lambda: volume.set(9, "x", 1, "LONG")),
+            ((9, "x"), lambda: volume.unset(9, "x")),
+            (("size>1", 65_536, False), lambda: volume.open("size>1")),
+            (("size>", 3, True), lambda: volume.open("size>", 3, True)),
+            ((pushes, 65_536, False), lambda: volume.open([*pushes])),
+            ((pushes[:2], 5, 1), lambda: volume.open(pushes[:2], 5, 1)),
+            (((Op.GT,), 5, False), lambda: volume.open([Op.GT], 5)),
+            (("size>",), lambda: volume.fetch("size>")),
+            ((pushes[:2],), lambda: volume.fetch([*pushes[:2]])),
+            (((Op.GT,),), lambda: volume.fetch([Op.GT])),
+            (("b", ROOT), lambda: volume.find("b")),
+            (("/b", ROOT), lambda: volume.find_path("/b")),
+            ((9,), lambda: volume.entry(9)),
+            ((2, "x"), lambda: volume.attribute(2, "x")),
+            ((2,), lambda: volume.children(2)),
+            ((9,), lambda: volume.path(9)),
+            ((1,), query.finish),
+        ):
+            with self.assertRaises(Refused) as caught:
+                call()
+            self.assertEqual(caught.exception.arguments, arguments, caught.exception.call)
+        volume.answer('{"do":"close","slot":1}')
+        volume.answer('{"do":"read","slot":1}')
+        volume.answer('{"do":"finish","slot":1}')
+        for call in query.read, query.hang_up, query.drop:
+            self.assertEqual(self.refused(25, "NotOpen", call).arguments, (1,))
+        self.assertEqual(len(slots), 63)
+
     def test_exceptions_have_the_call_and_are_pickled(self):
         volume = self.volume
         volume.create("a")
@@ -421,6 +462,71 @@ class Volumes(Case):
                         pass
         self.assertLess(memory() - before, 1_000_000)  # each name takes 300 bytes
 
+    def test_a_fork_beside_a_thread(self):
+        """A child has a volume of its own, whatever another thread was doing, and ends; nobody waits in it."""
+        volume, done, warned = self.volume, threading.Event(), warnings.catch_warnings()
+        self.enterContext(warned) if hasattr(self, "enterContext") else warned.__enter__()
+        warnings.simplefilter("ignore", DeprecationWarning)  # later Pythons warn of each fork beside a thread
+        self.addCleanup(sys.setswitchinterval, sys.getswitchinterval())
+        sys.setswitchinterval(1e-6)
+        query, others = volume.open("size>=0", on_overrun="mark"), [Volume() for _ in range(3)]
+        for number in range(300):
+            volume.create(f"f{number}")
+
+        class Size:
+            """A size that isn't known at once."""
+
+            def __index__(self):
+                time.sleep(0.001)
+                return 7
+
+        def change():
+            while not done.is_set():
+                for it in volume, *others:
+                    it.remove(it.create(b"\xff%d" % threading.get_ident(), size=Size()).node)
+                volume.fetch("size>=0")
+                query.reopen()
+                query.read()
+
+        def within():
+            """What the child finds: its volume, and its query. The parent's don't change."""
+            before = volume.changes
+            node = volume.create("of the child", size=5).node
+            query.reopen()
+            again = volume.create("again", size=5).node
+            return ([it.node for it in query], volume.changes - before, query.rows[node].info.size) == ([again], 2, 5)
+
+        threads = [threading.Thread(target=change) for _ in range(2)]
+        for thread in threads:
+            thread.start()
+        try:
+            for _ in range(25):
+                child = os.fork()
+                if child == 0:
+                    status = 1
+                    try:
+                        status = 0 if within() else 2
+                    finally:
+                        os._exit(status)
+                self.assertEqual(self.status(child), 0)
+        finally:
+            done.set()
+            for thread in threads:
+                thread.join()
+        self.assertEqual([it for it in volume.children() if it.name == "of the child"], [])
+
+    def status(self, child):
+        """The status of a child process that ends within some seconds; None for one that doesn't."""
+        until = time.monotonic() + SECONDS
+        while time.monotonic() < until:
+            ended, status = os.waitpid(child, os.WNOHANG)
+            if ended:
+                return status
+            time.sleep(0.001)
+        os.kill(child, signal.SIGKILL)
+        os.waitpid(child, 0)
+        return None
+
     def test_a_call_within_a_call(self):
         volume, sizes = Volume(), []
 
@@ -470,12 +576,40 @@ class Queries(Case):
             messages = list(query)
             self.assertEqual((len(messages), query.mark), (mark.seq - 1, mark))
             self.assertIsNone(query.read())
-            self.refused(25, "NotOpen", query.close)
+            self.assertEqual(query.close(), mark.change)
             query.finish()
             query.drop()
         self.assertEqual(volume.open("size>1").slot, 1)
         live = volume.open("size>1")
         self.refused(26, "StillOpen", live.finish)
+
+    def test_close_may_be_repeated(self):
+        """It says the last change that is covered, where that is known: it closed the query, or its mark was read."""
+        volume = self.volume
+        query, overrun = volume.open("size>=0"), volume.open("size>=0", 1)
+        volume.create("a")
+        self.assertEqual([query.close(), query.close()], [1, 1])
+        volume.create("b")
+        volume.create("c")
+        self.assertEqual([query.close(), overrun.close()], [1, None])
+        self.assertEqual([it.name for it in query], ["a"])
+        self.assertEqual([it.name for it in itertools.islice(overrun, 2)], ["a", "b"])
+        self.assertRaises(Overrun, overrun.read)
+        self.assertEqual([query.close(), overrun.close(), overrun.close()], [1, 2, 2])
+        self.assertEqual((query.mark, overrun.mark), (Mark(2, 1, Cause.CLOSED), Mark(3, 2, Cause.OVERRUN)))
+        overrun.reopen()
+        self.assertEqual([overrun.close(), overrun.close()], [3, 3])
+
+    def test_an_opening_makes_no_difference(self):
+        """Nobody gets one of it."""
+        from unittest import mock
+
+        self.volume.create("a")
+        with mock.patch("yazgoulm._volume.Difference", wraps=Difference) as made:
+            query = self.volume.open("size>=0")
+            self.assertEqual((made.call_count, sorted(query.rows)), (0, [2]))
+            self.volume.create("b")
+            self.assertEqual((query.reopen(), made.call_count), (Difference([], [Place(1, 3, "b")], []), 1))
 
     def test_overrun_is_raised_until_it_is_opened_again(self):
         volume = self.volume
@@ -544,6 +678,24 @@ class Queries(Case):
         list(query)
         volume.remove(other)
         self.assertIsNone(query.rows[other].info)
+
+    def test_rows_are_iterated_while_messages_are_read(self):
+        """An iteration goes over the rows that are there when it begins."""
+        volume, query = self.volume, self.volume.open("size>100")
+        for way in (lambda: query.rows, lambda: query.rows.items(), lambda: query.rows.values()):
+            nodes = [volume.create(f"f{number}", size=200).node for number in range(3)]
+            [*query]
+            volume.create("more", size=200)
+            volume.remove(nodes[2])
+            seen = []
+            for it in way():
+                query.read()
+                seen.append(it if isinstance(it, int) else it[0] if isinstance(it, tuple) else it.node)
+            self.assertEqual(seen, nodes)
+            self.assertEqual([row.name for row in query.rows.values()], ["f0", "f1", "more"])
+            for node in query.rows:
+                volume.remove(node)
+            [*query]
 
     def test_rows_after_each_message_are_the_result(self):
         """Random changes: after each message with `last` the rows are what a fetch gave after its change."""
@@ -687,7 +839,7 @@ class EventLoops(Case):
         self.run_until(change())
         self.assertEqual([name for slot, name in told if slot == 1], ["f2", "f3", "f4"])
         self.assertEqual([name for slot, name in told if slot == 2], ["f0", "f1", "f2", "f3", "f4"])
-        self.assertEqual(volume._waiting, [])
+        self.assertFalse(volume._waiting)
 
     def test_changes_come_from_another_thread(self):
         volume, count = self.volume, 2000
@@ -713,6 +865,110 @@ class EventLoops(Case):
 
         self.run_until(both())
         self.assertEqual(names, [f"f{number}" for number in range(count)])
+
+    def test_waits_that_are_left_leave_nothing(self):
+        """By a time-out, or cancelled: neither the one who waits nor, once nobody has it, the query."""
+        volume = self.volume
+
+        async def go():
+            query = volume.open("size>=0")
+            for number in range(20):
+                with self.assertRaises(asyncio.TimeoutError):
+                    await asyncio.wait_for(query.__anext__(), 0.0001)
+                shown = asyncio.create_task(query.__anext__())
+                await asyncio.sleep(0)
+                self.assertEqual(len(volume._waiting), 1)
+                shown.cancel()
+                await asyncio.wait([shown])
+            self.assertFalse(volume._waiting)
+            del query, shown
+            for number in range(130):
+                query = volume.open("size>=0")
+                with self.assertRaises(asyncio.TimeoutError):
+                    await asyncio.wait_for(query.__anext__(), 0.0001)
+                del query
+            self.assertFalse(volume._waiting)
+
+        self.run_until(go())
+
+    def test_a_message_that_comes_with_a_time_out_is_not_lost(self):
+        volume, names = self.volume, []
+
+        async def go():
+            query, thread = volume.open("size>=0"), threading.Thread(target=change)
+            thread.start()
+            while len(names) < 200:
+                try:
+                    names.append((await asyncio.wait_for(query.__anext__(), 0.001)).name)
+                except asyncio.TimeoutError:
+                    pass
+            thread.join()
+
+        def change():
+            for number in range(200):
+                time.sleep(0.001)
+                volume.create(f"f{number}")
+
+        self.run_until(go())
+        self.assertEqual(names, [f"f{number}" for number in range(200)])
+
+    def test_messages_in_a_row_leave_turns_to_others(self):
+        volume, count = self.volume, 5000
+        query, turns = volume.open("size>=0"), []
+        for number in range(count):
+            volume.create(f"f{number}")
+
+        async def other():
+            while True:
+                turns.append(volume.changes)
+                await asyncio.sleep(0)
+
+        async def go():
+            beside, names = asyncio.create_task(other()), []
+            async for message in query:
+                names.append(message.name)
+                if len(names) == count:
+                    break
+            beside.cancel()
+            return names
+
+        self.run_until(self.equal(go(), [f"f{number}" for number in range(count)]))
+        self.assertGreaterEqual(len(turns), count // 100 - 1)
+
+    async def equal(self, what, wanted):
+        self.assertEqual(await what, wanted)
+
+    def test_who_waits_beside_another_is_told_of_the_end(self):
+        """Both tasks get it, whichever reads the mark."""
+        async def show(query):
+            return [message.name async for message in query]
+
+        async def go():
+            query = self.volume.open("size>=0", 1)
+            shown = [asyncio.create_task(show(query)) for _ in range(2)]
+            await asyncio.sleep(0)
+            self.volume.create("a")
+            query.close()
+            names = await asyncio.gather(*shown)
+            self.assertEqual(sorted(names), [[], ["a"]])
+            query.reopen()
+            shown = [asyncio.create_task(show(query)) for _ in range(2)]
+            await asyncio.sleep(0)
+            for number in range(3):
+                self.volume.create(f"f{number}")
+            for told in await asyncio.gather(*shown, return_exceptions=True):
+                self.assertIsInstance(told, Overrun)
+
+        self.run_until(go())
+
+    def test_a_loop_that_was_closed_while_it_waited(self):
+        query, loop = self.volume.open("size>=0"), asyncio.new_event_loop()
+        shown = loop.create_task(query.__anext__())
+        loop.run_until_complete(asyncio.sleep(0))
+        loop.close()
+        self.volume.create("a")
+        self.assertEqual(query.read().name, "a")
+        shown._log_destroy_pending = False
 
     def test_an_overrun_is_raised_and_gone_on_from(self):
         volume = self.volume
@@ -778,7 +1034,7 @@ class Libraries(unittest.TestCase):
     """Which shared library is taken, and which is refused."""
 
     def imports(self, script, **variables):
-        """What another Python writes that imports the package in the same way: its output, or its last line of error."""
+        """What another Python writes that imports the package in the same way, or its last line of error."""
         environment = {**os.environ, "PYTHONPATH": os.path.dirname(os.path.dirname(yazgoulm.__file__)),
                        "YAZGOULM_BACKEND": yazgoulm.backend, **variables}
         ran = subprocess.run([sys.executable, "-B", "-c", script], env=environment, stdout=subprocess.PIPE,
@@ -799,6 +1055,84 @@ class Libraries(unittest.TestCase):
                 error, _, found = said.partition(" is not the library")[0].partition(": ")
                 self.assertEqual((error, os.path.realpath(found)), ("ImportError", path))
 
+    def test_an_empty_choice_of_the_way_is_none(self):
+        self.assertIn(self.imports("import yazgoulm; print(yazgoulm.backend)", YAZGOULM_BACKEND="").strip(),
+                      ("extension", "ctypes"))
+        self.assertEqual(self.imports("import yazgoulm", YAZGOULM_BACKEND="c"),
+                         "ImportError: YAZGOULM_BACKEND is 'c', and can be \"extension\" or \"ctypes\"")
+
+    def test_a_second_import(self):
+        """What came of the first goes on beside what comes of the second, with classes of its own."""
+        script = """if True:
+            import gc, importlib, sys
+            def imported():
+                for name in [name for name in sys.modules if name.partition(".")[0] == "yazgoulm"]:
+                    del sys.modules[name]
+                return importlib.import_module("yazgoulm")
+            def opened(package):
+                volume = package.Volume()
+                return package, volume, volume.open("size>=0", 2), volume.open("size>=0", 1, on_overrun="mark")
+            def used(package, volume, query, other):
+                for name in "ab":
+                    volume.create(name + str(volume.changes))
+                read = [*query]
+                assert {type(it) for it in read} == {package.Message} and len(read) == 2, read
+                assert type(volume.fetch("size>=0")[0]) is package.Entry
+                assert type(volume.entry(2)) is package.Info and query in volume.ready() + [query]
+                assert repr(query).endswith("slot 1>") and repr(volume), query
+                assert query.result().entries == [it[:3] for it in volume.fetch("size>=0")]
+                try:
+                    volume.remove(99)
+                except package.NotFound as refused:
+                    assert type(refused) is package.NotFound
+                for number in range(4):
+                    volume.create("o" + str(volume.changes))
+                try:
+                    [*query]
+                    assert False
+                except package.Overrun:
+                    query.reopen()
+                [*other]
+                assert other.mark.cause is package.Cause.OVERRUN
+                other.reopen()
+            first = opened(imported())
+            used(*first)
+            second = opened(imported())
+            assert first[0].Message is not second[0].Message
+            for _ in range(3):
+                used(*first)
+                used(*second)
+            for _ in range(20):
+                used(*opened(imported()))
+            gc.collect()
+            used(*first)
+            print("well")
+        """
+        self.assertEqual(self.imports(script), "well\n")
+
+    def test_an_import_in_another_interpreter(self):
+        """It is done beside the first, in one that shares the lock of the first where there are such."""
+        script = """if True:
+            import sys
+            import _xxsubinterpreters as interpreters
+            from yazgoulm import Message, Volume
+            volume = Volume()
+            query = volume.open("size>=0")
+            other = interpreters.create(isolated=False)
+            for _ in range(2):
+                interpreters.run_string(other, 'import yazgoulm; it = yazgoulm.Volume(); q = it.open("size>=0");'
+                    'it.create("a"); assert [type(m) for m in q] == [yazgoulm.Message]')
+                volume.create("b" + str(volume.changes))
+                assert [type(it) for it in query] == [Message]
+            interpreters.destroy(other)
+            volume.create("c")
+            assert query.read().name == "c"
+            print("well")
+        """
+        if not (3, 9) <= sys.version_info < (3, 13):
+            self.skipTest("this Python has other interpreters under another name")
+        self.assertEqual(self.imports(script), "well\n")
+
     @unittest.skipUnless(shutil.which(os.environ.get("CC") or "cc"), "there is no C compiler")
     def test_a_library_of_another_minor_version_is_refused(self):
         """Each stands for one that has all calls and another version."""
@@ -811,8 +1145,9 @@ class Libraries(unittest.TestCase):
             for version in own - 1000, own + 1000, own + 1000000:
                 path = f"{room}/{version}.so"
                 text = "".join(f"void {call}(void) {{}}\n" for call in calls)
-                subprocess.run([os.environ.get("CC") or "cc", "-shared", "-fPIC", "-x", "c", "-", "-o", path], check=True,
-                               input=f"{text}unsigned lq_version(void) {{ return {version}; }}\n".encode())
+                text += f"unsigned lq_version(void) {{ return {version}; }}\n"
+                words = [os.environ.get("CC") or "cc", "-shared", "-fPIC", "-x", "c", "-", "-o", path]
+                subprocess.run(words, input=text.encode(), check=True)
                 self.assertEqual(self.imports("import yazgoulm", YAZGOULM_LIBRARY=path),
                                  f"ImportError: {path} has version {version}, and this module is for {own}")
 
@@ -835,6 +1170,30 @@ class Documents(unittest.TestCase):
                     self.assertTrue(call.__doc__, f"{name}.{member}")
                     self.assertEqual(wanted - {*hints}, set(), f"{name}.{member}")
         self.assertGreater(count, 25)
+
+    def test_pieces_of_documents_can_be_pasted_into_the_prompt(self):
+        """Each Python piece, line by line, as the prompt takes it: no line is an error, and what is printed is what
+        stands below the piece."""
+        piece = re.compile(r"(?ms)^```python( more)?\n(.*?)^```\n(?:\n?^```text\n(.*?)^```\n)?")
+        count, sys_hook = 0, sys.displayhook
+        for name in "README.md", "docs/EMBEDDING.md", "docs/TUTORIAL.md":
+            with open(f"{TOP}/{name}", encoding="utf-8") as file:
+                text = file.read()
+            for more, body, told in piece.findall(text):
+                if not more:
+                    prompt = code.InteractiveConsole({"__name__": "__main__"})
+                out, errors = io.StringIO(), []
+                prompt.write = errors.append
+                sys.displayhook = lambda _: None  # the prompt shows the value of an expression too
+                with contextlib.redirect_stdout(out):
+                    for line in [*body.splitlines(), ""]:
+                        prompt.push(line)
+                sys.displayhook = sys_hook
+                if "room" in prompt.locals:
+                    self.addCleanup(prompt.locals["room"].cleanup)
+                self.assertEqual(("".join(errors), out.getvalue()), ("", told), f"{name}: {body[:60]!r}")
+                count += 1
+        self.assertGreater(count, 8)
 
     def test_the_backend_is_the_one_that_was_asked_for(self):
         self.assertEqual(yazgoulm.backend, os.environ.get("YAZGOULM_BACKEND") or yazgoulm.backend)
