@@ -178,6 +178,22 @@ class Exists(Refused, FileExistsError):
         self.errno, self.strerror = errno.EEXIST, name
 
 
+class NotFolder(Refused, NotADirectoryError):
+    """What was named as a folder is a file."""
+
+    def __init__(self, code: int, name: str, call: str = "", arguments: Tuple[Any, ...] = ()) -> None:
+        super().__init__(code, name, call, arguments)
+        self.errno, self.strerror = errno.ENOTDIR, name
+
+
+class NotEmpty(Refused, OSError):
+    """The folder that would go has entries: an OSError as `os.rmdir` raises it, with errno.ENOTEMPTY."""
+
+    def __init__(self, code: int, name: str, call: str = "", arguments: Tuple[Any, ...] = ()) -> None:
+        super().__init__(code, name, call, arguments)
+        self.errno, self.strerror = errno.ENOTEMPTY, name
+
+
 class NoMemory(Refused, MemoryError):
     """There is no memory for the call."""
 
@@ -210,7 +226,7 @@ class Overrun(Error):
         return f"the messages of {reprlib.repr(self.formula)} end after change {self.change}: the backlog was full"
 
 
-_REFUSALS = {2: NotFound, 4: NotFound, 5: Exists, 10: NotFound, 15: NoMemory}
+_REFUSALS = {2: NotFound, 3: NotFolder, 4: NotFound, 5: Exists, 7: NotEmpty, 10: NotFound, 15: NoMemory}
 _BAD_QUERY = 20
 
 

@@ -1,5 +1,5 @@
 """The Python module: scenarios by lines and by methods, and what a method gives, refuses and wants."""
-import asyncio, code, contextlib, copy, gc, glob, inspect, io, itertools, json, operator, os, pathlib, pickle, re
+import asyncio, code, contextlib, copy, errno, gc, glob, inspect, io, itertools, json, operator, os, pathlib, pickle, re
 import shutil, signal, subprocess, sys, tempfile, threading, time, typing, unittest, warnings
 
 TOP = os.path.dirname(os.path.dirname(os.path.dirname(os.path.realpath(__file__))))
@@ -333,6 +333,16 @@ class Volumes(Case):
         exists = self.refused(5, "Exists", volume.create, "a")
         self.assertIsInstance(exists, FileExistsError)
         self.assertEqual(exists.arguments, ("a", ROOT, "file", 0, 0))
+        volume.create("in", volume.create("folder", kind=FOLDER).node)
+        with self.assertRaises(NotADirectoryError) as not_folder:
+            volume.children(2)
+        with self.assertRaises(OSError) as not_empty:
+            volume.remove(3)
+        for error, number in (exists, errno.EEXIST), (not_folder.exception, errno.ENOTDIR), \
+                (not_empty.exception, errno.ENOTEMPTY):
+            self.assertIsInstance(error, Refused)
+            self.assertEqual((error.errno, error.strerror), (number, error.name))
+        self.assertEqual(str(not_empty.exception), "NotEmpty: remove(3)")
         with self.assertRaises(KeyError):
             volume.find("b")
         with self.assertRaises(ValueError) as caught:
@@ -342,7 +352,7 @@ class Volumes(Case):
             volume.create(f"f{number}")
         with self.assertRaises(Overrun) as overrun:
             list(query)
-        for error in no_node, exists, caught.exception, overrun.exception:
+        for error in no_node, exists, caught.exception, overrun.exception, not_folder.exception, not_empty.exception:
             again = pickle.loads(pickle.dumps(error))
             self.assertEqual((type(again), str(again), vars(again)), (type(error), str(error), vars(error)))
             self.assertEqual(str(copy.copy(error)), str(error))
