@@ -124,11 +124,30 @@ class Volume:
             self._turned()
         return applied
 
-    def remove(self, node: int) -> Applied:
-        """Removes a file, or a folder that is empty."""
-        applied = self._handle.remove(node)
+    def remove(self, node: int, recursive: bool = False) -> Applied:
+        """Removes a file, or a folder that is empty. With `recursive` a folder goes with all that is in it, and the
+        last of the changes is returned; where one is refused, as for want of memory, those before it stay made."""
+        if recursive:
+            with self._lock, _as("remove", node, True):
+                applied = self._remove_all(node)
+        else:
+            applied = self._handle.remove(node)
         if self._is_due:
             self._turned()
+        return applied
+
+    def _remove_all(self, node: int) -> Applied:
+        """Removes an entry after all that is in it, under the lock."""
+        folders, nodes = [node], [node]
+        if node == ROOT or self._handle.entry(node).kind == FILE:
+            folders = []
+        for folder in folders:  # which grow
+            for it in self._handle.children(folder):
+                nodes.append(it.node)
+                if it.kind != FILE:
+                    folders.append(it.node)
+        for each in reversed(nodes):
+            applied = self._handle.remove(each)
         return applied
 
     def move(self, node: int, dir: int, name: Name, clobber: bool = False) -> Applied:
@@ -138,12 +157,34 @@ class Volume:
             self._turned()
         return applied
 
-    def write(self, node: int, size: int, time: int) -> Applied:
-        """Sets a file's size in bytes, and its `last_modified` in seconds since 1970."""
-        applied = self._handle.write(node, size, time)
+    def rename(self, node: int, name: Name, clobber: bool = False) -> Applied:
+        """Gives an entry another name in its folder; with `clobber` another entry of that name goes."""
+        text = _arguments.encode_name("name", name).decode()
+        with self._lock, _as("rename", node, name, clobber):
+            dir = ROOT if node == ROOT else self._handle.entry(node).dir
+            applied = self._handle.move(node, dir, text, clobber)
         if self._is_due:
             self._turned()
         return applied
+
+    def write(self, node: int, size: Optional[int] = None, time: Optional[int] = None) -> Applied:
+        """Sets a file's size in bytes, and its `last_modified` in seconds since 1970. What isn't given stays."""
+        if size is None or time is None:
+            applied = self._write_part(node, size, time)
+        else:
+            applied = self._handle.write(node, size, time)
+        if self._is_due:
+            self._turned()
+        return applied
+
+    def _write_part(self, node: int, size: Optional[int], time: Optional[int]) -> Applied:
+        if size is not None:
+            size = _arguments.natural("size", size)
+        if time is not None:
+            time = _arguments.whole("time", time)
+        with self._lock, _as("write", node, size, time):
+            info = Info(ROOT, ROOT, "", FILE, 0, 0, []) if node == ROOT else self._handle.entry(node)
+            return self._handle.write(node, info.size if size is None else size, info.time if time is None else time)
 
     def set(self, node: int, attr: Name, value: Union[str, int], type: Optional[str] = None) -> Applied:
         """Sets an attribute. Without a type, a str is "CSTR" and an int is "LLNG", a number of 64 bits with a sign."""
@@ -204,6 +245,21 @@ class Volume:
     def path(self, node: int) -> str:
         """The path of an entry from the root, as "/folder/file"; "/" for the root."""
         return self._handle.path(node)
+
+
+class _as:
+    """Has a refusal within it say the name and the arguments of the call that a user has made."""
+
+    def __init__(self, call: str, *arguments: Any) -> None:
+        self.call, self.arguments = call, arguments
+
+    def __enter__(self) -> None:
+        pass
+
+    def __exit__(self, _type: Any, error: Optional[BaseException], _traceback: Any) -> None:
+        if isinstance(error, Refused):
+            error.call, error.arguments = self.call, self.arguments
+            error.args = error.code, error.name, self.call, self.arguments
 
 
 def _settle(future: Any) -> None:

@@ -199,6 +199,57 @@ class Volumes(Case):
         found = [Entry(ROOT, folder, "in", FOLDER, 0, 3), Entry(ROOT, 3, smile, FILE, 2**63 - 1, -(2**63))]
         self.assertEqual(volume.fetch("name==*"), found)
 
+    def test_rename(self):
+        volume = self.volume
+        folder = volume.create("in", kind=FOLDER).node
+        node, other = volume.create("a", folder).node, volume.create("b", folder).node
+        self.assertEqual(volume.rename(node, b"\xff"), (4, node))
+        self.assertEqual(volume.path(node), "/in/\uf7ff")
+        self.assertEqual(self.refused(5, "Exists", volume.rename, node, "b").arguments, (node, "b", False))
+        self.assertEqual(volume.rename(node, "b", clobber=True), (5, node))
+        self.assertEqual((volume.path(node), volume.children(folder)), ("/in/b", [(folder, node, "b", FILE, 0, 0)]))
+        self.assertEqual(volume.rename(folder, "out").node, folder)
+        for code, name, arguments in ((2, "NoNode", (other, "c", False)), (11, "Reserved", (ROOT, "c", False)),
+                                      (1, "BadName", (node, "c/d", False))):
+            refused = self.refused(code, name, volume.rename, *arguments[:2])
+            self.assertEqual((refused.call, refused.arguments), ("rename", arguments))
+            self.assertEqual(pickle.loads(pickle.dumps(refused)).arguments, arguments)
+        self.says(TypeError, "name must be a str, bytes or a path, not int", volume.rename, node, 5)
+        self.assertEqual(volume.changes, 6)
+
+    def test_remove_recursive(self):
+        volume = self.volume
+        top = volume.create("top", kind=FOLDER).node
+        stays, deep = volume.create("stays").node, top
+        for number in range(50):
+            volume.create("file", deep)
+            volume.create(f"other{number}", deep, kind=FOLDER)
+            deep = volume.create("deep", deep, kind=FOLDER).node
+        query = volume.open("name==*")
+        before = volume.changes
+        self.refused(7, "NotEmpty", volume.remove, top)
+        self.assertEqual(volume.remove(top, recursive=True), (before + 151, top))
+        self.assertEqual((len([*query]), [*query.rows]), (151, [stays]))
+        self.assertEqual(volume.children(), [(ROOT, stays, "stays", FILE, 0, 0)])
+        self.assertEqual(volume.remove(stays, recursive=True), (before + 152, stays))
+        for code, name, node in (2, "NoNode", stays), (11, "Reserved", ROOT):
+            refused = self.refused(code, name, volume.remove, node, recursive=True)
+            self.assertEqual((refused.call, refused.arguments), ("remove", (node, True)))
+
+    def test_write_keeps_what_is_not_given(self):
+        volume = self.volume
+        node, folder = volume.create("a", size=5, time=-7).node, volume.create("in", kind=FOLDER).node
+        for given, found in (({"size": 6}, (6, -7)), ({"time": 8}, (6, 8)), ({}, (6, 8)), ({"size": 0}, (0, 8)),
+                             ({"size": 1, "time": 2}, (1, 2)), ({"time": 0}, (1, 0))):
+            self.assertEqual(volume.write(node, **given).node, node)
+            self.assertEqual((volume.entry(node).size, volume.entry(node).time), found)
+        self.assertEqual(volume.changes, 8)
+        for code, name, it in (2, "NoNode", 9), (9, "IsFolder", folder), (11, "Reserved", ROOT):
+            refused = self.refused(code, name, volume.write, it, 5)
+            self.assertEqual((refused.call, refused.arguments), ("write", (it, 5, None)))
+        self.says(TypeError, "time must be a whole number, not 0.5", volume.write, node, time=0.5)
+        self.says(ValueError, f"size must be from 0 to {2**64 - 1}, not -1", volume.write, node, -1)
+
     def test_many_entries(self):
         names = [f"file {number} \u00e4" for number in range(1000)]
         for number, name in enumerate(names):
