@@ -1,6 +1,6 @@
 """Arguments as the library takes them. What doesn't fit is refused by a sentence that names the argument."""
 import operator, os, re
-from typing import Any, Union
+from typing import Any, Tuple, Union
 
 from ._types import Attr, Op
 
@@ -69,6 +69,13 @@ def kind(value: Any) -> int:
     if value not in ("file", "folder"):
         raise ValueError(f'kind must be "file" or "folder", not {value!r}')
     return int(value == "folder")
+
+
+def attribute(attr: Any, value: Any) -> Tuple[str, Union[str, int], Any]:
+    """An attribute's name, its value and its type, of a value or of a pair of a value and a type."""
+    value, type = value if isinstance(value, tuple) and len(value) == 2 else (value, None)
+    number = value if isinstance(value, str) else whole("value", value, most=(1 << 64) - 1)
+    return encode_name("attr", attr).decode(), number, type
 
 
 def formula(value: Any) -> Any:

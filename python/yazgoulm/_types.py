@@ -153,7 +153,11 @@ class Error(Exception):
 class Refused(Error):
     """A call was refused, and its act isn't done. `code` and `name` are those of the table of refusals.
 
-    `call` is the name of the call, and `arguments` what it was given."""
+    `call` is the name of the call, and `arguments` what it was given. Of an entry that `create` had made before one of
+    its attributes was refused, `node` is the node, and `attributes` has the names of those that were set."""
+
+    node: Optional[int] = None
+    attributes: Tuple[str, ...] = ()
 
     def __init__(self, code: int, name: str, call: str = "", arguments: Tuple[Any, ...] = ()) -> None:
         self.code, self.name, self.call, self.arguments = code, name, call, tuple(arguments)
@@ -163,7 +167,7 @@ class Refused(Error):
         return f"{self.name}: {self.call}({', '.join(map(reprlib.repr, self.arguments))})"
 
     def __reduce__(self) -> Tuple[Any, ...]:
-        return type(self), (self.code, self.name, self.call, self.arguments)
+        return type(self), (self.code, self.name, self.call, self.arguments), vars(self)
 
 
 class NotFound(Refused, KeyError):
@@ -210,8 +214,8 @@ class BadQuery(Refused, ValueError):
         return f"{self.name} at {self.place}{super().__str__()[len(self.name):]}"
 
     def __reduce__(self) -> Tuple[Any, ...]:
-        kind, given = super().__reduce__()
-        return kind, (*given, self.place)
+        kind, given, fields = super().__reduce__()
+        return kind, (*given, self.place), fields
 
 
 class Overrun(Error):

@@ -12,6 +12,9 @@ from ._types import (
 
 # A name of an entry: a str, or the name of a file on disk as bytes or as a path.
 Name = Union[str, bytes, "os.PathLike[Any]"]
+Value = Union[str, int, Tuple[int, str]]  # of an attribute: by itself, or with the type
+_NO_NODE = (1 << 64) - 1  # which is never given
+_RESERVED = "name", "size", "last_modified"  # what can't be set as an attribute
 _NOT_OPEN = 25  # the refusal of what only a query that hasn't ended can do
 _IN_A_ROW = 100  # messages of an `async for`, after which the loop has a turn
 
@@ -117,11 +120,53 @@ class Volume:
         """The number of changes so far."""
         return self._handle.changes()
 
-    def create(self, name: Name, dir: int = ROOT, kind: str = FILE, size: int = 0, time: int = 0) -> Applied:
-        """Creates an entry in a folder: `size` in bytes, 0 for a folder, `time` in seconds since 1970."""
-        applied = self._handle.create(name, dir, kind, size, time)
+    def create(
+        self,
+        name: Name,
+        dir: int = ROOT,
+        kind: str = FILE,
+        size: int = 0,
+        time: int = 0,
+        attributes: Optional[Mapping[Name, Value]] = None,
+    ) -> Applied:
+        """Creates an entry in a folder: `size` in bytes, 0 for a folder, `time` in seconds since 1970.
+
+        `attributes` are set in their order, by a change for each, of which the last is returned: so the one that
+        windows ask for comes last, and an entry has all others when it enters one. A value is as `set` takes it; for
+        another type it is a pair of the value and the type. All are tested before the first change. Where one is
+        refused after that, for want of memory, the exception has the node as `node`, and the names that were set as
+        `attributes`."""
+        if attributes:
+            applied = self._create_with(name, dir, kind, size, time, attributes)
+        else:
+            applied = self._handle.create(name, dir, kind, size, time)
         if self._is_due:
             self._turned()
+        return applied
+
+    def _create_with(
+        self, name: Name, dir: int, kind: str, size: int, time: int, given: Mapping[Name, Value]
+    ) -> Applied:
+        attributes = [_arguments.attribute(attr, value) for attr, value in given.items()]
+        text = _arguments.encode_name("name", name).decode()
+        numbers = _arguments.natural("dir", dir), kind, _arguments.natural("size", size), _arguments.whole("time", time)
+        with self._lock, _as("create", name, dir, kind, size, time, given):
+            for attr, value, type in attributes:
+                try:
+                    self._handle.set(_NO_NODE, attr, value, type)
+                except NotFound:
+                    pass  # which is what comes where the attribute is well
+                if attr in _RESERVED:
+                    raise Refused(11, "Reserved")
+            applied = self._handle.create(text, *numbers)
+            node, done = applied.node, []
+            try:
+                for attr, value, type in attributes:
+                    applied = self._handle.set(node, attr, value, type)
+                    done.append(attr)
+            except Refused as refused:
+                refused.node, refused.attributes = node, tuple(done)
+                raise
         return applied
 
     def remove(self, node: int, recursive: bool = False) -> Applied:

@@ -9,8 +9,8 @@ sys.path.insert(0, os.environ.get("YAZGOULM_PACKAGE") or f"{TOP}/python")
 import yazgoulm
 from yazgoulm import (
     B_ENTRY_CREATED, B_ENTRY_MOVED, B_ENTRY_REMOVED, FILE, FOLDER, ROOT, Applied, Attr, Attribute, BadQuery, Cause,
-    Difference, Entry, Exists, Mark, Message, NotFound, Op, Opcode, Overrun, Place, Query, Refused, Volume, to_bytes,
-    to_name,
+    Difference, Entry, Exists, Mark, Message, NoMemory, NotFound, Op, Opcode, Overrun, Place, Query, Refused, Volume,
+    to_bytes, to_name,
 )
 
 SECONDS = 8  # the longest wait for something that has to come
@@ -281,6 +281,34 @@ class Volumes(Case):
             with self.assertRaises(ValueError):
                 volume.set(node, "x", value, type)
         self.assertEqual(len(volume.entry(node).attributes), 5)
+
+    def test_create_with_attributes(self):
+        """They are set in their order, after the entry is made; what is wrong with one is said before."""
+        from unittest import mock
+
+        volume, query = self.volume, self.volume.open("status==New")
+        given = {"from": "Ann", "count": 5, b"\xff": (2**32 - 1, "ULNG"), "big": (2**64 - 1, "ULLG"), "status": "New"}
+        applied = volume.create("a", size=7, attributes=given)
+        self.assertEqual((applied, volume.changes), (Applied(6, 2), 6))
+        self.assertEqual([tuple(it) for it in volume.entry(2).attributes], [
+            ("from", "CSTR", "Ann"), ("count", "LLNG", 5), ("\uf7ff", "ULNG", 2**32 - 1), ("big", "ULLG", 2**64 - 1),
+            ("status", "CSTR", "New")])
+        self.assertEqual([(it.change, it.name) for it in query], [(6, "a")])
+        self.assertEqual(volume.create("b", attributes={}), (7, 3))
+        for code, name, bad in ((1, "BadName", {"": 1}), (12, "TooLong", {"t": "x" * 4097}),
+                                (11, "Reserved", {"size": 1})):
+            refused = self.refused(code, name, volume.create, "c", attributes={"well": 1, **bad})
+            self.assertEqual((refused.call, refused.arguments), ("create", ("c", ROOT, FILE, 0, 0, {"well": 1, **bad})))
+        self.says(ValueError, "type is 'what', and value is no text", volume.create, "c", attributes={"a": (1, "what")})
+        self.says(TypeError, "value must be a whole number, not 1.5", volume.create, "c", attributes={"a": 1, "b": 1.5})
+        self.refused(5, "Exists", volume.create, "a", attributes=given)
+        self.assertEqual(volume.changes, 7)
+        handle = mock.Mock(wraps=volume._handle)
+        handle.set.side_effect = [NotFound(2, "NoNode")] * 2 + [Applied(9, 4), NoMemory(15, "NoMemory")]
+        with mock.patch.object(volume, "_handle", handle), self.assertRaises(NoMemory) as caught:
+            volume.create("c", attributes={"one": 1, "two": 2})
+        for error in caught.exception, pickle.loads(pickle.dumps(caught.exception)):
+            self.assertEqual((error.call, error.node, error.attributes), ("create", 4, ("one",)))
 
     def test_arguments_that_do_not_fit(self):
         volume, says = self.volume, self.says
