@@ -1,5 +1,5 @@
 """Volumes, their queries, and the rows of a query."""
-import os, threading, weakref
+import os, threading, time, weakref
 from typing import Any, Callable, Dict, ItemsView, Iterator, List, Mapping, Optional, Tuple, Union, ValuesView
 
 from . import _arguments
@@ -39,7 +39,8 @@ class Volume:
         self._lock = self._handle.lock  # of the volume, its queries and their rows; `with` may take it again
         self._queries: Dict[int, "weakref.ref[Query]"] = {}
         self._forgotten: List[int] = []  # slots of queries that nobody has any more
-        self._waiting: Dict[Any, Tuple["Query", Any]] = {}  # under the future of who awaits a query, with its loop
+        # who waits for a query: under the future of one that awaits it the loop, under the event of a thread None
+        self._waiting: Dict[Any, Tuple["Query", Any]] = {}
         self._wake: Optional[Callable[[], Any]] = None
         self._is_due = False  # whether there is something to do after a turn
         self._of_parent: Any = None  # after a fork: who awaits a query in the process that this one comes from
@@ -81,15 +82,18 @@ class Volume:
             self._is_due = False  # before what follows is looked at: a query may be forgotten at any moment
             self._free_forgotten()
             ready = self._handle.ready() if self._handle.is_open() else 0
-            woken = [(loop, future) for future, (query, loop) in self._waiting.items() if query._is_ready(ready)]
-            for _, future in woken:
-                del self._waiting[future]
+            woken = [(loop, waiter) for waiter, (query, loop) in self._waiting.items() if query._is_ready(ready)]
+            for _, waiter in woken:
+                del self._waiting[waiter]
             wake = self._wake if ready else None
             if self._waiting or self._wake or self._forgotten:
                 self._is_due = True
-        for loop, future in woken:
+        for loop, waiter in woken:
+            if loop is None:
+                waiter.set()
+                continue
             try:
-                loop.call_soon_threadsafe(_settle, future)
+                loop.call_soon_threadsafe(_settle, waiter)
             except RuntimeError:
                 pass  # the loop was closed
         if wake is not None:
@@ -549,10 +553,56 @@ class Query(_Reader):  # type: ignore[misc]
         if mark.cause is Cause.OVERRUN and self._on_overrun == "raise":
             raise Overrun(mark.change, self.formula)
 
-    def read(self) -> Optional[Message]:
+    def read(self, timeout: Optional[float] = 0) -> Optional[Message]:
         """The next message, or None where none waits or the query has ended: `mark` is then there. Overrun: it has
-        ended, since more messages came than its backlog has room for, and those from before were read."""
-        return next(self, None)
+        ended, since more messages came than its backlog has room for, and those from before were read.
+
+        With a `timeout` it waits so many seconds for a message or the end, and with None until one comes. Other threads
+        use the volume meanwhile."""
+        message: Optional[Message] = next(self, None)
+        if message is None and timeout != 0:
+            return self._waited(timeout)
+        return message
+
+    def wait(self, timeout: Optional[float] = None) -> Iterator[Message]:
+        """The messages, each as soon as it is there: an iterator that waits where none is. It stops after the end of
+        the query, or where none has come for `timeout` seconds, and may be asked for again."""
+        while True:
+            message = self.read(timeout)
+            if message is None:
+                return
+            yield message
+
+    def _waited(self, timeout: Optional[float]) -> Optional[Message]:
+        """What `read` gives once there is something to read, or the time is over."""
+        until = None if timeout is None else time.monotonic() + timeout
+        while True:
+            told = threading.Event()
+            if self._waits(told, None):
+                try:
+                    told.wait(None if until is None else max(0, until - time.monotonic()))
+                finally:
+                    self._waits_no_more(told)
+            message: Optional[Message] = next(self, None)
+            if message is None and self.mark is not None:
+                return next(self, None)  # which raises Overrun where another thread has read the mark
+            if message is not None or (until is not None and time.monotonic() >= until):
+                return message
+
+    def _waits(self, waiter: Any, loop: Any) -> bool:
+        """Has a waiter told when there is something to read. False: there is."""
+        volume = self._volume
+        with volume._lock:  # so that a change on another thread is seen here or sees this
+            if self._is_ready(volume._handle.ready()):
+                return False
+            volume._waiting[waiter] = self, loop
+            volume._is_due = True
+            return True
+
+    def _waits_no_more(self, waiter: Any) -> None:
+        volume = self._volume
+        with volume._lock:
+            volume._waiting.pop(waiter, None)
 
     def __aiter__(self) -> "Query":
         return self
@@ -579,18 +629,13 @@ class Query(_Reader):  # type: ignore[misc]
         """Waits until there is something to read. Nothing is left of it where it is cancelled."""
         import asyncio
 
-        loop, volume = asyncio.get_running_loop(), self._volume
+        loop = asyncio.get_running_loop()
         future = loop.create_future()
-        with volume._lock:  # so that a change on another thread is seen here or sees this
-            if self._is_ready(volume._handle.ready()):
-                return
-            volume._waiting[future] = self, loop
-            volume._is_due = True
-        try:
-            await future
-        finally:
-            with volume._lock:
-                volume._waiting.pop(future, None)
+        if self._waits(future, loop):
+            try:
+                await future
+            finally:
+                self._waits_no_more(future)
 
     def result(self) -> Result:
         """The result as the messages read so far make it, by rising node."""

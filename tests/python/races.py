@@ -224,6 +224,7 @@ class Methods(Case):
         query = self.query
         return {
             "Query.read": query.read,
+            "read that waits": lambda: query.read(timeout=0.0005),
             "iteration": lambda: [*query],
             "async for": self.await_one,
             "result": query.result,

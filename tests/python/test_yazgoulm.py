@@ -835,6 +835,68 @@ class Queries(Case):
         self.volume.create("a")
         self.assertEqual(len(self.volume.ready()), len(kept))
 
+    def elsewhere(self, *calls):
+        """Makes calls on another thread, one after another, a moment apart."""
+        def go():
+            for call in calls:
+                time.sleep(0.01)
+                call()
+
+        thread = threading.Thread(target=go)
+        thread.start()
+        self.addCleanup(thread.join)
+
+    def test_a_read_that_waits(self):
+        volume, query = self.volume, self.volume.open("size>=0", 3)
+        since = time.monotonic()
+        self.assertIsNone(query.read(timeout=0.03))
+        self.assertGreaterEqual(time.monotonic() - since, 0.03)
+        self.elsewhere(lambda: volume.create("a"), lambda: volume.create("b"))
+        since = time.monotonic()
+        self.assertEqual(query.read(timeout=SECONDS).name, "a")
+        self.assertLess(time.monotonic() - since, SECONDS)
+        self.assertEqual(query.read(timeout=None).name, "b")
+        volume.create("c")
+        self.assertEqual([query.read(0).name, query.read(0), query.read(-1)], ["c", None, None])
+        self.elsewhere(query.close)
+        self.assertEqual((query.read(timeout=None), query.mark.cause), (None, Cause.CLOSED))
+        self.assertIsNone(query.read(timeout=None))
+        query.reopen()
+        self.elsewhere(lambda: [volume.create(f"f{number}") for number in range(9)])
+        with self.assertRaises(Overrun):
+            for number in range(9):
+                self.assertEqual(query.read(timeout=None).name, f"f{number}")
+        self.assertRaises(Overrun, query.read, None)
+        query.reopen()
+        self.elsewhere(query.drop)
+        self.says(ValueError, "the query was dropped or finished", query.read, None)
+        query.reopen()
+        self.elsewhere(volume.close)
+        self.says(ValueError, "the volume is closed", query.read, None)
+        self.assertFalse(volume._waiting)
+
+    def test_messages_that_are_waited_for(self):
+        volume, query = self.volume, self.volume.open("size>=0")
+        self.assertEqual([*query.wait(timeout=0.01)], [])
+        volume.create("first")
+        self.assertEqual([it.name for it in query.wait(timeout=0.01)], ["first"])
+        self.elsewhere(lambda: [volume.create(f"f{number}") for number in range(500)], query.close)
+        self.assertEqual([it.name for it in query.wait()], [f"f{number}" for number in range(500)])
+        self.assertEqual((query.mark.cause, [*query.wait()]), (Cause.CLOSED, []))
+        query.reopen()
+        names, threads = [], []
+        for _ in range(3):
+            threads.append(threading.Thread(target=lambda: names.extend(it.name for it in query.wait())))
+            threads[-1].start()
+        for number in range(300):
+            volume.create(f"g{number}")
+        query.hang_up()
+        for thread in threads:
+            thread.join(SECONDS)
+            self.assertFalse(thread.is_alive())
+        self.assertEqual(sorted(names), sorted(f"g{number}" for number in range(300)))
+        self.assertFalse(volume._waiting)
+
     def test_ready(self):
         volume = self.volume
         large, small, all_of_them = volume.open("size>100"), volume.open("size<10"), volume.open("size>=0")
