@@ -6,11 +6,13 @@ from ctypes import (
 from typing import Any, Dict, List, Optional, Tuple, Union
 
 from ._arguments import encode, encode_name, kind, natural, whole
-from ._types import TYPES, Applied, Attr, Attribute, Cause, Entry, Info, Mark, Message, Op, Opcode, refusal
+from ._types import (
+    CAUSES, FILE, FOLDER, TYPES, Applied, Attr, Attribute, Entry, Info, Mark, Message, Op, Opcode, refusal,
+)  # fmt: skip
 
 _VERSION = 2000  # of the header whose structs stand below
 _ROOM = 64  # entries that are taken at a time
-_KINDS = "file", "folder"
+_KINDS = FILE, FOLDER
 _UPDATE, _END = 1, 2
 _Name = c_uint8 * 256
 
@@ -424,7 +426,7 @@ class Reader:
                 if it.what == _UPDATE:
                     return self._followed(it)
                 if it.what == _END:
-                    mark = self.mark = Mark(it.seq, it.change, Cause(it.cause))
+                    mark = self.mark = Mark(it.seq, it.change, CAUSES[it.cause])
         if mark is not None:
             self._ended(mark)
         raise StopIteration

@@ -20,8 +20,8 @@
 /* What is taken of _arguments.py and _types.py. */
 #define ARGUMENTS(X) X(encode) X(encode_name) X(kind) X(natural) X(whole)
 #define TYPES(X) \
-    X(Applied) X(Attr) X(Attribute) X(Cause) X(Entry) X(Info) X(Mark) X(Message) X(Op) X(Opcode) X(FILE) X(FOLDER) \
-    X(refusal)
+    X(Applied) X(Attr) X(Attribute) X(Entry) X(Info) X(Mark) X(Message) X(Op) X(Opcode) X(CAUSES) X(TYPES) X(FILE) \
+    X(FOLDER) X(refusal)
 
 /* The calls of its library, and what it takes of its modules. A process may import the package more than once: into
    another interpreter, or again after its modules were taken out of sys.modules. Each import has classes of its own,
@@ -34,8 +34,11 @@ typedef struct {
     ARGUMENTS(X)
     TYPES(X)
 #undef X
-    PyObject *opcodes[4], *causes[4];
+    PyObject *opcodes[4], *causes[4], *types[5];
 } Own;
+
+/* The numbers of the types, as `types` has them. */
+static const uint32_t type_codes[] = {LQ_TEXT, LQ_INT32, LQ_INT64, LQ_UINT32, LQ_UINT64};
 
 static void free_own(Own *own) {
 #define X(name) Py_XDECREF(own->py_##name);
@@ -46,10 +49,18 @@ static void free_own(Own *own) {
         Py_XDECREF(own->opcodes[number]);
         Py_XDECREF(own->causes[number]);
     }
+    for (int at = 0; at < 5; at++) Py_XDECREF(own->types[at]);
     PyMem_Free(own);
 }
 
-/* Fills it. -1, with an ImportError: the path is not the library, or one of another version. */
+/* The word of a number, in one of the dictionaries of _types.py. */
+static PyObject *word(PyObject *words, uint32_t number) {
+    PyObject *key = PyLong_FromUnsignedLong(number), *found = key ? PyObject_GetItem(words, key) : NULL;
+    Py_XDECREF(key);
+    return found;
+}
+
+/* Fills it. -1, with an exception: the path is not the library, or one of another version. */
 static int fill_own(Own *own, const char *path, PyObject *arguments, PyObject *types) {
     void *opened = dlopen(path, RTLD_NOW | RTLD_LOCAL);
     if (!opened) {
@@ -77,11 +88,13 @@ static int fill_own(Own *own, const char *path, PyObject *arguments, PyObject *t
     if (!(own->py_##name = PyObject_GetAttrString(types, #name))) return -1;
     TYPES(X)
 #undef X
-    for (int number = 1; number < 4; number++) {
-        own->opcodes[number] = PyObject_CallFunction(own->py_Opcode, "i", number);
-        own->causes[number] = PyObject_CallFunction(own->py_Cause, "i", number);
+    for (uint32_t number = 1; number < 4; number++) {
+        own->opcodes[number] = PyObject_CallFunction(own->py_Opcode, "I", number);
+        own->causes[number] = word(own->py_CAUSES, number);
         if (!own->opcodes[number] || !own->causes[number]) return -1;
     }
+    for (int at = 0; at < 5; at++)
+        if (!(own->types[at] = word(own->py_TYPES, type_codes[at]))) return -1;
     return 0;
 }
 
@@ -130,6 +143,12 @@ static PyObject *natural(uint64_t number) {
 
 static PyObject *text(const char *at, size_t size) {
     return PyUnicode_DecodeUTF8(at, (Py_ssize_t)size, NULL);
+}
+
+static PyObject *type(const Own *own, uint32_t number) {
+    int at = 0;
+    while (at < 4 && type_codes[at] != number) at++;
+    return same(own->types[at]);
 }
 
 static PyObject *kind(const Own *own, uint32_t number) {
@@ -673,10 +692,8 @@ METHOD(find_path) {
 }
 
 static PyObject *attribute(const Own *own, const lq_attr *it) {
-    char type[4];
-    for (int at = 0; at < 4; at++) type[at] = (char)(it->type >> (24 - 8 * at));
     bool is_signed = it->type == LQ_INT32 || it->type == LQ_INT64;
-    return RECORD(own->py_Attribute, text(it->name, it->name_size), text(type, sizeof type),
+    return RECORD(own->py_Attribute, text(it->name, it->name_size), type(own, it->type),
                   it->type == LQ_TEXT ? text(it->text, it->text_size)
                   : is_signed         ? PyLong_FromLongLong(it->whole)
                                       : natural(it->natural));

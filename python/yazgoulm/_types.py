@@ -3,10 +3,50 @@ import enum, errno, reprlib
 from typing import Any, Iterable, List, NamedTuple, Optional, Tuple, Union
 
 ROOT = 1
-FILE, FOLDER = "file", "folder"
 
-# The types of an attribute, by the numbers of Be's TypeConstants.h, which spell the names.
-TYPES = {int.from_bytes(name.encode(), "big"): name for name in ("CSTR", "LONG", "LLNG", "ULNG", "ULLG")}
+
+class _Text(str, enum.Enum):
+    """One of a few words, and its number in lq.h: it is a text in all that asks for one."""
+
+    code: int
+
+    def __new__(cls, word: str, code: int) -> "_Text":
+        made = str.__new__(cls, word)
+        made._value_, made.code = word, code
+        return made
+
+    def __str__(self) -> str:
+        return str(self.value)
+
+    def __repr__(self) -> str:
+        return repr(self.value)
+
+    def __format__(self, form: str) -> str:
+        return format(self.value, form)
+
+
+class Kind(_Text):
+    """What an entry is: a text, "file" or "folder", which has the number of lq.h as `code`."""
+
+    FILE = "file", 0
+    FOLDER = "folder", 1
+
+
+FILE, FOLDER = Kind.FILE, Kind.FOLDER
+
+
+class Type(_Text):
+    """The type of an attribute: a text, which has the number of Be's TypeConstants.h as `code`. CSTR is of texts; LONG
+    and LLNG are of numbers with a sign, of 32 and 64 bits, ULNG and ULLG of those without."""
+
+    CSTR = "CSTR", 0x43535452
+    LONG = "LONG", 0x4C4F4E47
+    LLNG = "LLNG", 0x4C4C4E47
+    ULNG = "ULNG", 0x554C4E47
+    ULLG = "ULLG", 0x554C4C47
+
+
+TYPES = {type.code: type for type in Type}
 
 
 class _Word(enum.IntEnum):
@@ -31,13 +71,15 @@ class Opcode(_Word):
 B_ENTRY_CREATED, B_ENTRY_REMOVED, B_ENTRY_MOVED = Opcode
 
 
-class Cause(_Word):
-    """Why a query ended. As a text it is the word of a script: "closed", "hung_up" or "overrun"."""
+class Cause(_Text):
+    """Why a query ended: a text, the word of a script, which has the number of lq.h as `code`."""
 
-    CLOSED, HUNG_UP, OVERRUN = range(1, 4)
+    CLOSED = "closed", 1
+    HUNG_UP = "hung_up", 2
+    OVERRUN = "overrun", 3
 
-    def __str__(self) -> str:
-        return self.name.lower()
+
+CAUSES = {cause.code: cause for cause in Cause}
 
 
 class Op(enum.IntEnum):
@@ -77,7 +119,7 @@ class Entry(NamedTuple):
     dir: int
     node: int
     name: str
-    kind: str
+    kind: Kind
     size: int
     time: int
 
@@ -86,7 +128,7 @@ class Attribute(NamedTuple):
     """An attribute: `type` is "CSTR" with a str, or "LONG", "LLNG", "ULNG" or "ULLG" with an int."""
 
     name: str
-    type: str
+    type: Type
     value: Union[str, int]
 
 
@@ -96,7 +138,7 @@ class Info(NamedTuple):
     dir: int
     node: int
     name: str
-    kind: str
+    kind: Kind
     size: int
     time: int
     attributes: List[Attribute]

@@ -9,8 +9,8 @@ sys.path.insert(0, os.environ.get("YAZGOULM_PACKAGE") or f"{TOP}/python")
 import yazgoulm
 from yazgoulm import (
     B_ENTRY_CREATED, B_ENTRY_MOVED, B_ENTRY_REMOVED, FILE, FOLDER, ROOT, Applied, Attr, Attribute, BadQuery, Cause,
-    Difference, Entry, Exists, Mark, Message, NoMemory, NotFound, Op, Opcode, Overrun, Place, Query, Refused, Volume,
-    to_bytes, to_name,
+    Difference, Entry, Exists, Kind, Mark, Message, NoMemory, NotFound, Op, Opcode, Overrun, Place, Query, Refused,
+    Type, Volume, to_bytes, to_name,
 )
 
 SECONDS = 8  # the longest wait for something that has to come
@@ -260,6 +260,29 @@ class Volumes(Case):
         self.assertEqual(len(self.volume.children()), 1000)
         self.assertEqual(self.volume.open("size>=900").entries, found[900:])
 
+    def test_words_are_texts_with_numbers(self):
+        """Causes, kinds and types: each is equal to its word, and goes wherever a text does."""
+        volume = self.volume
+        node = volume.create("a", kind=Kind.FILE).node
+        for type in Type:
+            volume.set(node, type, "t" if type == "CSTR" else 1, type)
+        query = volume.open("size>=0")
+        query.close()
+        [*query]
+        found = [(volume.entry(node).kind, Kind.FILE, "file", 0), (query.mark.cause, Cause.CLOSED, "closed", 1)]
+        found += [(volume.children()[0].kind, FILE, "file", 0), (volume.entry(node).kind, FILE, "file", 0)]
+        for it in volume.entry(node).attributes:
+            found.append((it.type, Type[it.name], it.name, int.from_bytes(it.name.encode(), "big")))
+        for is_it, member, said, number in found:
+            self.assertIs(is_it, member)
+            self.assertEqual((is_it, str(is_it), f"{is_it:>8}", repr(is_it), json.loads(json.dumps(is_it)), is_it.code),
+                             (said, said, f"{said:>8}", repr(said), said, number))
+            self.assertIs(pickle.loads(pickle.dumps(is_it)), member)
+            self.assertEqual({said: 1}[is_it], 1)
+        self.assertEqual([cause.code for cause in Cause], [1, 2, 3])
+        self.assertEqual((Kind("folder"), Cause("overrun"), Type("LLNG")), ("folder", "overrun", "LLNG"))
+        self.assertEqual(volume.entry(volume.create("in", kind="folder").node).kind.code, 1)
+
     def test_attributes(self):
         volume, node = self.volume, self.volume.create("a").node
         values = [("t", "CSTR", "a\0b"), ("e", "CSTR", ""), ("l", "LONG", -(2**31)), ("ll", "LLNG", -(2**63))]
@@ -457,7 +480,7 @@ class Volumes(Case):
         query.close()
         query.read()
         self.assertEqual((repr(query), repr(query.mark)), ("<Query 'size>=0', slot 1, closed>",
-                                                           "Mark(seq=2, change=1, cause=closed)"))
+                                                           "Mark(seq=2, change=1, cause='closed')"))
         query.drop()
         volume.close()
         self.assertEqual((repr(query), repr(volume)), ("<Query 'size>=0', dropped>", "<Volume, closed>"))
