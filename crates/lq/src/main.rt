@@ -12,8 +12,9 @@ const NO_MEMORY: u8 = 1;
 /// The status of a run with a word that is not UTF-8.
 const USAGE: u8 = 2;
 
-/// The stack that is taken before all else, in bytes: more than any script was seen to take.
-const STACK: usize = 131_072;
+/// The stack that is taken before all else, in bytes: more than any script was seen to take, of
+/// which `threads` takes the most.
+const STACK: usize = 262_144;
 
 fn main(rt: HostRuntime) -> ExitCode {
     let mut faults = Host::new(rt.stderr());
