@@ -859,7 +859,7 @@ class Queries(Case):
         self.assertEqual(len(self.volume.ready()), len(kept))
 
     def elsewhere(self, *calls):
-        """Makes calls on another thread, one after another, a moment apart."""
+        """Makes calls on another thread, one after another, a moment apart. The thread is returned."""
         def go():
             for call in calls:
                 time.sleep(0.01)
@@ -868,6 +868,7 @@ class Queries(Case):
         thread = threading.Thread(target=go)
         thread.start()
         self.addCleanup(thread.join)
+        return thread
 
     def test_a_read_that_waits(self):
         volume, query = self.volume, self.volume.open("size>=0", 3)
@@ -885,7 +886,7 @@ class Queries(Case):
         self.assertEqual((query.read(timeout=None), query.mark.cause), (None, Cause.CLOSED))
         self.assertIsNone(query.read(timeout=None))
         query.reopen()
-        self.elsewhere(lambda: [volume.create(f"f{number}") for number in range(9)])
+        self.elsewhere(lambda: [volume.create(f"f{number}") for number in range(9)]).join()
         with self.assertRaises(Overrun):
             for number in range(9):
                 self.assertEqual(query.read(timeout=None).name, f"f{number}")
