@@ -33,7 +33,13 @@ def write(text: bytes) -> None:
     except BrokenPipeError:
         raise Unread() from None
     except OSError as error:
+        let_go()
         raise Trouble(f"standard output: {error.strerror}", ENDED) from None
+
+
+def let_go() -> None:
+    """Standard output takes no more: what Python still has for it is dropped, so that its last flush doesn't fail."""
+    os.dup2(os.open(os.devnull, os.O_WRONLY), sys.stdout.fileno())
 
 
 def say(line: str) -> None:
@@ -73,7 +79,7 @@ def carried_out(name: str, main: Callable[[], Optional[int]]) -> int:
     try:
         return main() or 0
     except Unread:
-        os.dup2(os.open(os.devnull, os.O_WRONLY), sys.stdout.fileno())  # for what Python has still to write
+        let_go()
         return UNREAD
     except (Error, OSError, ValueError) as error:
         line, status = reason(error)
