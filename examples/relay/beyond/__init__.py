@@ -1,13 +1,18 @@
 """A relay over a log that an engine keeps, in order from the engine to the user.
 
-    engine    streams of records and one transaction, by Redis
-    changes   which lines are changes, and what the others are answered
-    snapshot  the entries of a volume as a text, and a volume from it
+    engine    streams of records, by Redis
+    batches   the log of what the relay took, and what it alone writes
+    changes   which lines are changes, what the others are answered, and which were answered before
+    snapshot  the entries of a volume in pieces, and a volume from them
     window    a live query, and the records that its clients read
+    windows   the table of windows, their names, and the answers to requests
     server    takes changes and requests in order, and writes what they give
+    serving   serves until it is stopped, and begins again where the engine had gone
+    status    what the relay is doing, for whoever watches over it
     producer  sends changes, each once
     client    asks for a window, and folds what comes
 """
+import contextlib
 
 
 class Trouble(Exception):
@@ -21,3 +26,12 @@ class Trouble(Exception):
 UNUSABLE = 2  # the command can't begin with its arguments, or another relay is at work
 ENDED = 3  # something that it needs has gone, or the log isn't what this program would write
 UNREAD = 141  # nobody reads standard output, as after SIGPIPE
+
+
+@contextlib.contextmanager
+def reading(what):
+    """Trouble where something that is stored can't be read: another program, or a hand, has written it."""
+    try:
+        yield
+    except (ValueError, LookupError, TypeError, AttributeError, RecursionError) as error:
+        raise Trouble(f"{what} isn't what this program writes: {error!r}", ENDED) from None

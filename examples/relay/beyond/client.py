@@ -1,41 +1,59 @@
 """A client: asks for a window by its name and a formula, and folds what comes."""
 import json, time
 
-from . import ENDED, UNUSABLE, Trouble
-from .engine import SECONDS, Gone
+from . import ENDED, UNUSABLE, Trouble, reading
+from .engine import PART, SECONDS, SILENT, Gone, Pause
 
-MESSAGES = 1000  # records that are read at a time
+BEAT = 5.0  # seconds between two signs of life of a client
+LOOK = 1.0  # and between two looks at what it follows, while nothing comes
 
 
 class Follower:
     """A window as this client has it. `rows` has the folder's node and the name of each entry, by its node; `change` is
-    the change of the last message. Where `is_settled`, `rows` is the query's result after that change.
+    the change of the last message. Where `is_settled`, `rows` is the query's result after that change. While nothing
+    comes, `age` is how many seconds ago the relay gave a sign of life, and `lag` how many changes waited then.
 
-    It calls `opened` with itself and a line that says why, or None at first, and `heard` with each message."""
+    It calls `opened` with itself and a line that says why, or None at first, `heard` with each message, and `told` with
+    a line where the relay is silent or is back."""
 
-    def __init__(self, log, name, formula, opened=lambda *_: None, heard=lambda _: None):
-        self.log, self.name, self.formula, self.opened, self.heard = log, name, formula, opened, heard
-        self.rows = {}
+    def __init__(self, log, name, formula, opened=lambda *_: None, heard=lambda _: None, told=lambda _: None):
+        self.log, self.name, self.formula = log, name, formula
+        self.opened, self.heard, self.told = opened, heard, told
+        self.rows, self.pause = {}, Pause()
+        self.age, self.lag, self.is_silent = None, None, False
+        self.beaten = self.looked = 0.0
+
+    # ---- a beginning
 
     def begin(self, why=None):
-        """Asks for the window, and takes its newest opening."""
-        stream = f"window:{self.ask()}"
-        newest = next((it for it in self.log.backwards(stream) if b"opening" in it[1]), None)
-        if newest is None:
-            raise Gone(f"{stream} has no opening")
-        self.stream, self.position = stream, newest[0]
-        opening = json.loads(newest[1][b"opening"])
-        self.seq, self.change, self.is_settled, self.rows = opening["seq"], opening["change"], True, rows_of(opening)
+        """Asks for the window, and takes its newest opening. Where the last beginning was no help, it waits before."""
+        if why:
+            why += self.pause.words()
+            self.pause.wait()
+        self.beat()
+        self.stream = f"window:{self.ask()}"
+        newest = self.newest() or self.ask(opening="1") and self.newest()
+        if not newest:
+            raise Gone(f"{self.log.key(self.stream)} has no opening")
+        self.position, record = newest
+        with reading(f"{self.log.key(self.stream)} {self.position.decode()}"):
+            opening = json.loads(record[b"opening"])
+            self.seq, self.change, self.rows = opening["seq"], opening["change"], rows_of(opening)
+        self.is_settled = True
         self.opened(self, why)
 
-    def ask(self):
+    def newest(self):
+        return next((it for it in self.log.backwards(self.stream) if b"opening" in it[1]), None)
+
+    def ask(self, **more):
         """Has the relay open the window. Returns its number."""
         position, end = self.log.end("opened"), time.monotonic() + SECONDS
-        asked, = self.log.append("windows", [{"name": self.name, "query": self.formula}])
+        asked, = self.log.append("windows", [{"name": self.name, "query": self.formula, **more}])
         while time.monotonic() < end:
-            for position, record in self.log.read({"opened": position}, MESSAGES, 1).get("opened", ()):
-                if record[b"of"] == asked:
-                    return self.number(json.loads(record[b"reply"]))
+            for position, record in self.log.read({"opened": position}, PART, 1).get("opened", ()):
+                if record.get(b"of") == asked:
+                    with reading(f"{self.log.key('opened')} {position.decode()}"):
+                        return self.number(json.loads(record[b"reply"]))
         raise Trouble(f"no relay answers for {self.log.name}", ENDED)
 
     def number(self, reply):
@@ -43,38 +61,75 @@ class Follower:
             raise Trouble(f"{self.formula}: {reply['error']}", UNUSABLE)
         return reply["window"]
 
+    # ---- what comes
+
     def turn(self, seconds):
-        """Folds the records that have come. Begins anew where the next one isn't the next message: some were trimmed,
-        or the log ended earlier than this client."""
-        for position, record in self.log.read({self.stream: self.position}, MESSAGES, seconds).get(self.stream, ()):
-            if not self.fold(record):
-                return self.begin(f"the next message after {self.seq} isn't kept")
+        """Folds the records that have come. Begins anew where the next one isn't the next message, or the last one has
+        gone: some were trimmed, the stream was deleted, or the log ended earlier than this client."""
+        records = self.log.read({self.stream: self.position}, PART, seconds).get(self.stream, ())
+        for position, record in records:
+            with reading(f"{self.log.key(self.stream)} {position.decode()}"):
+                why, message = self.fold(record)
+            if why:
+                return self.begin(why)
             self.position = position
+            if message:
+                self.pause.reset()
+                self.heard(message)
+        self.beat()
+        if not records and time.monotonic() > self.looked + LOOK:
+            self.looked = time.monotonic()
+            self.resume()
+            self.look()
 
     def fold(self, record):
-        """Folds a record. Returns whether it is the next one."""
+        """Folds a record. Returns why it isn't the next one, or None, and the message, if it is one."""
+        gap = f"the next message after {self.seq} isn't kept"
         if b"mark" in record:
-            raise Trouble(f"the window of {self.formula} has ended: {record[b'mark'].decode()}", ENDED)
+            return self.ended(json.loads(record[b"mark"])["cause"]), None
         if b"opening" in record:
             opening = json.loads(record[b"opening"])
             if opening["seq"] == self.seq and rows_of(opening) != self.rows:
                 raise Trouble(f"the opening at {opening['change']} differs from the messages", ENDED)
-            return opening["seq"] == self.seq
+            return None if opening["seq"] == self.seq else gap, None
         message = json.loads(record[b"message"])
         if message["seq"] != self.seq + 1:
-            return False
+            return gap, None
         self.seq, self.change, self.is_settled = message["seq"], message["change"], message["last"]
         if message["op"] == "B_ENTRY_REMOVED":
             del self.rows[message["node"]]
         else:
             self.rows[message["node"]] = message["dir"], message["name"]
-        self.heard(message)
-        return True
+        return None, message
+
+    def ended(self, cause):
+        """A window ends with its last name. This client asks again where it was late with its signs of life."""
+        if cause == "lease":
+            return "the lease of the window's names has ended"
+        raise Trouble(f"the window of {self.formula} has ended: {cause}", ENDED)
 
     def resume(self):
         """Goes on where the engine had gone. Begins anew where the last record that was folded isn't there any more."""
         if not self.log.has(self.stream, self.position):
             self.begin(f"the record of change {self.change} isn't kept")
+
+    # ---- signs of life
+
+    def beat(self):
+        """Keeps the lease of the window's name."""
+        if time.monotonic() > self.beaten + BEAT:
+            self.log.beat(self.name)
+            self.beaten = time.monotonic()
+
+    def look(self):
+        """Looks for the relay's last sign of life, and says where it is silent or is back."""
+        life = self.log.life()
+        self.age, self.lag = (life["age"], int(life["lag"])) if life else (None, None)
+        is_silent = life is None or life["age"] > SILENT
+        if is_silent != self.is_silent:
+            self.is_silent = is_silent
+            self.told(f"no relay serves {self.log.name}: what is shown is as of change {self.change}" if is_silent
+                      else f"a relay serves {self.log.name} again")
 
 
 def rows_of(opening):

@@ -1,26 +1,48 @@
-"""The engine: streams of records, a state, and a transaction over both, by Redis.
+"""The engine: streams of records, by Redis.
 
-`Log` is all that the other modules know of it. A position names a record of a stream, and is opaque to them. Over Kafka
-a stream would be a partition, a position an offset, the state a compacted topic, and the fencing number the epoch of a
-producer with a transactional id; over NATS JetStream a stream's sequence and a key-value bucket."""
-import functools, os, sys, time, uuid
+`Log` is all that the other modules know of it, with `Batches`. A position names a record of a stream, and is opaque to
+them. Over Kafka a stream would be a partition and a position an offset; over NATS JetStream a stream's sequence."""
+import functools, os, sys, time
 
 try:
     import redis
+    from redis.backoff import NoBackoff
+    from redis.retry import Retry
 except ImportError:
     redis = None  # need_redis says so
 
-from . import ENDED, UNUSABLE, Trouble
+from . import ENDED, UNUSABLE, Trouble, reading
 
 DEBIAN = "/usr/bin/python3"  # the Python that Debian's package python3-redis belongs to
 START = b"0-0"  # the position before a stream's first record
+NOBODY = b"-"  # who serves, after a relay was stopped
 SECONDS = 30  # the longest wait for an engine that has gone
-BACKWARDS = 100  # records that are read at a time from the end of a stream
-REPLIES = 10_000  # records that `replies` and `opened` keep
+SILENT = 10  # seconds without a sign of life of the relay, after which it is said that none serves
+PART = 1000  # records that are read at a time
+BACKWARDS = 100  # and from the end of a stream
 
 
 class Gone(Exception):
     """The engine has gone, or holds something else than before. Whether the last call was done isn't known."""
+
+
+class Pause:
+    """The wait before a new beginning: none before the first, then twice as long each time, until one helps."""
+
+    FIRST, LONGEST = 0.1, 10.0
+
+    def __init__(self):
+        self.seconds = 0.0
+
+    def wait(self):
+        time.sleep(self.seconds)
+        self.seconds = min(2 * self.seconds or self.FIRST, self.LONGEST)
+
+    def words(self):
+        return f" in {self.seconds:g} s" if self.seconds else ""
+
+    def reset(self):
+        self.seconds = 0.0
 
 
 def need_redis():
@@ -33,7 +55,7 @@ def need_redis():
 
 
 def reaches(call):
-    """A call of Log whose errors are Gone and Trouble."""
+    """A call to the engine whose errors are Gone and Trouble."""
 
     @functools.wraps(call)
     def reached(*given, **named):
@@ -48,13 +70,13 @@ def reaches(call):
 
 
 class Log:
-    """The streams of one name. `changes` and `windows` keep all records, the stream of a window its last `keep`."""
+    """The streams of one name. `changes`, `windows` and `log` keep all records, the stream of a window its last `keep`.
+    After `lock` seconds without a sign of life of the relay another one may take its place."""
 
     def __init__(self, url, name, keep=10_000, lock=3.0):
-        self.name, self.keep, self.lock = name, keep, lock
-        self.me, self.fence, self.renewed = uuid.uuid4().hex.encode(), 0, 0.0
+        self.url, self.name, self.keep, self.lock = url, name, keep, lock
         try:
-            self.pool = redis.ConnectionPool.from_url(url, socket_timeout=SECONDS)
+            self.pool = redis.ConnectionPool.from_url(url, socket_timeout=SECONDS, retry=Retry(NoBackoff(), 0))
         except ValueError as error:
             raise Trouble(f"{url}: {error}", UNUSABLE) from None
         self.connected = None
@@ -80,7 +102,16 @@ class Log:
                     raise Trouble(f"the engine has gone: {gone}", ENDED) from None
                 time.sleep(0.05)
 
-    # ---- what every program does
+    @reaches
+    def send(self, *commands):
+        """Sends commands at once, over the connection that this holds. Returns the answers, among them refusals."""
+        connection = self.redis.connection
+        try:
+            connection.send_packed_command(connection.pack_commands(commands))
+            return [answer_of(connection) for _ in commands]
+        except (redis.ConnectionError, redis.TimeoutError):
+            connection.disconnect()
+            raise
 
     @reaches
     def append(self, stream, records):
@@ -98,16 +129,11 @@ class Log:
         cut = len(self.key(""))
         return {key.decode()[cut:]: records for key, records in found}
 
-    @reaches
-    def has(self, stream, position):
-        """Whether a record still stands at its position."""
-        return bool(self.redis.xrange(self.key(stream), position, position))
-
-    @reaches
-    def end(self, stream):
-        """The position of a stream's last record."""
-        found = self.redis.xrevrange(self.key(stream), count=1)
-        return found[0][0] if found else START
+    def forwards(self, stream, position):
+        """The records of a stream after a position, with their positions."""
+        while found := self.read({stream: position}, PART).get(stream):
+            yield from found
+            position = found[-1][0]
 
     def backwards(self, stream):
         """The records of a stream, with their positions, the last one first."""
@@ -117,67 +143,83 @@ class Log:
             top = b"(" + found[-1][0]
 
     @reaches
-    def before(self, stream, top):
-        return self.redis.xrevrange(self.key(stream), top, count=BACKWARDS)
+    def before(self, stream, top, count=BACKWARDS):
+        return self.redis.xrevrange(self.key(stream), top, count=count)
 
     @reaches
+    def first(self, stream):
+        """The first record that a stream keeps, with its position, if there is one."""
+        return self.redis.xrange(self.key(stream), count=1)
+
+    @reaches
+    def has(self, stream, position):
+        """Whether a record still stands at its position."""
+        return bool(self.redis.xrange(self.key(stream), position, position))
+
+    def end(self, stream):
+        """The position of a stream's last record."""
+        found = self.before(stream, b"+", 1)
+        return found[0][0] if found else START
+
     def state(self):
-        """The fields that the last transaction left."""
-        return {field.decode(): value for field, value in self.redis.hgetall(self.key("state")).items()}
-
-    # ---- what the relay alone does
-
-    @reaches
-    def snapshot(self):
-        return self.redis.get(self.key("snapshot"))
+        """The fields of the last batch: up to where the relay has taken the changes and the requests."""
+        found = self.before("log", b"+", 1)
+        return {field.decode(): value for field, value in found[0][1].items()} if found else {}
 
     @reaches
-    def take(self):
-        """Takes the lock and a new fencing number. It waits for as long as the lock of a relay that died can stand."""
-        end = time.monotonic() + 2 * self.lock
-        while not self.redis.set(self.key("lock"), self.me, px=int(1000 * self.lock), nx=True):
-            if self.redis.get(self.key("lock")) == self.me:
-                break
-            if time.monotonic() > end:
-                raise Trouble(f"another relay serves {self.name}", UNUSABLE)
-            time.sleep(self.lock / 20)
-        self.renewed = 0.0
-        self.fence = self.redis.hincrby(self.key("state"), "fence", 1)
+    def lag(self, taken):
+        """How many changes wait, where so many were taken."""
+        answer, = self.send(("XINFO", "STREAM", self.key("changes")))
+        if isinstance(answer, redis.ResponseError):  # there is no such stream
+            return 0
+        added = dict(zip(answer[::2], answer[1::2])).get(b"entries-added")
+        if added is None:
+            raise Trouble("redis-server 7 is needed, and this one is older", UNUSABLE)
+        return added - taken
 
     @reaches
-    def renew(self):
-        """Keeps the lock, where a third of its time has passed."""
-        if time.monotonic() < self.renewed + self.lock / 3:
-            return
-        self.check(int(self.redis.hget(self.key("state"), "fence") or 0))
-        self.redis.set(self.key("lock"), self.me, px=int(1000 * self.lock))
-        self.renewed = time.monotonic()
+    def memory(self):
+        """How many bytes the engine has, and may have; 0 stands for no limit."""
+        found = self.redis.info("memory")
+        return {"redis": found["used_memory"], "limit": found["maxmemory"]}
 
-    def check(self, fence):
-        """Raises Trouble where another relay has a higher number."""
-        if fence > self.fence:
-            raise Trouble(f"another relay has taken over {self.name}", ENDED)
+    # ---- signs of life
 
     @reaches
-    def commit(self, taken, records, fields, snapshot=None, ended=()):
-        """Appends records and sets fields of the state in one transaction: all of it is done, or nothing.
+    def beat(self, name):
+        """A sign of life of a client, for the lease of its name."""
+        self.redis.hincrby(self.key("beats"), name, 1)
 
-        It tests that no relay has a higher fencing number, and that the state has taken as many changes as this
-        relay knew. Where the log ends earlier, since the engine lost its last second, it is Gone."""
-        state = self.key("state")
-        with self.redis.pipeline() as pipe:
-            pipe.watch(state)
-            fence, found = (int(number or 0) for number in pipe.hmget(state, "fence", "taken"))
-            self.check(fence)
-            if (fence, found) != (self.fence, taken):
-                raise Gone("the log ends earlier than before")
-            pipe.multi()
-            for stream, record in records:
-                keep = REPLIES if stream in ("replies", "opened") else self.keep
-                pipe.xadd(self.key(stream), record, maxlen=keep, approximate=False)
-            for stream in ended:
-                pipe.expire(self.key(stream), 3600)
-            pipe.hset(state, mapping=fields)
-            if snapshot is not None:
-                pipe.set(self.key("snapshot"), snapshot)
-            pipe.execute()
+    @reaches
+    def beats(self):
+        """How many signs of life the clients of each name have given."""
+        return self.redis.hgetall(self.key("beats"))
+
+    @reaches
+    def forget(self, names):
+        self.redis.hdel(self.key("beats"), *names)
+
+    @reaches
+    def life(self, *more):
+        """The relay's last sign of life: how many seconds ago it gave it (`age`), its `lag`, and more of its fields.
+        None where no relay gave one."""
+        with self.redis.pipeline(transaction=False) as pipe:
+            fields = "at", "lag", *more
+            (seconds, micros), found = pipe.time().hmget(self.key("life"), fields).execute()
+        if not found[0]:
+            return None
+        with reading(self.key("life")):
+            found = {field: (value or b"0").decode() for field, value in zip(fields, found)}
+            return {**found, "age": max(0.0, seconds + micros / 1e6 - int(found["at"]) / 1000)}
+
+
+def answer_of(connection):
+    try:
+        return connection.read_response()
+    except redis.ResponseError as refusal:
+        return refusal
+
+
+def order(position):
+    """Positions of a stream compare by this: their time, and their number in it."""
+    return tuple(map(int, position.split(b"-")))

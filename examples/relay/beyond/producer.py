@@ -1,18 +1,22 @@
 """Appends changes to the log, each once, and has their replies. `load` sends a tree of files."""
 import json, os, stat, time, uuid
 
-from . import ENDED, Trouble
-from .engine import SECONDS, Gone
+from . import ENDED, Trouble, reading
+from .engine import SECONDS, Gone, order
 
 LINES = 1000  # lines that are sent before their replies are awaited
 ROOT = 1
 
 
 class Producer:
-    """An entry of the log has its line, and `by`: a word of this producer's alone, and the line's number."""
+    """An entry of the log has its line, and `by`: a word of this producer's alone, and the line's number.
 
-    def __init__(self, log):
-        self.log, self.me, self.sent = log, uuid.uuid4().hex[:12], 0
+    A program that was stopped goes on with the `key` of before, and with the number of the first line whose reply it
+    hasn't: the relay does each number of a key once, and remembers the last 10,000 changes. Two programs that run at
+    once need two keys."""
+
+    def __init__(self, log, key=None, sent=0):
+        self.log, self.me, self.sent = log, key or uuid.uuid4().hex[:12], sent
 
     def change(self, **fields):
         """Sends one change. Returns its reply."""
@@ -53,15 +57,27 @@ class Producer:
 
     def replies(self, position, places):
         """The replies to the entries at these places, in their order."""
-        replies, end = {}, time.monotonic() + SECONDS
-        while len(replies) < len(places):
-            for position, record in self.log.read({"replies": position}, LINES, 1).get("replies", ()):
-                if record[b"of"] in places:
-                    replies[record[b"of"]] = json.loads(record[b"reply"])
+        wanted, replies, end = {*places}, {}, time.monotonic() + SECONDS
+        while len(replies) < len(wanted):
+            records = self.log.read({"replies": position}, LINES, 1).get("replies", [])
+            for position, record in records:
+                if record.get(b"of") in wanted:
+                    with reading(f"{self.log.key('replies')} {position.decode()}"):
+                        replies[record[b"of"]] = json.loads(record[b"reply"])
                     end = time.monotonic() + SECONDS
+            self.check_kept([it for it in places if it not in replies], records[-1:] or self.log.first("replies"))
             if time.monotonic() > end:
                 raise Trouble(f"no relay answers for {self.log.name}", ENDED)
         return [replies[place] for place in places]
+
+    def check_kept(self, missing, found):
+        """Trouble where a reply is missing, and one to a later change stands there: replies come in order."""
+        for position, record in found:
+            with reading(f"{self.log.key('replies')} {position.decode()}"):
+                is_past = missing and order(record[b"of"]) > order(missing[0])
+            if is_past:
+                where = f"{self.log.key('changes')} {missing[0].decode()}"
+                raise Trouble(f"{where} was taken, and its reply isn't kept any more", ENDED)
 
 
 def load(producer, folder, say):

@@ -1,20 +1,42 @@
-"""The entries of a volume as a text, and a volume that has them under the same nodes."""
+"""The entries of a volume in pieces, and a volume that has them under the same nodes."""
 import itertools, json
 
 from yazgoulm import ROOT
 
 PART = 10_000  # entries after which `pause` is called
+PIECE = 1_000_000  # bytes of a piece of a snapshot, and an entry more
 
 
 def listing(volume, pause):
     """Each entry with all that it has, by rising node."""
-    entries = []
     for number, row in enumerate(volume.fetch("name==*"), 1):
         it = volume.entry(row.node)
-        entries.append([it.node, it.dir, it.name, it.kind, it.size, it.time, it.attributes])
+        yield [it.node, it.dir, it.name, it.kind, it.size, it.time, it.attributes]
         if number % PART == 0:
             pause()
-    return entries
+
+
+def to_pieces(head, items):
+    """A snapshot as texts: the head, lists of the items, and how many items there are."""
+    yield to_text(head)
+    part, size, count = [], 0, 0
+    for item in items:
+        part.append(to_text(item))
+        size, count = size + len(part[-1]), count + 1
+        if size > PIECE:
+            yield f"[{','.join(part)}]"
+            part, size = [], 0
+    yield f"[{','.join(part)}]"
+    yield to_text(count)
+
+
+def from_pieces(pieces):
+    """The head and the items of a snapshot; ValueError where pieces are missing."""
+    head, *lists, count = map(json.loads, pieces)
+    items = [item for each in lists for item in each]
+    if len(items) != count:
+        raise ValueError(f"{len(items)} of {count} entries are there")
+    return head, items
 
 
 def restore(volume, entries, nodes, pause):
@@ -45,5 +67,5 @@ def restore(volume, entries, nodes, pause):
         volume.move(*place)
 
 
-def to_text(**parts):
-    return json.dumps(parts, separators=(",", ":"))
+def to_text(it):
+    return json.dumps(it, separators=(",", ":"))

@@ -5,6 +5,7 @@ from . import ENDED, Trouble
 
 CHANGES = 250  # changes of a turn; each sends a window at most three messages
 BACKLOG = 3 * CHANGES
+LARGEST = 32_000_000  # bytes of an opening
 
 
 def to_json(fields):
@@ -12,18 +13,20 @@ def to_json(fields):
 
 
 class Window:
-    """The query of one formula, and the names of those who asked for it. It was opened after `opened` entries of the
-    log of changes. `seq` is the number of its last message, and `latest` that message as it was written.
+    """The query of one formula. It was opened after `opened` entries of the log of changes. `seq` is the number of its
+    last message, and `latest` that message as it was written.
 
     A volume that was restored counts its changes from another number, and its query counts messages from 1: `shift` and
-    `seq` are added. After `far` messages since the last opening a new one is written, so that the older may go."""
+    `seq` are added. After `far` messages since the last opening a new one is written, so that the older may go. A
+    result whose opening `is_too_large` can't be served."""
 
     def __init__(self, volume, number, formula, opened, shift, far, seq=0, latest=None):
-        self.number, self.formula, self.opened, self.names = number, formula, opened, []
+        self.number, self.formula, self.opened = number, formula, opened
         self.query = volume.open(formula, BACKLOG, moved=True, on_overrun="mark")
         self.shift, self.base, self.seq, self.latest = shift, seq, seq, latest
         self.change = self.query.at + shift
         self.far = self.since = far
+        self.is_too_large = False
 
     @property
     def stream(self):
@@ -36,7 +39,7 @@ class Window:
             raise Trouble(f"the query {self.formula} has ended: {self.query.mark.cause}", ENDED)
         self.since += len(records)
         if records and self.since >= self.far:
-            records.append(self.opening())
+            records += self.opening()
         return records
 
     def record(self, message):
@@ -47,15 +50,16 @@ class Window:
         return {"message": self.latest}
 
     def opening(self):
-        """The result as the messages so far make it, which is settled after all changes of a turn."""
+        """The result as the messages so far make it, which is settled after all changes of a turn: one record."""
         self.since = 0
-        return {"opening": to_json({"change": self.change, "seq": self.seq, "result": self.query.result().entries})}
+        text = to_json({"change": self.change, "seq": self.seq, "result": self.query.result().entries})
+        self.is_too_large = len(text) > LARGEST
+        return [] if self.is_too_large else [{"opening": text}]
 
-    def end(self, change):
+    def end(self, cause, change):
         """Ends the query. Returns its mark."""
         self.query.drop()
-        mark = {"what": "END", "cause": "closed", "change": change, "seq": self.seq + 1}
-        return {"mark": to_json(mark)}
+        return {"mark": to_json({"what": "END", "cause": cause, "change": change, "seq": self.seq + 1})}
 
     def compare(self, log):
         """Raises Trouble where the stream's last message isn't the one that this window wrote last."""

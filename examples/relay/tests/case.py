@@ -1,5 +1,5 @@
 """What the tests of the relay share: a Redis of their own, a relay in this process or in another, and drawn changes."""
-import json, os, random, shutil, socket, subprocess, sys, tempfile, unittest, zlib
+import glob, json, os, random, shutil, socket, subprocess, sys, tempfile, time, unittest, zlib
 
 sys.dont_write_bytecode = True
 HERE = os.path.dirname(os.path.dirname(os.path.realpath(__file__)))
@@ -8,10 +8,12 @@ sys.path += [HERE, os.path.join(HERE, "../../python")]
 
 from yazgoulm import Volume
 
-from beyond.engine import START, Log
+from beyond import Trouble
+from beyond.engine import START, Gone, Log
 
 SECONDS = 30  # the longest wait for something that has to come
-LOCK = 0.2  # seconds that a relay's lock stands
+EVERY = 1_000_000_000  # changes between two snapshots, where none is wanted
+LOCK = 0.2  # seconds of a relay's silence, after which another one may serve
 
 
 class Redis:
@@ -29,21 +31,40 @@ class Redis:
         words = ["--port", str(self.port), "--bind", "127.0.0.1", "--dir", self.room, "--save", "",
                  "--appendonly", "yes", "--appendfsync", self.fsync]
         self.process = subprocess.Popen(["redis-server", *words], stdout=subprocess.DEVNULL)
-        log = Log(self.url, "none")
-        log.wait_for(log.state)
+        log, end = Log(self.url, "none"), time.monotonic() + SECONDS
+        while True:
+            try:
+                return log.state()
+            except Gone:
+                if time.monotonic() > end:
+                    raise
+                time.sleep(0.005)
 
     def kill(self):
         self.process.kill()
         self.process.wait()
 
+    def files(self):
+        """The files to which it appends what it did."""
+        return glob.glob(os.path.join(self.room, "appendonlydir", "*.incr.aof"))
+
 
 class Case(unittest.TestCase):
+    relay, lock = RELAY, str(LOCK)
+
     def setUp(self):
         self.room = tempfile.mkdtemp(prefix="relay-")
         self.addCleanup(shutil.rmtree, self.room, True)
         self.redis = Redis(os.path.join(self.room, "redis"))
         self.addCleanup(lambda: self.redis.kill())
+        self.addCleanup(lambda: self.check_files())
         self.log = self.new_log()
+
+    def check_files(self):
+        """No program of this example had Redis write a transaction, of which it could keep a half."""
+        for path in self.redis.files():
+            with open(path, "rb") as file:
+                self.assertNotIn(b"\r\nMULTI\r\n", file.read())
 
     def new_log(self, name="t", **words):
         return Log(self.redis.url, name, **{"lock": LOCK, **words})
@@ -68,8 +89,16 @@ class Case(unittest.TestCase):
     def run_relay(self, act, *words):
         """The status of the command, its standard output and its standard error."""
         words = [RELAY, act, "--redis", self.redis.url, *words]
-        done = subprocess.run(words, capture_output=True, timeout=SECONDS, text=True)
+        try:
+            done = subprocess.run(words, capture_output=True, timeout=SECONDS, text=True)
+        except subprocess.TimeoutExpired as late:
+            self.fail(f"{late}: {late.stdout} {late.stderr}")
         return done.returncode, done.stdout, done.stderr
+
+    def assert_trouble(self, line, act, *given):
+        """The call ends with a line that says why."""
+        with self.assertRaisesRegex(Trouble, line):
+            act(*given)
 
     def send(self, lines):
         """Appends lines, and doesn't wait. Returns their positions."""
@@ -116,10 +145,14 @@ def formulas(count):
                                  100 * each + 300, each)
 
 
-def drawn(count, seed):
-    """Lines of changes on a tree that grows slowly. Some are refused."""
+def drawn(count, seed, texts=0):
+    """Lines of changes on a tree that grows slowly. Some are refused. After the first four, which create folders, come
+    so many files with a text of 4,000 bytes."""
     draw, created = random.Random(seed), 1
     for number in range(count):
+        if number == 4:
+            yield from (line for it in range(texts) for line in with_text(created + 1 + it, it))
+            created += texts
         node, dir = draw.randint(max(2, created - 200), created + 1), draw.choice([1, 1, *range(2, 6)])
         name = f"{draw.choice('abcdefghij')}{draw.randrange(200)}.{draw.choice(['txt', 'jpg'])}"
         act = draw.random()
@@ -138,3 +171,29 @@ def drawn(count, seed):
             line = {"do": "set", "node": node, **status}
         created += line["do"] == "create"
         yield json.dumps(line).encode()
+
+
+def with_text(node, number):
+    """Lines that create a file of this node, and give it a text."""
+    yield json.dumps({"do": "create", "name": f"text{number}", "size": number}).encode()
+    text = {"attr": "TEXT", "type": "CSTR", "value": f"{number:04}" * 1000}
+    yield json.dumps({"do": "set", "node": node, **text}).encode()
+
+
+def borders(path):
+    """The ends of the commands in a file of Redis, and its size where it ends within one. A command is a count of words
+    and the words; each has its length before it."""
+    with open(path, "rb") as file:
+        while line := file.readline():
+            for _ in range(int(line[1:])):
+                length = file.readline()
+                file.seek(int(length[1:] or 0) + 2, os.SEEK_CUR)
+            yield file.tell()
+
+
+def is_torn(path):
+    """Whether a file of Redis ends within a command."""
+    try:
+        return max(borders(path), default=0) != os.path.getsize(path)
+    except ValueError:  # the end of a line is missing
+        return True

@@ -1,7 +1,7 @@
 """The relay under load: many clients, while the relay, Redis and the clients are killed at drawn moments."""
 import collections, concurrent.futures, contextlib, json, os, random, subprocess, sys, threading, time, typing
 
-from case import HERE, LOCK, RELAY, SECONDS, Case, Reference, digest, drawn, formulas
+from case import HERE, LOCK, RELAY, SECONDS, Case, Reference, digest, drawn, formulas, is_torn
 
 from beyond.engine import Gone
 from beyond.producer import Producer
@@ -9,6 +9,8 @@ from beyond.producer import Producer
 IS_FULL = bool(os.environ.get("FULL"))
 LINES = 100  # lines that are sent before their replies are awaited
 KEEP = 2000  # records of a window's stream
+SNAPSHOT = 0.3  # seconds that a snapshot takes
+TEXTS = 4000  # files with a text, where a snapshot has to be large: it has 16 MB
 
 
 class Size(typing.NamedTuple):
@@ -21,13 +23,14 @@ class Size(typing.NamedTuple):
     relay: int = 0
     redis: int = 0
     client: int = 0
+    texts: int = 0
 
 
 class Load(Case):
     def setUp(self):
         super().setUp()
         self.draw = random.Random(64)
-        self.relay = self.relay_words = None
+        self.relay, self.every, self.torn, self.within = None, 1500, 0, 0
         self.groups, self.file = {}, os.path.join(self.room, "folds")
         self.addCleanup(self.end)
 
@@ -41,7 +44,7 @@ class Load(Case):
 
     def start_relay(self):
         words = ["serve", "--redis", self.redis.url, "t", "--lock", str(LOCK)]
-        words += ["--keep", str(KEEP), "--snapshot", "1500"]
+        words += ["--keep", str(KEEP), "--snapshot", str(self.every)]
         self.relay = subprocess.Popen([sys.executable, RELAY, *words], stdout=subprocess.DEVNULL)
 
     def start_group(self, group):
@@ -58,7 +61,9 @@ class Load(Case):
 
     def kill_redis(self):
         self.redis.kill()
+        self.torn += is_torn(max(self.redis.files(), key=os.path.getmtime))
         self.redis.start()
+        self.within += self.new_log().redis.exists("t:snapshot:new")
 
     def kill_client(self):
         group = self.draw.choice([*self.groups])
@@ -67,14 +72,13 @@ class Load(Case):
         self.groups[group].wait()
         self.start_group(group)
 
-    def kill(self, who, delay):
-        """Kills one: some milliseconds from now, or as soon as the next reply is written."""
-        if delay is None:
+    def kill(self, who, is_after, delay):
+        """Kills one: some milliseconds from now, or after the next reply is written."""
+        if is_after:
             log = self.new_log()
             with contextlib.suppress(Gone):  # Redis may be killed meanwhile
                 log.read({"replies": log.end("replies")}, 1, 1)
-        else:
-            time.sleep(delay)
+        time.sleep(delay)
         with self.lock:
             {"relay": self.kill_relay, "redis": self.kill_redis, "client": self.kill_client}[who]()
 
@@ -89,12 +93,16 @@ class Load(Case):
         for group in range((it.clients + 9) // 10):
             self.start_group(group)
         self.wait_for_clients(dict.fromkeys(asked, 0))
-        lines = [*drawn(it.changes, 6)]
-        replies = self.produce(lines, it)
+        lines, first = [*drawn(it.changes, 6, it.texts)], 4 + 2 * it.texts
+        replies = Producer(self.new_log()).send(lines[:first])
+        if it.texts:
+            self.every = 1
+            self.kill_relay()
+        replies += self.produce(lines[first:], it)
         self.verify(lines, replies, asked)
 
     def produce(self, lines, it):
-        """Sends all lines, with the kills in between. Returns the replies."""
+        """Sends lines, with the kills in between. Returns the replies."""
         kills = collections.defaultdict(list)
         for who in "relay", "redis", "client":
             for _ in range(getattr(it, who)):
@@ -103,8 +111,10 @@ class Load(Case):
         with concurrent.futures.ThreadPoolExecutor() as threads:
             for part in range(0, len(lines), LINES):
                 for who in kills[part // LINES]:
-                    delay = self.draw.choice([None, self.draw.uniform(0, 0.03)])
-                    done.append(threads.submit(self.kill, who, delay))
+                    when = self.draw.choice([(True, 0), (False, self.draw.uniform(0, 0.03))])
+                    if it.texts:  # in the snapshot that follows a reply
+                        when = True, self.draw.uniform(0, SNAPSHOT)
+                    done.append(threads.submit(self.kill, who, *when))
                 replies += producer.send(lines[part : part + LINES])
         for kill in done:
             kill.result()
@@ -115,8 +125,8 @@ class Load(Case):
 
     def verify(self, lines, replies, asked):
         self.assertEqual([record[b"line"] for _, record in self.records("changes")], lines)
-        windows = json.loads(self.log.state()["windows"])
-        self.wait_for_clients({formula: self.last_change(number) for number, (formula, *_) in windows.items()})
+        windows = json.loads(self.log.life("windows")["windows"])
+        self.wait_for_clients({it["query"]: self.last_change(number) for number, it in windows.items()})
         told = self.told()
         wanted = collections.defaultdict(set)
         for client, change, _ in told:
@@ -139,13 +149,14 @@ class Load(Case):
         for client, (_, fold) in last.items():
             self.assertEqual(fold, digest(reference.rows(self.asked[client][1])))
         self.compare_streams(written, changes)
-        print(f"{len(lines)} changes, {len(told)} folds of {len(last)} clients, {len(written)} formulas", flush=True)
+        print(f"{len(lines)} changes, {len(told)} folds of {len(last)} clients, {len(written)} formulas"
+              f", {self.within} kills of Redis within a snapshot, {self.torn} within a command", flush=True)
 
     def compare_streams(self, written, changes):
         """The messages that each window's stream keeps are the last ones of the reference, each once and in order."""
-        for number, (formula, opened, _) in json.loads(self.log.state()["windows"]).items():
+        for number, window in json.loads(self.log.life("windows")["windows"]).items():
             messages = [json.loads(message) for message in self.messages(number)]
-            expected = [it for it in written[formula] if it[0] > changes[opened]]
+            expected = [it for it in written[window["query"]] if it[0] > changes[window["opened"]]]
             first = len(expected) - len(messages)
             self.assertEqual([it["seq"] for it in messages], [*range(first + 1, len(expected) + 1)])
             found = [(it["change"], it["op"], it["dir"], it["node"], it["name"]) for it in messages]
@@ -158,8 +169,8 @@ class Load(Case):
             return [tuple(map(int, line.split())) for line in file if line.endswith("\n")]
 
     def wait_for_clients(self, changes):
-        """Waits until each client has folded the window of its formula up to a change."""
-        end = time.monotonic() + SECONDS
+        """Waits until each client has folded the window of its formula up to a change, also on a busy machine."""
+        end = time.monotonic() + 4 * SECONDS
         while time.monotonic() < end:
             last = {it: change for it, change, _ in self.told()}
             late = [it for it, (_, formula) in enumerate(self.asked) if last.get(it, -1) < changes[formula]]
@@ -180,6 +191,10 @@ class Load(Case):
 
     def test_redis_is_killed(self):
         self.run_load(Size(200, 100, 40, 20_000, redis=20) if IS_FULL else Size(20, 10, 8, 6000, redis=8))
+
+    def test_redis_is_killed_within_a_snapshot(self):
+        self.run_load(Size(20, 10, 8, 30_000, redis=300, texts=TEXTS) if IS_FULL else
+                      Size(10, 5, 5, 800, redis=5, texts=TEXTS))
 
     def test_clients_are_killed(self):
         self.run_load(Size(200, 100, 40, 20_000, client=100) if IS_FULL else Size(20, 10, 8, 6000, client=12))

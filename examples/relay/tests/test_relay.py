@@ -1,7 +1,7 @@
 """The relay in small: what it refuses, where it dies, who may write, what a restart gives, what a client is told."""
 import json, os, shutil, subprocess, time
 
-from case import HERE, LOCK, RELAY, SECONDS, Case, Reference, drawn, formulas, settle
+from case import EVERY, HERE, RELAY, SECONDS, Case, Reference, drawn, formulas, settle
 
 import redis
 
@@ -13,8 +13,7 @@ from beyond.server import Relay
 from beyond.snapshot import listing
 
 MOVED = b'{"do":"create","name":"a.txt"}', b'{"do":"move","node":2,"name":"b.txt"}', b'{"do":"remove","node":2}'
-EVERY = 1_000_000_000  # changes between two snapshots, where none is wanted
-LONG = 1.5  # seconds that a lock stands where it has to be kept, also on a busy machine
+LONG = 10  # seconds that a lock stands where it has to be kept, also on a busy machine
 
 
 class Refusals(Case):
@@ -115,7 +114,7 @@ class Deaths(Case):
     def test_a_death_at_each_command(self):
         for is_sent in (False, True):
             number, dies = 0, True
-            while dies and number < 100:
+            while dies and number < 300:
                 number += 1
                 name = f"{is_sent}-{number}"
                 log = self.new_log(name, lock=0.02)
@@ -145,7 +144,6 @@ class Locks(Case):
         old.begin()
         self.send(MOVED[:1])
         settle(old)
-        self.log.redis.delete("t:lock")  # as if its time had passed, while the old relay believes that it stands
         new.begin()
         self.send(MOVED[1:])
         with self.assertRaisesRegex(Trouble, "another relay has taken over t"):
@@ -154,20 +152,54 @@ class Locks(Case):
         settle(new)
         self.assertEqual(len(self.records("replies")), 3)
 
+    def test_a_relay_that_was_taken_over_within_a_batch_doubles_nothing(self):
+        """It was stopped after it had appended the batch, and before it wrote what the batch gives."""
+        old, new = Relay(self.new_log(), EVERY), Relay(self.new_log(), EVERY)
+        old.begin()
+        self.log.append("windows", [{"name": "w", "query": "name==*.txt"}])
+        self.send(MOVED[:2])
+        derive = old.batches.derive
+
+        def derive_late(*given):
+            new.begin()
+            self.send(MOVED[2:])
+            settle(new)
+            derive(*given)
+
+        old.batches.derive = derive_late
+        self.assert_trouble("another relay has taken over t", old.turn)
+        self.assertEqual(len(self.records("replies")), 3)
+        self.assertEqual([json.loads(it)["seq"] for it in self.messages(1)], [1, 2, 3])
+
+    def test_two_relays_that_begin_at_once(self):
+        """The slower one says that another serves, and the faster one isn't disturbed."""
+        first, second = Relay(self.new_log(), EVERY), Relay(self.new_log(), EVERY)
+        look = second.batches.last_beat
+
+        def look_late():
+            second.batches.last_beat = look
+            first.begin()
+            return look()
+
+        second.batches.last_beat = look_late
+        self.assert_trouble("another relay serves t", second.begin)
+        self.send(MOVED)
+        settle(first)
+        self.assertEqual(len(self.records("replies")), 3)
+
     def test_an_idle_relay_sees_that_it_was_taken_over(self):
         old, new = Relay(self.new_log(), EVERY), Relay(self.new_log(), EVERY)
         old.begin()
-        time.sleep(LOCK * 1.5)
         new.begin()
         with self.assertRaisesRegex(Trouble, "another relay has taken over t"):
             old.turn()
 
-    def test_a_lock_is_kept_while_nothing_comes(self):
+    def test_a_relay_gives_signs_of_life_while_nothing_comes(self):
         relay, other = Relay(self.new_log(lock=LONG), EVERY), self.new_log()
         relay.begin()
-        for _ in range(6):
+        for _ in range(3):
             relay.turn()
-            self.assertIsNotNone(other.redis.get("t:lock"))
+            self.assertLess(other.life()["age"], LONG * 0.7)
 
 
 class Restarts(Case):
@@ -194,7 +226,8 @@ class Restarts(Case):
             windows = [(it.seq, it.change, it.query.result().entries) for it in relay.windows.values()]
             messages = [self.messages(number, relay.log) for number in relay.windows]
             replies = [record[b"reply"] for _, record in self.records("replies", relay.log)]
-            found.append((listing(relay.volume, lambda: None), relay.change, relay.nodes, windows, messages, replies))
+            entries = [*listing(relay.volume, lambda: None)]
+            found.append((entries, relay.change, relay.nodes, windows, messages, replies))
         self.assertGreater(len(found[0][4][0]), 100)
         for other in found[1:]:
             for one, two in zip(found[0], other):
@@ -209,7 +242,7 @@ class Restarts(Case):
 
     def test_a_relay_that_knows_another_end_writes_nothing(self):
         relay = self.drive("t", [[*drawn(60, 2)]], EVERY)
-        self.log.redis.hset("t:state", "taken", 59)
+        self.log.redis.xdel("t:log", self.log.end("log"))
         self.send(MOVED)
         with self.assertRaisesRegex(Gone, "the log ends earlier"):
             settle(relay)
@@ -218,7 +251,7 @@ class Restarts(Case):
     def test_changes_that_are_missing_stop_it(self):
         self.drive("t", [[*drawn(60, 2)]], EVERY)
         self.log.redis.xtrim("t:changes", maxlen=30, approximate=False)
-        with self.assertRaisesRegex(Trouble, "the changes of t end at 30 of 60"):
+        with self.assertRaisesRegex(Trouble, "the changes of t differ from its log"):
             Relay(self.new_log(), EVERY).begin()
 
 

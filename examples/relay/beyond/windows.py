@@ -1,0 +1,122 @@
+"""The table of windows, the names of those who asked for them, and the answers to requests."""
+import time
+
+from yazgoulm import BadQuery, NoMemory, Refused
+
+from .changes import BAD_LINE
+from .window import LARGEST, Window
+
+TOO_LARGE = {"error": f"TooLarge: the result has over {LARGEST:,} bytes"}
+CLOSED, LEASE, LARGE = "closed", "lease", "too large"  # why a name has no window any more
+
+
+class Windows(dict):
+    """Each window by its number. `names` has the window's number of each name, `last` is the highest that was given.
+    A window ends with its last name. After `far` messages a window writes a new opening."""
+
+    def __init__(self, volume, far):
+        super().__init__()
+        self.volume, self.far, self.shift, self.names, self.last = volume, far, 0, {}, 0
+
+    def open(self, number, formula, opened, seq=0, latest=None):
+        self[number] = Window(self.volume, number, formula, opened, self.shift, self.far, seq, latest)
+        return self[number]
+
+    def table(self):
+        """What a snapshot keeps of the windows."""
+        return [(it.number, it.formula, it.opened, it.seq, it.latest and it.latest.decode()) for it in self.values()]
+
+    def restore(self, last, table, names):
+        for number, formula, opened, seq, latest in table:
+            self.open(number, formula, opened, seq, latest and latest.encode())
+        self.last, self.names = last, names
+
+    def read(self, records):
+        for window in self.values():
+            records += [(window.stream, record) for record in window.read()]
+
+    # ---- requests
+
+    def answer(self, request, taken, change, records):
+        """Opens a window under a name, or takes the name back where the request has no formula. Returns the reply."""
+        try:
+            name, formula = request[b"name"].decode(), request.get(b"query", b"").decode()
+        except (KeyError, UnicodeDecodeError):
+            return BAD_LINE
+        if not formula:
+            self.drop(name, CLOSED, change, records)
+            return {}
+        window, reply = self.opened(formula, taken, records)
+        if window is None:
+            return reply
+        if self.names.get(name) != window.number:
+            self.drop(name, CLOSED, change, records)
+            self.names[name] = window.number
+        if b"opening" in request:
+            records += [(window.stream, record) for record in window.opening()]
+        return reply
+
+    def opened(self, formula, taken, records):
+        """The window of a formula and the reply: the one that is open, or a new one, or None with a refusal."""
+        for window in self.values():
+            if window.formula == formula:
+                return window, {"window": window.number}
+        try:
+            window = self.open(self.last + 1, formula, taken)
+        except NoMemory:
+            raise
+        except BadQuery as fault:
+            return None, {"code": fault.code, "error": f"{fault.name} at {fault.place}"}
+        except Refused as refused:
+            return None, {"code": refused.code, "error": refused.name}
+        records += [(window.stream, record) for record in window.opening()]
+        if window.is_too_large:
+            self.pop(window.number).query.drop()
+            return None, TOO_LARGE
+        self.last = window.number
+        return window, {"window": window.number}
+
+    def drop(self, name, cause, change, records):
+        """Takes a name off its window, and ends the window where that was its last."""
+        number = self.names.pop(name, None)
+        if number is not None and number not in self.names.values():
+            window = self.pop(number)
+            records.append((window.stream, window.end(cause, change)))
+
+    def too_large(self):
+        """The names of windows that can't be served any more, and why."""
+        return {name: LARGE for name, number in self.names.items() if self[number].is_too_large}
+
+
+class Leases:
+    """Which names have a client that is alive. A client adds to `NAME:beats` under its name; a name whose number stays
+    the same for `seconds`, by the relay's clock, is taken back."""
+
+    def __init__(self, log, seconds):
+        self.log, self.seconds = log, seconds
+        self.begin()
+
+    def begin(self):
+        """Gives each name a new lease."""
+        self.seen, self.due = {}, time.monotonic() + self.seconds / 4
+
+    def renew(self, requests):
+        """A request is a sign of life too."""
+        for _, request in requests:
+            self.seen.pop(request.get(b"name", b"").decode(errors="replace"), None)
+
+    def ended(self, names):
+        """The names whose lease has ended, and why. It looks four times a lease."""
+        now = time.monotonic()
+        if now < self.due:
+            return {}
+        self.due = now + self.seconds / 4
+        beats = {name.decode(errors="replace"): beat for name, beat in self.log.beats().items()}
+        before, self.seen = self.seen, {}
+        for name in names:
+            beat, since = before.get(name, (None, now))
+            self.seen[name] = (beat, since) if beat == beats.get(name) else (beats.get(name), now)
+        unknown = beats.keys() - names
+        if unknown:
+            self.log.forget(unknown)
+        return {name: LEASE for name, (_, since) in self.seen.items() if now > since + self.seconds}
