@@ -28,8 +28,9 @@ class Redis:
 
     def start(self):
         os.makedirs(self.room, exist_ok=True)
+        # it never rewrites its file by itself, which would take away what `check_files` reads
         words = ["--port", str(self.port), "--bind", "127.0.0.1", "--dir", self.room, "--save", "",
-                 "--appendonly", "yes", "--appendfsync", self.fsync]
+                 "--appendonly", "yes", "--appendfsync", self.fsync, "--auto-aof-rewrite-percentage", "0"]
         self.process = subprocess.Popen(["redis-server", *words], stdout=subprocess.DEVNULL)
         log, end = Log(self.url, "none"), time.monotonic() + SECONDS
         while True:
