@@ -135,7 +135,7 @@ class Volume:
     ) -> Applied:
         """Creates an entry in a folder: `size` in bytes, 0 for a folder, `time` in seconds since 1970.
 
-        `attributes` are set in their order, by a change for each, of which the last is returned: so the one that
+        `attributes` are set in their order, by a change for each, and the last change is returned: so the one that
         windows ask for comes last, and an entry has all others when it enters one. A value is as `set` takes it; for
         another type it is a pair of the value and the type. All are tested before the first change. Where one is
         refused after that, for want of memory, the exception has the node as `node`, and the names that were set as
