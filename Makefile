@@ -1,6 +1,7 @@
 # What a person types. Each target is a line; CONTRIBUTING.md says when to use which.
 #   make                    proves and builds the program, crates/lq/out/lq: seconds if nothing changed, 22 to 40 minutes
 #                           from nothing
+#   make quick              what an edit breaks most often, in a minute and what rt check takes: SINCE=main~1 adds commits
 #   make test               all tests that need no kit, in minutes, over what was built here or else is in release/
 #   make try                a script by the unproved program, in one to two minutes: S=script W=words
 #   make check C=lq_desk    proves one crate, over what was kept
@@ -29,11 +30,13 @@ S ?= examples/first-message.jsonl
 W ?= run
 CRATE = $(if $(C),crates/$(C),$(error C=CRATE is missing, as in make $@ C=lq_desk))
 
-.PHONY: all try check test crate-test edits scenario scenarios gate release fmt bench docs library wheel dist \
+.PHONY: all quick try check test crate-test edits scenario scenarios gate release fmt bench docs library wheel dist \
 	install install-program install-library install-c install-python
 
 all:
 	tools/build
+quick:
+	@.ci/quick $(SINCE)
 try:
 	./try $(S) $(W)
 check:
