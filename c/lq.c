@@ -83,6 +83,8 @@ const char *lq_status_name(lq_status status)
     case LQ_OUT_OF_STEP: return "OutOfStep";
     case LQ_MISMATCH: return "Mismatch";
     case LQ_MISUSE: return "Misuse";
+    case LQ_EMPTY: return "Empty";
+    case LQ_ENDED: return "Ended";
     }
     return NULL;
 }
@@ -232,7 +234,8 @@ lq_status lq_next(lq *handle, uint64_t result, lq_row *out)
 /* What null options stand for. */
 static const lq_options no_options = LQ_OPTIONS_INIT;
 
-lq_status lq_open(lq *handle, const char *formula, size_t formula_size, const lq_options *options, lq_opening *out)
+lq_status lq_query_open(lq *handle, const char *formula, size_t formula_size, const lq_options *options,
+                        lq_opening *out)
 {
     if (!is_open(handle) || !out || !is_text(&formula, &formula_size, LQ_FORMULA_SIZE)) return LQ_MISUSE;
     return lqp_open(in(handle), &handle->result, formula, formula_size, options ? options : &no_options, out);
@@ -261,7 +264,7 @@ lq_status lq_hang_up(lq *handle, uint64_t slot)
     return is_open(handle) ? (lq_status)lqp_hang_up(in(handle), slot) : LQ_MISUSE;
 }
 
-lq_status lq_close(lq *handle, uint64_t slot, uint64_t *change)
+lq_status lq_query_close(lq *handle, uint64_t slot, uint64_t *change)
 {
     uint64_t unwanted;
     if (!is_open(handle)) return LQ_MISUSE;
@@ -385,7 +388,7 @@ lq_status lq_clear_pushed(lq *handle)
     return LQ_OK;
 }
 
-lq_status lq_open_pushed(lq *handle, const lq_options *options, lq_opening *out)
+lq_status lq_query_open_pushed(lq *handle, const lq_options *options, lq_opening *out)
 {
     if (!is_open(handle) || !out) return LQ_MISUSE;
     return lqp_open_pushed(in(handle), &handle->result, &handle->pushes, options ? options : &no_options, out);

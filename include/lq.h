@@ -1,5 +1,5 @@
 /* Yazgoulm, a live query server in the manner of the Be file system, in the caller's own process.
- * Version 0.2.0.
+ * Version 0.3.0.
  *
  * A handle holds one volume, its live queries and the messages that wait for their readers. Each
  * call is one act: it starts no thread, takes no lock, waits for nothing and prints nothing. Nodes,
@@ -7,14 +7,16 @@
  * Entries count from node 2, slots from 1, changes and messages from 1. A volume accepts at most
  * 1,000,000,000,000 changes, and as many openings.
  *
- * Names. The acts have the words of a script: lq_open opens a live query, lq_close closes one. The
- * volume itself is opened by lq_volume_open and closed by lq_volume_close.
+ * Names. The acts have the words of a script. Two of them say what they open or close: a live query
+ * is opened by lq_query_open and closed by lq_query_close, the volume itself by lq_volume_open and
+ * lq_volume_close.
  *
  * Texts. A text that is given is a pointer and its size in bytes; it is UTF-8, and needs no NUL.
- * Null with size 0 is the empty text. A text that a call writes has its size beside it and a NUL
- * after it, which doesn't count; a value may have NULs inside. Sizes are tested before a text is
- * read: a name above LQ_NAME_SIZE, a value above LQ_TEXT_SIZE, a formula above LQ_FORMULA_SIZE and
- * a path above LQ_PATH_SIZE are refused by their sizes alone, as if they were UTF-8.
+ * Null with size 0 is the empty text. LQ_TEXT gives a literal and its size. A text that a call
+ * writes has its size beside it and a NUL after it, which doesn't count; a value may have NULs
+ * inside. Sizes are tested before a text is read: a name above LQ_NAME_SIZE, a value above
+ * LQ_TEXT_SIZE, a formula above LQ_FORMULA_SIZE and a path above LQ_PATH_SIZE are refused by their
+ * sizes alone, as if they were UTF-8.
  *
  * Statuses. A call that can be refused answers a status: LQ_OK, or why it was refused. A refused
  * call leaves its `out` as it was, and doesn't do its act. Two things may happen all the same, as
@@ -55,8 +57,8 @@ extern "C" {
 #endif
 
 /* The version of this header: a million for each major version, a thousand for each minor one. */
-#define LQ_VERSION 2000
-#define LQ_VERSION_TEXT "0.2.0"
+#define LQ_VERSION 3000
+#define LQ_VERSION_TEXT "0.3.0"
 
 /* The version of the library. */
 uint32_t lq_version(void);
@@ -73,7 +75,11 @@ enum { LQ_BACKLOG = 65536 };
 /* The most pushes to one stack: no query that is within the limits of formulas needs more. */
 enum { LQ_PUSHES = 4096 };
 
-/* The statuses: 0, the numbers of the refusals in a script's replies, and LQ_MISUSE. */
+/* A literal and its size, as two arguments of a call. What isn't a literal is not compiled. */
+#define LQ_TEXT(literal) ("" literal), sizeof("" literal) - 1
+
+/* The statuses: 0, the numbers of the refusals in a script's replies, and from 40 on those that the
+ * calls alone answer. */
 typedef enum lq_status {
     LQ_OK = 0,
     LQ_BAD_NAME = 1,
@@ -103,11 +109,13 @@ typedef enum lq_status {
     LQ_BAD_LINE = 33,
     LQ_OUT_OF_STEP = 34,
     LQ_MISMATCH = 35,
-    LQ_MISUSE = 40
+    LQ_MISUSE = 40,
+    LQ_EMPTY = 41,
+    LQ_ENDED = 42
 } lq_status;
 
-/* The name of a status, as "NoNode" for LQ_NO_NODE; LQ_OK is "Ok", LQ_MISUSE "Misuse". Null: no
- * status has this number. The text lives as long as the library. */
+/* The name of a status, as "NoNode" for LQ_NO_NODE and "Ok" for LQ_OK. Null: no status has this
+ * number. The text lives as long as the library. */
 const char *lq_status_name(lq_status status);
 
 /* A handle. Its fields belong to the library. `version` is the version of the header with which it
@@ -227,11 +235,11 @@ typedef struct lq_row {
 
 /* Takes the next entries of a result, `room` at most, and writes how many there were: fewer than
  * `room`, once none is left. A handle has one result at a time, whose number the call that made it
- * has written as `result` (lq_open, lq_open_pushed, lq_fetch, lq_fetch_pushed, lq_result,
- * lq_children); it doesn't change with the volume. LQ_MISUSE: another result was made since, or the
- * handle was closed. A handle that is opened again counts on, so no number is given twice, unless
- * it was set to LQ_INIT in between. To use two results at once, take all of the first, whose
- * `count` is known, before the second is made. */
+ * has written as `result` (lq_query_open, lq_query_open_pushed, lq_fetch, lq_fetch_pushed,
+ * lq_result, lq_children); it doesn't change with the volume. LQ_MISUSE: another result was made
+ * since, or the handle was closed. A handle that is opened again counts on, so no number is given
+ * twice, unless it was set to LQ_INIT in between. To use two results at once, take all of the
+ * first, whose `count` is known, before the second is made. */
 lq_status lq_take(lq *handle, uint64_t result, lq_row *out, size_t room, size_t *got);
 
 /* Takes the next entry alone. LQ_NO_ENTRY: none is left. LQ_MISUSE: as lq_take. */
@@ -263,21 +271,16 @@ typedef struct lq_opening {
 
 /* Opens a live query in the lowest free slot; null options are LQ_OPTIONS_INIT. LQ_BAD_QUERY, then
  * LQ_BAD_BACKLOG, LQ_NO_SLOT, LQ_EXHAUSTED. LQ_NO_MEMORY. */
-lq_status lq_open(lq *handle, const char *formula, size_t formula_size, const lq_options *options,
-                  lq_opening *out);
+lq_status lq_query_open(lq *handle, const char *formula, size_t formula_size,
+                        const lq_options *options, lq_opening *out);
 
-/* What a read took. */
-typedef enum lq_what {
-    LQ_EMPTY = 0,  /* nothing is there */
-    LQ_UPDATE = 1, /* a message */
-    LQ_END = 2,    /* the mark that ends the query */
-    LQ_ENDED = 3   /* nothing, and the mark was read before */
-} lq_what;
+/* What a read took: a message, or the mark that ends the query. */
+typedef enum lq_what { LQ_UPDATE = 1, LQ_END = 2 } lq_what;
 
 /* What a message says of an entry, as the opcodes of B_QUERY_UPDATE. */
 typedef enum lq_op { LQ_ENTRY_CREATED = 1, LQ_ENTRY_REMOVED = 2, LQ_ENTRY_MOVED = 3 } lq_op;
 
-/* Why a query ended: lq_close, lq_hang_up, or more messages than its backlog holds. */
+/* Why a query ended: lq_query_close, lq_hang_up, or more messages than its backlog holds. */
 typedef enum lq_cause { LQ_CLOSED = 1, LQ_HUNG_UP = 2, LQ_OVERRUN = 3 } lq_cause;
 
 /* What a read gave. `what` is an lq_what, `op` an lq_op and `cause` an lq_cause. `seq` counts a
@@ -303,29 +306,30 @@ typedef struct lq_message {
 } lq_message;
 
 /* Which slots have a message or a mark to read: the bit `slot - 1` is set just where lq_read would
- * give LQ_UPDATE or LQ_END. It takes no memory. */
+ * answer LQ_OK. It takes no memory. */
 uint64_t lq_ready(const lq *handle);
 
-/* Takes the oldest message of a slot. LQ_NOT_OPEN: the slot is free. It never answers
- * LQ_NO_MEMORY, and loses no message: where memory runs out for the slot's rebuilt result, the slot
- * is left without that alone (lq_result). Where the caller does what this header asks, it is proved
- * that the reads of a slot, from its opening on, give each message once and in order, and then the
- * mark. */
+/* Takes the oldest message of a slot, or the mark after the last one. LQ_NOT_OPEN: the slot is
+ * free. LQ_EMPTY: nothing is there to read. LQ_ENDED: the mark was read. So a loop that reads while
+ * the answer is LQ_OK ends. It never answers LQ_NO_MEMORY, and loses no message: where memory runs
+ * out for the slot's rebuilt result, the slot is left without that alone (lq_result). Where the
+ * caller does what this header asks, it is proved that the reads of a slot, from its opening on,
+ * give each message once and in order, and then the mark. */
 lq_status lq_read(lq *handle, uint64_t slot, lq_message *out);
 
 /* Takes the oldest messages of a slot, and the mark after them, as repeated calls of lq_read would:
- * at most `room`, and up to the first call that would give neither. `*got` is how many there were;
- * the places after them stay as they were. LQ_NOT_OPEN: the slot is free. */
+ * at most `room`, and up to the first call that wouldn't answer LQ_OK. `*got` is how many there
+ * were, which may be 0; the places after them stay as they were. LQ_NOT_OPEN: the slot is free. */
 lq_status lq_read_many(lq *handle, uint64_t slot, lq_message *out, size_t room, size_t *got);
 
-/* Asks for the end of a slot's query, as its reader does; the next change, read or lq_close ends
- * it. LQ_NOT_OPEN: the slot is free. It takes no memory. */
+/* Asks for the end of a slot's query, as its reader does; the next change, read or lq_query_close
+ * ends it. LQ_NOT_OPEN: the slot is free. It takes no memory. */
 lq_status lq_hang_up(lq *handle, uint64_t slot);
 
 /* Ends a slot's query; its messages and its mark can still be read. `*change` is the last change
  * that they cover; null is allowed. LQ_NOT_OPEN: the slot is free, or its query has ended. It takes
  * no memory. */
-lq_status lq_close(lq *handle, uint64_t slot, uint64_t *change);
+lq_status lq_query_close(lq *handle, uint64_t slot, uint64_t *change);
 
 /* Frees a slot whose mark was read. LQ_NOT_OPEN: the slot is free. LQ_STILL_OPEN: the mark wasn't
  * read. It takes no memory. */
@@ -393,15 +397,16 @@ lq_status lq_entry(const lq *handle, uint64_t node, lq_info *out);
 /* The types of an attribute, by the numbers of Be's TypeConstants.h: 'CSTR', 'LONG', 'LLNG',
  * 'ULNG', 'ULLG'. */
 typedef enum lq_type {
-    LQ_TEXT = 0x43535452,
-    LQ_INT32 = 0x4C4F4E47,
-    LQ_INT64 = 0x4C4C4E47,
-    LQ_UINT32 = 0x554C4E47,
-    LQ_UINT64 = 0x554C4C47
+    LQ_TYPE_TEXT = 0x43535452,
+    LQ_TYPE_INT32 = 0x4C4F4E47,
+    LQ_TYPE_INT64 = 0x4C4C4E47,
+    LQ_TYPE_UINT32 = 0x554C4E47,
+    LQ_TYPE_UINT64 = 0x554C4C47
 } lq_type;
 
-/* An attribute: `type` is an lq_type. LQ_TEXT has its text in `text`, LQ_INT32 and LQ_INT64 their
- * number in `whole`, LQ_UINT32 and LQ_UINT64 theirs in `natural`. The other fields are 0. */
+/* An attribute: `type` is an lq_type. LQ_TYPE_TEXT has its text in `text`, LQ_TYPE_INT32 and
+ * LQ_TYPE_INT64 their number in `whole`, LQ_TYPE_UINT32 and LQ_TYPE_UINT64 theirs in `natural`. The
+ * other fields are 0. */
 typedef struct lq_attr {
     uint32_t type;
     int64_t whole;
@@ -475,9 +480,9 @@ lq_status lq_push_op(lq *handle, uint32_t op);
 /* Empties the stack. */
 lq_status lq_clear_pushed(lq *handle);
 
-/* lq_open and lq_fetch of the predicate that is the stack's only item. They take it off, also where
- * they are refused after that. LQ_BAD_QUERY: the stack holds anything else; it stays. */
-lq_status lq_open_pushed(lq *handle, const lq_options *options, lq_opening *out);
+/* lq_query_open and lq_fetch of the predicate that is the stack's only item. They take it off, also
+ * where they are refused after that. LQ_BAD_QUERY: the stack holds anything else; it stays. */
+lq_status lq_query_open_pushed(lq *handle, const lq_options *options, lq_opening *out);
 lq_status lq_fetch_pushed(lq *handle, lq_fetched *out);
 
 #ifdef __cplusplus

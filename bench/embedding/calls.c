@@ -90,7 +90,7 @@ static double writes(int windows) {
     int size = sprintf(formula, "size>%d", BORDER);
     must(lq_volume_open(&volume));
     for (int window = 0; window < windows; window++)
-        must(lq_open(&volume, formula, (size_t)size, &options, &opening));
+        must(lq_query_open(&volume, formula, (size_t)size, &options, &opening));
     for (int number = 0; number < FILES; number++) create(number);
     make_lines(false);
     double since = now();

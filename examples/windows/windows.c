@@ -20,7 +20,7 @@ static void must(lq_status status) {
 
 static void show(window *it) {
     lq_opening opened;
-    must(lq_open(&volume, it->formula, strlen(it->formula), &it->options, &opened));
+    must(lq_query_open(&volume, it->formula, strlen(it->formula), &it->options, &opened));
     it->slot = opened.slot;
     memset(it->shown, 0, sizeof it->shown);
     for (lq_row row; lq_next(&volume, opened.result, &row) == LQ_OK;) it->shown[row.node] = true;

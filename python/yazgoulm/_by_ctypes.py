@@ -10,10 +10,11 @@ from ._types import (
     CAUSES, FILE, FOLDER, TYPES, Applied, Attr, Attribute, Entry, Info, Mark, Message, Op, Opcode, refusal,
 )  # fmt: skip
 
-_VERSION = 2000  # of the header whose structs stand below
+_VERSION = 3000  # of the header whose structs stand below
 _ROOM = 64  # entries that are taken at a time
 _KINDS = FILE, FOLDER
-_UPDATE, _END = 1, 2
+_END = 2  # of lq_what
+_EMPTY, _ENDED = 41, 42
 _Name = c_uint8 * 256
 
 
@@ -88,10 +89,10 @@ _STATUS = {
     "lq_set_uint64": [c_uint64, *_Text, c_uint64, POINTER(_Applied)],
     "lq_unset": [c_uint64, *_Text, POINTER(_Applied)],
     "lq_take": [c_uint64, POINTER(_Row), c_size_t, POINTER(c_size_t)],
-    "lq_open": [*_Text, POINTER(_Options), POINTER(_Opening)],
+    "lq_query_open": [*_Text, POINTER(_Options), POINTER(_Opening)],
     "lq_read": [c_uint64, POINTER(_Message)],
     "lq_hang_up": [c_uint64],
-    "lq_close": [c_uint64, POINTER(c_uint64)],
+    "lq_query_close": [c_uint64, POINTER(c_uint64)],
     "lq_finish": [c_uint64],
     "lq_drop": [c_uint64],
     "lq_fetch": [*_Text, POINTER(_Fetched)],
@@ -110,7 +111,7 @@ _STATUS = {
     "lq_push_uint64": [c_uint64],
     "lq_push_op": [c_uint32],
     "lq_clear_pushed": [],
-    "lq_open_pushed": [POINTER(_Options), POINTER(_Opening)],
+    "lq_query_open_pushed": [POINTER(_Options), POINTER(_Opening)],
     "lq_fetch_pushed": [POINTER(_Fetched)],
 }
 _OTHERS = {
@@ -185,7 +186,9 @@ class Handle:
 
     def _call(self, name: str, said: Tuple[Any, ...], call: Any, *given: Any) -> None:
         """Makes a call, under the lock. Where it is refused, the exception says the name and what the caller said."""
-        status = call(self._own(), *given)
+        self._want(call(self._own(), *given), name, said)
+
+    def _want(self, status: int, name: str, said: Tuple[Any, ...]) -> None:
         if status:
             raise refusal(status, _lq.lq_status_name(status).decode(), _lq.lq_fault_place(self._at), name, said)
 
@@ -303,10 +306,10 @@ class Handle:
         raw = encode("formula", formula) if isinstance(formula, str) else b""
         with self.lock:
             if isinstance(formula, str):
-                self._call("open", said, _lq.lq_open, raw, len(raw), byref(how), byref(it))
+                self._call("open", said, _lq.lq_query_open, raw, len(raw), byref(how), byref(it))
             else:
                 self._push("open", said, formula)
-                self._call("open", said, _lq.lq_open_pushed, byref(how), byref(it))
+                self._call("open", said, _lq.lq_query_open_pushed, byref(how), byref(it))
             try:
                 return it.slot, it.at, self._taken(it.count, it.result)
             except BaseException:
@@ -320,7 +323,7 @@ class Handle:
     def close(self, slot: int) -> int:
         change = c_uint64()
         with self.lock:
-            self._call("close", (slot,), _lq.lq_close, slot, byref(change))
+            self._call("close", (slot,), _lq.lq_query_close, slot, byref(change))
         return change.value
 
     def finish(self, slot: int) -> None:
@@ -422,10 +425,11 @@ class Reader:
             if slot is None:
                 raise ValueError("the query was dropped or finished")
             if mark is None:
-                handle._call("read", (slot,), _lq.lq_read, slot, byref(it))
-                if it.what == _UPDATE:
-                    return self._followed(it)
-                if it.what == _END:
+                status = _lq.lq_read(handle._own(), slot, byref(it))
+                if status not in (_EMPTY, _ENDED):
+                    handle._want(status, "read", (slot,))
+                    if it.what != _END:
+                        return self._followed(it)
                     mark = self.mark = Mark(it.seq, it.change, CAUSES[it.cause])
         if mark is not None:
             self._ended(mark)

@@ -12,10 +12,10 @@
 
 #define CALLS(X) \
     X(version) X(status_name) X(volume_open_as) X(volume_close) X(fault_place) X(answer) X(text) X(create) X(remove) \
-    X(move) X(write) X(set_text) X(set_int32) X(set_int64) X(set_uint32) X(set_uint64) X(unset) X(take) X(open) \
-    X(ready) X(read) X(hang_up) X(close) X(finish) X(drop) X(fetch) X(find) X(find_path) X(entry) X(attr_at) \
+    X(move) X(write) X(set_text) X(set_int32) X(set_int64) X(set_uint32) X(set_uint64) X(unset) X(take) X(query_open) \
+    X(ready) X(read) X(hang_up) X(query_close) X(finish) X(drop) X(fetch) X(find) X(find_path) X(entry) X(attr_at) \
     X(attr_named) X(children) X(path) X(changes) X(push_attr) X(push_text) X(push_int32) X(push_int64) X(push_uint32) \
-    X(push_uint64) X(push_op) X(clear_pushed) X(open_pushed) X(fetch_pushed)
+    X(push_uint64) X(push_op) X(clear_pushed) X(query_open_pushed) X(fetch_pushed)
 
 /* What is taken of _arguments.py and _types.py. */
 #define ARGUMENTS(X) X(encode) X(encode_name) X(kind) X(natural) X(whole)
@@ -38,7 +38,7 @@ typedef struct {
 } Own;
 
 /* The numbers of the types, as `types` has them. */
-static const uint32_t type_codes[] = {LQ_TEXT, LQ_INT32, LQ_INT64, LQ_UINT32, LQ_UINT64};
+static const uint32_t type_codes[] = {LQ_TYPE_TEXT, LQ_TYPE_INT32, LQ_TYPE_INT64, LQ_TYPE_UINT32, LQ_TYPE_UINT64};
 
 static void free_own(Own *own) {
 #define X(name) Py_XDECREF(own->py_##name);
@@ -692,11 +692,11 @@ METHOD(find_path) {
 }
 
 static PyObject *attribute(const Own *own, const lq_attr *it) {
-    bool is_signed = it->type == LQ_INT32 || it->type == LQ_INT64;
+    bool is_signed = it->type == LQ_TYPE_INT32 || it->type == LQ_TYPE_INT64;
     return RECORD(own->py_Attribute, text(it->name, it->name_size), type(own, it->type),
-                  it->type == LQ_TEXT ? text(it->text, it->text_size)
-                  : is_signed         ? PyLong_FromLongLong(it->whole)
-                                      : natural(it->natural));
+                  it->type == LQ_TYPE_TEXT ? text(it->text, it->text_size)
+                  : is_signed              ? PyLong_FromLongLong(it->whole)
+                                           : natural(it->natural));
 }
 
 METHOD(entry) {
@@ -752,12 +752,12 @@ METHOD(open) {
     options.no_result = true; /* a Query keeps rows of its own */
     enter(self);
     if (self->is_open && formula.at) {
-        status = own->open(&self->handle, TEXT(formula), &options, &out);
+        status = own->query_open(&self->handle, TEXT(formula), &options, &out);
         place = own->fault_place(&self->handle);
     } else if (self->is_open) {
         status = push_all(self, args[0], &place);
         if (status == LQ_OK) {
-            status = own->open_pushed(&self->handle, &options, &out);
+            status = own->query_open_pushed(&self->handle, &options, &out);
             place = own->fault_place(&self->handle);
         }
     }
@@ -788,7 +788,7 @@ METHOD(close) {
     TAKES(1);
     uint64_t slot, change;
     if (take_natural(own, "slot", args[0], &slot)) return NULL;
-    lq_status status = LOCKED(close(&self->handle, slot, &change));
+    lq_status status = LOCKED(query_close(&self->handle, slot, &change));
     return status == LQ_OK ? natural(change) : REFUSED("close");
 }
 
@@ -882,12 +882,13 @@ static PyObject *read_next(Reader *self) {
     lq_message out;
     if (take_natural(own, "slot", self->slot, &slot)) return NULL;
     lq_status status = handle->is_open ? own->read(&handle->handle, slot, &out) : CLOSED;
+    if (status == LQ_EMPTY || status == LQ_ENDED) return NULL;
     if (status != LQ_OK) return refused_at(handle, status, 0, "read", &self->slot, 1);
     if (out.what == LQ_END) {
         PyObject *mark = RECORD(own->py_Mark, natural(out.seq), natural(out.change), same(own->causes[out.cause]));
         if (mark) Py_XSETREF(self->mark, mark);
+        return NULL;
     }
-    if (out.what != LQ_UPDATE) return NULL;
     PyObject *made = message(own, &out);
     if (!made) return NULL;
     PyObject *node = PyTuple_GET_ITEM(made, NODE);

@@ -23,7 +23,7 @@ typedef enum word {
     FETCH
 } word;
 
-/* Which fields count is said by the word. `number` is the value of a `set` with a type other than LQ_TEXT. */
+/* Which fields count is said by the word. `number` is the value of a `set` with a type other than LQ_TYPE_TEXT. */
 typedef struct act {
     word word;
     uint64_t node, dir, size;
@@ -77,10 +77,10 @@ static inline void say_bool(text *to, const char *key, bool truth) {
 }
 
 static inline const char *type_name(uint32_t type) {
-    return type == LQ_TEXT     ? "CSTR"
-           : type == LQ_INT32  ? "LONG"
-           : type == LQ_INT64  ? "LLNG"
-           : type == LQ_UINT32 ? "ULNG"
+    return type == LQ_TYPE_TEXT     ? "CSTR"
+           : type == LQ_TYPE_INT32  ? "LONG"
+           : type == LQ_TYPE_INT64  ? "LLNG"
+           : type == LQ_TYPE_UINT32 ? "ULNG"
                                : "ULLG";
 }
 
@@ -115,8 +115,8 @@ static inline void say_line(text *to, const act *it) {
         say_natural(to, ",\"node\":", it->node);
         say_text(to, ",\"attr\":", it->name, it->name_size);
         say_text(to, ",\"type\":", type_name(it->type), 4);
-        if (it->type == LQ_TEXT) say_text(to, ",\"value\":", it->text, it->text_size);
-        else if (it->type == LQ_INT32 || it->type == LQ_INT64)
+        if (it->type == LQ_TYPE_TEXT) say_text(to, ",\"value\":", it->text, it->text_size);
+        else if (it->type == LQ_TYPE_INT32 || it->type == LQ_TYPE_INT64)
             say_whole(to, ",\"value\":", it->number);
         else say_natural(to, ",\"value\":", (uint64_t)it->number);
         break;
@@ -161,9 +161,7 @@ static inline void say_message(text *to, const lq_message *it) {
     static const char *const ops[] = {"", "CREATED", "REMOVED", "MOVED"}, *const causes[] = {
                                                                               "", "closed",
                                                                               "hung_up", "overrun"};
-    if (it->what == LQ_EMPTY || it->what == LQ_ENDED) {
-        say(to, it->what == LQ_EMPTY ? "{\"what\":\"EMPTY\"}" : "{\"what\":\"ENDED\"}");
-    } else if (it->what == LQ_END) {
+    if (it->what == LQ_END) {
         say_text(to, "{\"cause\":", causes[it->cause], strlen(causes[it->cause]));
         say_natural(to, ",\"change\":", it->change);
         say_natural(to, ",\"seq\":", it->seq);
@@ -195,8 +193,8 @@ static inline lq_status say_entry(text *to, lq *handle, uint64_t node) {
         OK(lq_attr_at(handle, node, index, &attr));
         say_text(to, index ? ",{\"name\":" : "{\"name\":", attr.name, attr.name_size);
         say_text(to, ",\"type\":", type_name(attr.type), 4);
-        if (attr.type == LQ_TEXT) say_text(to, ",\"value\":", attr.text, attr.text_size);
-        else if (attr.type == LQ_INT32 || attr.type == LQ_INT64)
+        if (attr.type == LQ_TYPE_TEXT) say_text(to, ",\"value\":", attr.text, attr.text_size);
+        else if (attr.type == LQ_TYPE_INT32 || attr.type == LQ_TYPE_INT64)
             say_whole(to, ",\"value\":", attr.whole);
         else say_natural(to, ",\"value\":", attr.natural);
         say(to, "}");
@@ -224,15 +222,15 @@ static inline lq_status change(lq *handle, const act *it, lq_applied *out) {
     case UNSET: return lq_unset(handle, it->node, it->name, it->name_size, out);
     default:
         switch (it->type) {
-        case LQ_TEXT:
+        case LQ_TYPE_TEXT:
             return lq_set_text(handle, it->node, it->name, it->name_size, it->text, it->text_size,
                                out);
-        case LQ_INT32:
+        case LQ_TYPE_INT32:
             return lq_set_int32(handle, it->node, it->name, it->name_size, (int32_t)it->number,
                                 out);
-        case LQ_INT64:
+        case LQ_TYPE_INT64:
             return lq_set_int64(handle, it->node, it->name, it->name_size, it->number, out);
-        case LQ_UINT32:
+        case LQ_TYPE_UINT32:
             return lq_set_uint32(handle, it->node, it->name, it->name_size, (uint32_t)it->number,
                                  out);
         default:
@@ -242,7 +240,8 @@ static inline lq_status change(lq *handle, const act *it, lq_applied *out) {
     }
 }
 
-/* Does an act by its typed call, and adds the reply that its line would have, without LF. A refusal adds nothing. */
+/* Does an act by its typed call, and adds the reply that its line would have, without LF. A refusal adds nothing. A read
+   that finds nothing is answered with LQ_OK, as its line is. */
 static inline lq_status by_call(lq *handle, const act *it, text *to) {
     lq_applied applied;
     lq_options options = LQ_OPTIONS_INIT;
@@ -256,7 +255,7 @@ static inline lq_status by_call(lq *handle, const act *it, text *to) {
     case OPEN:
         options.backlog = it->backlog;
         options.moved = it->flag;
-        status = lq_open(handle, it->text, it->text_size, &options, &opening);
+        status = lq_query_open(handle, it->text, it->text_size, &options, &opening);
         if (status != LQ_OK) return status;
         say_natural(to, "{\"at\":", opening.at);
         say(to, ",");
@@ -266,7 +265,9 @@ static inline lq_status by_call(lq *handle, const act *it, text *to) {
     case READ:
         status = lq_read(handle, it->node, &message);
         if (status == LQ_OK) say_message(to, &message);
-        return status;
+        else if (status == LQ_EMPTY) say(to, "{\"what\":\"EMPTY\"}");
+        else if (status == LQ_ENDED) say(to, "{\"what\":\"ENDED\"}");
+        return status == LQ_EMPTY || status == LQ_ENDED ? LQ_OK : status;
     case HANG_UP:
     case FINISH:
         status = it->word == FINISH ? lq_finish(handle, it->node) : lq_hang_up(handle, it->node);
@@ -274,7 +275,7 @@ static inline lq_status by_call(lq *handle, const act *it, text *to) {
         say_natural(to, "{\"slot\":", it->node);
         break;
     case CLOSE:
-        status = lq_close(handle, it->node, &number);
+        status = lq_query_close(handle, it->node, &number);
         if (status != LQ_OK) return status;
         say_natural(to, "{\"change\":", number);
         say_natural(to, ",\"slot\":", it->node);

@@ -54,7 +54,9 @@ static void the_names_of_statuses(void) {
                {LQ_BAD_LINE, "BadLine"},
                {LQ_OUT_OF_STEP, "OutOfStep"},
                {LQ_MISMATCH, "Mismatch"},
-               {LQ_MISUSE, "Misuse"}};
+               {LQ_MISUSE, "Misuse"},
+               {LQ_EMPTY, "Empty"},
+               {LQ_ENDED, "Ended"}};
     size_t known = 0;
     for (int status = 0; status < 1000; status++)
         known += lq_status_name((lq_status)status) != NULL;

@@ -53,8 +53,7 @@ static inline bool is_poison(const void *out, size_t size) {
 #define NAMED(it, text) \
     ((it).name_size == sizeof(text) - 1 && memcmp((it).name, (text), sizeof(text)) == 0)
 
-/* A literal as a pointer and its length. */
-#define TEXT(text) (text), sizeof(text) - 1
+#define TEXT LQ_TEXT
 
 /* The node of an entry that is created. */
 static inline uint64_t created(lq *handle, uint64_t dir, const char *name, uint32_t kind,

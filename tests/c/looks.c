@@ -22,11 +22,11 @@ static void attributes(void) {
         int64_t whole;
         uint64_t natural;
         size_t text_size;
-    } wanted[] = {{"text", LQ_TEXT, 0, 0, 4096},
-                  {"int32", LQ_INT32, INT32_MIN, 0, 0},
-                  {"int64", LQ_INT64, INT64_MIN, 0, 0},
-                  {"uint32", LQ_UINT32, 0, UINT32_MAX, 0},
-                  {"uint64", LQ_UINT64, 0, UINT64_MAX, 0}};
+    } wanted[] = {{"text", LQ_TYPE_TEXT, 0, 0, 4096},
+                  {"int32", LQ_TYPE_INT32, INT32_MIN, 0, 0},
+                  {"int64", LQ_TYPE_INT64, INT64_MIN, 0, 0},
+                  {"uint32", LQ_TYPE_UINT32, 0, UINT32_MAX, 0},
+                  {"uint64", LQ_TYPE_UINT64, 0, UINT64_MAX, 0}};
     lq_info info;
     lq_attr attr, named;
     OK(lq_entry(&it, 3, &info));

@@ -110,7 +110,7 @@ static lq_status fetch_beside(lq *handle, text *to) {
 static lq_status open_all(lq *handle, text *to) {
     lq_opening opening;
     POISON(opening);
-    lq_status status = lq_open(handle, TEXT("size>=0"), NULL, &opening);
+    lq_status status = lq_query_open(handle, TEXT("size>=0"), NULL, &opening);
     if (status == LQ_OK) say_result(to, handle, opening.result, opening.count);
     else LEFT(opening);
     return status;
@@ -119,7 +119,7 @@ static lq_status open_all(lq *handle, text *to) {
 static lq_status open_without_result(lq *handle, text *to) {
     const lq_options options = {0, false, true};
     lq_opening opening;
-    lq_status status = lq_open(handle, TEXT("size>=0"), &options, &opening);
+    lq_status status = lq_query_open(handle, TEXT("size>=0"), &options, &opening);
     if (status == LQ_OK) say_result(to, handle, opening.result, opening.count);
     return status;
 }
@@ -181,7 +181,7 @@ static lq_status fetch_pushed(lq *handle, text *to) {
 static lq_status open_pushed(lq *handle, text *to) {
     const lq_options options = {16, true, false};
     lq_opening opening;
-    lq_status status = lq_open_pushed(handle, &options, &opening);
+    lq_status status = lq_query_open_pushed(handle, &options, &opening);
     if (status == LQ_OK) say_result(to, handle, opening.result, opening.count);
     return status;
 }
@@ -203,7 +203,7 @@ static lq_status open_pushed(lq *handle, text *to) {
     { .word = SET, .node = 3, .type = kind, .number = value, NAME("n") }
 #define TEXT_VALUE(attr, value) \
     { \
-        .word = SET, .node = 3, .type = LQ_TEXT, .text = value, .text_size = sizeof(value) - 1, \
+        .word = SET, .node = 3, .type = LQ_TYPE_TEXT, .text = value, .text_size = sizeof(value) - 1, \
         NAME(attr) \
     }
 #define OF(what, number) \
@@ -265,10 +265,10 @@ static const act growing[] = {QUERY(OPEN, "size>100", 64, false), QUERY(OPEN, "n
 /* The second list begins anew with the entries of two acts. */
 static const act values[] = {FOLDER_AT(1, "folder"),
                              FILE_AT(2, "a.txt"),
-                             VALUE(LQ_INT32, -1),
-                             VALUE(LQ_INT64, INT64_MIN),
-                             VALUE(LQ_UINT32, 7),
-                             VALUE(LQ_UINT64, -1),
+                             VALUE(LQ_TYPE_INT32, -1),
+                             VALUE(LQ_TYPE_INT64, INT64_MIN),
+                             VALUE(LQ_TYPE_UINT32, 7),
+                             VALUE(LQ_TYPE_UINT64, -1),
                              TEXT_VALUE("a name of many bytes", LONG_TEXT),
                              TEXT_VALUE("n", LONG_TEXT),
                              OF(ENTRY, 3),
@@ -379,7 +379,7 @@ static void want_results(lq *handle, text *wanted, bool was_refused) {
         const act result = OF(RESULT, slot);
         text seen = {NULL, 0, 0}, *its = &wanted[slot - 1];
         lq_message message;
-        while (lq_read(handle, slot, &message) == LQ_OK && message.what == LQ_UPDATE) continue;
+        while (lq_read(handle, slot, &message) == LQ_OK) continue;
         lq_status status = by_call(handle, &result, was_refused ? &seen : its);
         CHECK(status == LQ_NOT_OPEN || (status == LQ_OK && (!was_refused || is_same(&seen, its))));
         free(seen.at);

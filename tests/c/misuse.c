@@ -32,11 +32,11 @@ static void not_open(lq *it) {
     REFUSED(lq_unset(it, 2, TEXT("a"), &out.applied), LQ_MISUSE, out);
     REFUSED(lq_take(it, 1, &out.row, 1, &got), LQ_MISUSE, out);
     REFUSED(lq_next(it, 1, &out.row), LQ_MISUSE, out);
-    REFUSED(lq_open(it, TEXT("a=b"), NULL, &out.opening), LQ_MISUSE, out);
+    REFUSED(lq_query_open(it, TEXT("a=b"), NULL, &out.opening), LQ_MISUSE, out);
     REFUSED(lq_read(it, 1, &out.message), LQ_MISUSE, out);
     REFUSED(lq_read_many(it, 1, &out.message, 1, &got), LQ_MISUSE, out);
     WANT(lq_hang_up(it, 1), LQ_MISUSE);
-    REFUSED(lq_close(it, 1, &out.number), LQ_MISUSE, out);
+    REFUSED(lq_query_close(it, 1, &out.number), LQ_MISUSE, out);
     WANT(lq_finish(it, 1), LQ_MISUSE);
     WANT(lq_drop(it, 1), LQ_MISUSE);
     REFUSED(lq_result(it, 1, &out.rebuilt), LQ_MISUSE, out);
@@ -56,7 +56,7 @@ static void not_open(lq *it) {
     WANT(lq_push_uint64(it, 1), LQ_MISUSE);
     WANT(lq_push_op(it, LQ_NOT), LQ_MISUSE);
     WANT(lq_clear_pushed(it), LQ_MISUSE);
-    REFUSED(lq_open_pushed(it, NULL, &out.opening), LQ_MISUSE, out);
+    REFUSED(lq_query_open_pushed(it, NULL, &out.opening), LQ_MISUSE, out);
     REFUSED(lq_fetch_pushed(it, &out.fetched), LQ_MISUSE, out);
     CHECK(lq_fault_place(it) == 0 && lq_ready(it) == 0 && lq_changes(it) == 0);
     CHECK(lq_text(it, room, sizeof room) == 0 && room[0] == 'x' && got == 7);
@@ -146,7 +146,7 @@ static void nulls(void) {
     WANT(lq_set_text(&it, 2, TEXT("a"), NULL, 1, NULL), LQ_MISUSE);
     WANT(lq_set_uint64(&it, 2, NULL, 1, 1, NULL), LQ_MISUSE);
     WANT(lq_unset(&it, 2, NULL, 1, NULL), LQ_MISUSE);
-    WANT(lq_open(&it, NULL, 1, NULL, &opening), LQ_MISUSE);
+    WANT(lq_query_open(&it, NULL, 1, NULL, &opening), LQ_MISUSE);
     WANT(lq_fetch(&it, NULL, 1, &fetched), LQ_MISUSE);
     WANT(lq_find(&it, LQ_ROOT, NULL, 1, &node), LQ_MISUSE);
     WANT(lq_find_path(&it, LQ_ROOT, NULL, 1, &node), LQ_MISUSE);
@@ -155,11 +155,11 @@ static void nulls(void) {
     WANT(lq_push_text(&it, NULL, 1), LQ_MISUSE);
     /* no `out` */
     WANT(lq_answer(&it, TEXT("{}"), NULL), LQ_MISUSE);
-    WANT(lq_open(&it, TEXT("a=b"), NULL, NULL), LQ_MISUSE);
-    WANT(lq_open_pushed(&it, NULL, NULL), LQ_MISUSE);
+    WANT(lq_query_open(&it, TEXT("a=b"), NULL, NULL), LQ_MISUSE);
+    WANT(lq_query_open_pushed(&it, NULL, NULL), LQ_MISUSE);
     WANT(lq_fetch(&it, TEXT("a=b"), NULL), LQ_MISUSE);
     WANT(lq_fetch_pushed(&it, NULL), LQ_MISUSE);
-    OK(lq_open(&it, TEXT("size>0"), NULL, &opening));
+    OK(lq_query_open(&it, TEXT("size>0"), NULL, &opening));
     WANT(lq_take(&it, opening.result, NULL, 1, &got), LQ_MISUSE);
     WANT(lq_take(&it, opening.result, &row, 1, NULL), LQ_MISUSE);
     WANT(lq_next(&it, opening.result, NULL), LQ_MISUSE);
@@ -177,7 +177,7 @@ static void nulls(void) {
     /* none of these has made another result */
     OK(lq_take(&it, opening.result, &row, 1, &got));
     CHECK(got == 1 && row.node == 2);
-    OK(lq_close(&it, 1, NULL));
+    OK(lq_query_close(&it, 1, NULL));
     lq_volume_close(&it);
 }
 
@@ -208,7 +208,7 @@ static void sizes(void) {
         WANT(lq_set_uint32(&it, 2, text, size, 1, NULL), LQ_BAD_NAME);
         WANT(lq_set_uint64(&it, 2, text, size, 1, NULL), LQ_BAD_NAME);
         WANT(lq_unset(&it, 2, text, size, NULL), LQ_BAD_NAME);
-        WANT(lq_open(&it, text, size, NULL, &opening), LQ_BAD_QUERY);
+        WANT(lq_query_open(&it, text, size, NULL, &opening), LQ_BAD_QUERY);
         CHECK(lq_fault_place(&it) == 4096);
         WANT(lq_push_attr(&it, text, size), LQ_BAD_QUERY);
         CHECK(lq_fault_place(&it) == 0);

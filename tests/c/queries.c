@@ -20,28 +20,24 @@ static void subscriptions(void) {
     created(&it, 1, "in", LQ_FOLDER, 0);
     created(&it, 2, "a.txt", LQ_FILE, 200);
     created(&it, 2, "b.txt", LQ_FILE, 50);
-    REFUSED(lq_open(&it, TEXT("size>"), &too_many, &opening), LQ_BAD_QUERY, opening);
+    REFUSED(lq_query_open(&it, TEXT("size>"), &too_many, &opening), LQ_BAD_QUERY, opening);
     CHECK(lq_fault_place(&it) == 5);
-    REFUSED(lq_open(&it, "", 0, NULL, &opening), LQ_BAD_QUERY, opening);
+    REFUSED(lq_query_open(&it, "", 0, NULL, &opening), LQ_BAD_QUERY, opening);
     CHECK(lq_fault_place(&it) == 0);
-    REFUSED(lq_open(&it, long_text, 4097, NULL, &opening), LQ_BAD_QUERY, opening);
+    REFUSED(lq_query_open(&it, long_text, 4097, NULL, &opening), LQ_BAD_QUERY, opening);
     CHECK(lq_fault_place(&it) == 4096);
-    REFUSED(lq_open(&it, TEXT("name==\xff"), NULL, &opening), LQ_NOT_UTF8, opening);
-    REFUSED(lq_open(&it, TEXT("size>1"), &too_many, &opening), LQ_BAD_BACKLOG, opening);
+    REFUSED(lq_query_open(&it, TEXT("name==\xff"), NULL, &opening), LQ_NOT_UTF8, opening);
+    REFUSED(lq_query_open(&it, TEXT("size>1"), &too_many, &opening), LQ_BAD_BACKLOG, opening);
     too_many.backlog = UINT64_MAX;
-    REFUSED(lq_open(&it, TEXT("size>1"), &too_many, &opening), LQ_BAD_BACKLOG, opening);
-    OK(lq_open(&it, TEXT("size>100"), &moved, &opening));
+    REFUSED(lq_query_open(&it, TEXT("size>1"), &too_many, &opening), LQ_BAD_BACKLOG, opening);
+    OK(lq_query_open(&it, TEXT("size>100"), &moved, &opening));
     CHECK(opening.slot == 1 && opening.at == 3 && opening.count == 1);
     OK(lq_next(&it, opening.result, &row));
     CHECK(row.dir == 2 && row.node == 3 && NAMED(row, "a.txt"));
     CHECK(row.kind == LQ_FILE && row.size == 200 && row.time == 941000000);
     REFUSED(lq_next(&it, opening.result, &row), LQ_NO_ENTRY, row);
 
-    POISON(message);
-    OK(lq_read(&it, 1, &message));
-    CHECK(message.what == LQ_EMPTY && message.seq == 0 && message.change == 0 &&
-          message.name_size == 0 && message.from_name_size == 0 && message.name[0] == 0 &&
-          message.from_name[0] == 0);
+    REFUSED(lq_read(&it, 1, &message), LQ_EMPTY, message);
     OK(lq_write(&it, 4, 300, 1, &applied));
     OK(lq_move(&it, 3, 1, TEXT("c.txt"), false, &applied));
     OK(lq_remove(&it, 3, &applied));
@@ -68,15 +64,15 @@ static void subscriptions(void) {
     for (size_t at = 0; at < sizeof free_slots / sizeof *free_slots; at++) {
         uint64_t slot = free_slots[at];
         REFUSED(lq_read(&it, slot, &message), LQ_NOT_OPEN, message);
-        REFUSED(lq_close(&it, slot, &covered), LQ_NOT_OPEN, covered);
+        REFUSED(lq_query_close(&it, slot, &covered), LQ_NOT_OPEN, covered);
         REFUSED(lq_result(&it, slot, &rebuilt), LQ_NOT_OPEN, rebuilt);
         WANT(lq_hang_up(&it, slot), LQ_NOT_OPEN);
         WANT(lq_finish(&it, slot), LQ_NOT_OPEN);
     }
     WANT(lq_finish(&it, 1), LQ_STILL_OPEN);
-    OK(lq_close(&it, 1, &covered));
+    OK(lq_query_close(&it, 1, &covered));
     CHECK(covered == 6);
-    REFUSED(lq_close(&it, 1, &covered), LQ_NOT_OPEN, covered);
+    REFUSED(lq_query_close(&it, 1, &covered), LQ_NOT_OPEN, covered);
     WANT(lq_finish(&it, 1), LQ_STILL_OPEN);
     OK(lq_hang_up(&it, 1));
     OK(lq_read(&it, 1, &message));
@@ -85,8 +81,7 @@ static void subscriptions(void) {
     OK(lq_read(&it, 1, &message));
     CHECK(message.what == LQ_END && message.cause == LQ_CLOSED && message.seq == 4 &&
           message.change == 6 && message.op == 0 && message.name_size == 0);
-    OK(lq_read(&it, 1, &message));
-    CHECK(message.what == LQ_ENDED && message.seq == 0);
+    for (int again = 0; again < 2; again++) REFUSED(lq_read(&it, 1, &message), LQ_ENDED, message);
     OK(lq_result(&it, 1, &rebuilt));
     CHECK(rebuilt.count == 1 && rebuilt.change == 6 && rebuilt.settled);
     OK(lq_finish(&it, 1));
@@ -94,9 +89,9 @@ static void subscriptions(void) {
     REFUSED(lq_read(&it, 1, &message), LQ_NOT_OPEN, message);
 
     /* without `moved`; an end that its reader asks for, and one by overrun: two messages, and room for one */
-    OK(lq_open(&it, TEXT("name==*"), &two, &opening));
+    OK(lq_query_open(&it, TEXT("name==*"), &two, &opening));
     CHECK(opening.slot == 1);
-    OK(lq_open(&it, TEXT("name==*"), &one, &opening));
+    OK(lq_query_open(&it, TEXT("name==*"), &one, &opening));
     CHECK(opening.slot == 2);
     OK(lq_move(&it, 4, 1, TEXT("d.txt"), false, &applied));
     OK(lq_hang_up(&it, 1));
@@ -115,10 +110,10 @@ static void subscriptions(void) {
 
     /* all slots, and one more */
     for (uint64_t slot = 2; slot <= 64; slot++) {
-        OK(lq_open(&it, TEXT("size<0"), NULL, &opening));
+        OK(lq_query_open(&it, TEXT("size<0"), NULL, &opening));
         CHECK(opening.slot == slot && opening.count == 0);
     }
-    REFUSED(lq_open(&it, TEXT("size<0"), NULL, &opening), LQ_NO_SLOT, opening);
+    REFUSED(lq_query_open(&it, TEXT("size<0"), NULL, &opening), LQ_NO_SLOT, opening);
     lq_volume_close(&it);
 }
 
@@ -224,9 +219,9 @@ static void pushes(void) {
         options.backlog = round == 0 ? LQ_BACKLOG + 1 : 9;
         options.moved = round == 1;
         if (round == 0)
-            REFUSED(lq_open_pushed(&it, &options, &opening), LQ_BAD_BACKLOG, opening);
-        else OK(lq_open_pushed(&it, &options, &opening));
-        REFUSED(lq_open_pushed(&it, NULL, &opening), LQ_BAD_QUERY, opening);
+            REFUSED(lq_query_open_pushed(&it, &options, &opening), LQ_BAD_BACKLOG, opening);
+        else OK(lq_query_open_pushed(&it, &options, &opening));
+        REFUSED(lq_query_open_pushed(&it, NULL, &opening), LQ_BAD_QUERY, opening);
         CHECK(lq_fault_place(&it) == 0);
     }
     lq_message message;

@@ -41,7 +41,7 @@ int main(void) {
     pthread_t writer, reader;
     lq_opening opening;
     OK(lq_volume_open(&handle));
-    OK(lq_open(&handle, TEXT("size>0"), NULL, &opening));
+    OK(lq_query_open(&handle, TEXT("size>0"), NULL, &opening));
     if (pthread_create(&writer, NULL, writes, NULL) || pthread_create(&reader, NULL, reads, NULL))
         abort();
     pthread_join(writer, NULL);

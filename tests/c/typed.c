@@ -88,7 +88,7 @@ static act drawn(void) {
     static const int64_t times[] = {0, 1, -1, 941000000, INT64_MAX, INT64_MIN};
     static const uint64_t backlogs[] = {64, 64, 8, 3, 1, 0, 65536},
                           bad_backlogs[] = {65537, UINT64_MAX};
-    static const uint32_t types[] = {LQ_TEXT, LQ_INT32, LQ_INT64, LQ_UINT32, LQ_UINT64};
+    static const uint32_t types[] = {LQ_TYPE_TEXT, LQ_TYPE_INT32, LQ_TYPE_INT64, LQ_TYPE_UINT32, LQ_TYPE_UINT64};
     static const piece attrs[] = {{TEXT("PRIO")}, {TEXT("TAG")}, {TEXT("NUM")}, {TEXT("a b\"c")}},
                        bad_attrs[] = {{TEXT("name")}, {TEXT("")}, {TEXT("x\0")}};
     static const piece texts[] = {{TEXT("")},  {TEXT("abc")},  {TEXT("b\x01")},
@@ -115,8 +115,8 @@ static act drawn(void) {
     if (it.word == CREATE && it.kind == LQ_FOLDER && draw(9)) it.size = 0;
     it.type = *ONE_OF(types);
     it.number = draw(2) ? (int64_t)draw(5) : *ONE_OF(times);
-    if (it.type == LQ_INT32) it.number = (int32_t)it.number;
-    if (it.type == LQ_UINT32) it.number = (int64_t)(uint32_t)it.number;
+    if (it.type == LQ_TYPE_INT32) it.number = (int32_t)it.number;
+    if (it.type == LQ_TYPE_UINT32) it.number = (int64_t)(uint32_t)it.number;
     it.backlog = draw(9) ? *ONE_OF(backlogs) : *ONE_OF(bad_backlogs);
     it.flag = draw(2);
     return it;

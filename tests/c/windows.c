@@ -16,6 +16,7 @@ static void readiness(void) {
     lq it = LQ_INIT, twin = LQ_INIT;
     lq *const both[] = {&it, &twin};
     unsigned long ready = 0, idle = 0, marks = 0;
+    bool is_ended[6] = {false}; /* whether the mark of a slot was read */
     OK(lq_volume_open(&it));
     OK(lq_volume_open(&twin));
     CHECK(lq_ready(&it) == 0);
@@ -27,10 +28,10 @@ static void readiness(void) {
         lq_options options = {1 + draw(4), draw(2), draw(2)};
         for (int each = 0; each < 2; each++) {
             lq_opening opening;
-            if (act == 0) (void)lq_open(both[each], TEXT("size>100"), &options, &opening);
+            if (act == 0) (void)lq_query_open(both[each], TEXT("size>100"), &options, &opening);
             else if (act == 1) (void)lq_hang_up(both[each], slot);
-            else if (act == 2) (void)lq_close(both[each], slot, NULL);
-            else if (act == 3) (void)lq_finish(both[each], slot);
+            else if (act == 2) (void)lq_query_close(both[each], slot, NULL);
+            else if (act == 3) is_ended[slot] = lq_finish(both[each], slot) != LQ_OK && is_ended[slot];
             else OK(lq_write(both[each], node, size, 1, NULL));
         }
         uint64_t bits = lq_ready(&it);
@@ -41,13 +42,13 @@ static void readiness(void) {
         memset(&one, 0, sizeof one);
         memset(many, 0, sizeof many);
         lq_status status = lq_read_many(&twin, slot, many, room, &got), read = LQ_OK;
-        while (count < room && (read = lq_read(&it, slot, &one)) == LQ_OK &&
-               (one.what == LQ_UPDATE || one.what == LQ_END)) {
+        while (count < room && (read = lq_read(&it, slot, &one)) == LQ_OK) {
             if (count == 0) CHECK((bits >> (slot - 1) & 1) == 1);
             CHECK(one.what == many[count].what && one.seq == many[count].seq &&
                   one.node == many[count].node && one.cause == many[count].cause &&
                   strcmp(one.name, many[count].name) == 0);
-            marks += one.what == LQ_END;
+            is_ended[slot] = one.what == LQ_END;
+            marks += is_ended[slot];
             count++;
             ready++;
         }
@@ -55,7 +56,9 @@ static void readiness(void) {
             CHECK((bits >> (slot - 1) & 1) == 0);
             idle++;
         }
-        CHECK(status == read && got == (status == LQ_OK ? count : 99));
+        bool is_free = read == LQ_NOT_OPEN;
+        CHECK(is_free || read == LQ_OK || read == (is_ended[slot] ? LQ_ENDED : LQ_EMPTY));
+        CHECK(status == (is_free ? LQ_NOT_OPEN : LQ_OK) && got == (is_free ? 99 : count));
     }
     CHECK(ready > 1000 && idle > 1000 && marks > 100);
     lq_volume_close(&it);
@@ -68,17 +71,17 @@ static void a_hang_up_is_ready(void) {
     lq_opening opening;
     lq_message message;
     OK(lq_volume_open(&it));
-    OK(lq_open(&it, TEXT("size>0"), NULL, &opening));
+    OK(lq_query_open(&it, TEXT("size>0"), NULL, &opening));
     CHECK(lq_ready(&it) == 0);
     OK(lq_hang_up(&it, 1));
     CHECK(lq_ready(&it) == 1);
     OK(lq_read(&it, 1, &message));
     CHECK(message.what == LQ_END && message.cause == LQ_HUNG_UP && lq_ready(&it) == 0);
-    OK(lq_read(&it, 1, &message));
-    CHECK(message.what == LQ_ENDED && lq_ready(&it) == 0);
-    OK(lq_open(&it, TEXT("size>0"), NULL, &opening));
+    WANT(lq_read(&it, 1, &message), LQ_ENDED);
+    CHECK(lq_ready(&it) == 0);
+    OK(lq_query_open(&it, TEXT("size>0"), NULL, &opening));
     for (uint64_t slot = 3; slot <= LQ_SLOTS; slot++)
-        OK(lq_open(&it, TEXT("size>0"), NULL, &opening));
+        OK(lq_query_open(&it, TEXT("size>0"), NULL, &opening));
     created(&it, LQ_ROOT, "a", LQ_FILE, 1);
     CHECK(lq_ready(&it) == UINT64_MAX - 1);
     lq_volume_close(&it);
@@ -96,7 +99,7 @@ static void overruns(void) {
         char name[16];
         OK(lq_volume_open(&it));
         options.backlog = backlogs[at];
-        OK(lq_open(&it, TEXT("size>0"), &options, &opening));
+        OK(lq_query_open(&it, TEXT("size>0"), &options, &opening));
         for (int number = 0; number < 5000; number++) {
             snprintf(name, sizeof name, "f%d", number);
             created(&it, LQ_ROOT, name, LQ_FILE, 1);
@@ -121,7 +124,7 @@ static void the_largest_backlog(void) {
     size_t got, count = 0;
     OK(lq_volume_open(&it));
     created(&it, LQ_ROOT, "a", LQ_FILE, 0);
-    OK(lq_open(&it, TEXT("size>0"), NULL, &opening));
+    OK(lq_query_open(&it, TEXT("size>0"), NULL, &opening));
     for (uint64_t number = 1; number <= LQ_BACKLOG + 2; number++)
         OK(lq_write(&it, 2, number % 2, 0, NULL));
     do {
@@ -144,23 +147,24 @@ static void drops(void) {
     WANT(lq_drop(&it, 0), LQ_NOT_OPEN);
     WANT(lq_drop(&it, UINT64_MAX), LQ_NOT_OPEN);
     for (int way = 0; way < 5; way++) {
-        OK(lq_open(&it, TEXT("name=*"), NULL, &opening));
+        OK(lq_query_open(&it, TEXT("name=*"), NULL, &opening));
         CHECK(opening.slot == 1);
         created(&it, LQ_ROOT, (char[]){(char)('a' + way), 0}, LQ_FILE, 1);
         created(&it, LQ_ROOT, (char[]){(char)('A' + way), 0}, LQ_FILE, 1);
         if (way == 1) OK(lq_hang_up(&it, 1));
-        if (way == 2) OK(lq_close(&it, 1, NULL));
+        if (way == 2) OK(lq_query_close(&it, 1, NULL));
         if (way > 2) {
-            OK(lq_close(&it, 1, NULL));
-            for (int read = 0; read < way; read++) OK(lq_read(&it, 1, &message));
-            CHECK(message.what == LQ_END || way == 4);
+            OK(lq_query_close(&it, 1, NULL));
+            for (int read = 0; read < 3; read++) OK(lq_read(&it, 1, &message));
+            CHECK(message.what == LQ_END);
+            if (way == 4) WANT(lq_read(&it, 1, &message), LQ_ENDED);
         }
         OK(lq_drop(&it, 1));
         WANT(lq_drop(&it, 1), LQ_NOT_OPEN);
         CHECK(lq_ready(&it) == 0);
     }
     /* a slot that keeps no rebuilt result reads as any other */
-    OK(lq_open(&it, TEXT("name=*"), &bare, &opening));
+    OK(lq_query_open(&it, TEXT("name=*"), &bare, &opening));
     CHECK(opening.count == 10);
     REFUSED(lq_result(&it, 1, &rebuilt), LQ_NOT_OPEN, rebuilt);
     created(&it, LQ_ROOT, "new", LQ_FILE, 1);
