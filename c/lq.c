@@ -85,6 +85,8 @@ const char *lq_status_name(lq_status status)
     case LQ_MISUSE: return "Misuse";
     case LQ_EMPTY: return "Empty";
     case LQ_ENDED: return "Ended";
+    case LQ_NO_VALUE: return "NoValue";
+    case LQ_UNUSED_VALUE: return "UnusedValue";
     }
     return NULL;
 }
@@ -398,4 +400,49 @@ lq_status lq_fetch_pushed(lq *handle, lq_fetched *out)
 {
     if (!is_open(handle) || !out) return LQ_MISUSE;
     return lqp_fetch_pushed(in(handle), &handle->result, &handle->pushes, out);
+}
+
+/* ---- texts and values in a formula ---- */
+
+size_t lq_quote(const char *text, size_t text_size, char *out, size_t room)
+{
+    char none[1];
+    if (text_size > LQ_TEXT_SIZE || !is_text(&text, &text_size, LQ_TEXT_SIZE)) return 0;
+    return out ? lqp_quote(text, text_size, out, room) : lqp_quote(text, text_size, none, 0);
+}
+
+lq_status lq_bind_text(lq *handle, const char *text, size_t text_size)
+{
+    if (!is_open(handle) || !is_text(&text, &text_size, LQ_TEXT_SIZE)) return LQ_MISUSE;
+    return lqp_bind_text(in(handle), text, text_size);
+}
+
+lq_status lq_bind_int64(lq *handle, int64_t value)
+{
+    return is_open(handle) ? (lq_status)lqp_bind_int64(in(handle), value) : LQ_MISUSE;
+}
+
+lq_status lq_bind_uint64(lq *handle, uint64_t value)
+{
+    return is_open(handle) ? (lq_status)lqp_bind_uint64(in(handle), value) : LQ_MISUSE;
+}
+
+lq_status lq_clear_bound(lq *handle)
+{
+    if (!is_open(handle)) return LQ_MISUSE;
+    lqp_clear_bound(in(handle));
+    return LQ_OK;
+}
+
+lq_status lq_query_open_bound(lq *handle, const char *formula, size_t formula_size, const lq_options *options,
+                              lq_opening *out)
+{
+    if (!is_open(handle) || !out || !is_text(&formula, &formula_size, LQ_FORMULA_SIZE)) return LQ_MISUSE;
+    return lqp_open_bound(in(handle), &handle->result, formula, formula_size, options ? options : &no_options, out);
+}
+
+lq_status lq_fetch_bound(lq *handle, const char *formula, size_t formula_size, lq_fetched *out)
+{
+    if (!is_open(handle) || !out || !is_text(&formula, &formula_size, LQ_FORMULA_SIZE)) return LQ_MISUSE;
+    return lqp_fetch_bound(in(handle), &handle->result, formula, formula_size, out);
 }

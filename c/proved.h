@@ -69,4 +69,13 @@ uint32_t lqp_open_pushed(served *handle, uint64_t *made, uint32_t *pushes, const
                          lq_opening *out);
 uint32_t lqp_fetch_pushed(served *handle, uint64_t *made, uint32_t *pushes, lq_fetched *out);
 
+size_t lqp_quote(const char *text, size_t text_size, char *out, size_t room);
+uint32_t lqp_bind_text(served *handle, const char *text, size_t text_size);
+uint32_t lqp_bind_int64(served *handle, int64_t value);
+uint32_t lqp_bind_uint64(served *handle, uint64_t value);
+void lqp_clear_bound(served *handle);
+uint32_t lqp_open_bound(served *handle, uint64_t *made, const char *formula, size_t formula_size,
+                        const lq_options *options, lq_opening *out);
+uint32_t lqp_fetch_bound(served *handle, uint64_t *made, const char *formula, size_t formula_size, lq_fetched *out);
+
 #endif

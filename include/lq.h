@@ -75,6 +75,9 @@ enum { LQ_BACKLOG = 65536 };
 /* The most pushes to one stack: no query that is within the limits of formulas needs more. */
 enum { LQ_PUSHES = 4096 };
 
+/* The most values that are bound for the parameters of a formula. */
+enum { LQ_VALUES = 256 };
+
 /* A literal and its size, as two arguments of a call. What isn't a literal is not compiled. */
 #define LQ_TEXT(literal) ("" literal), sizeof("" literal) - 1
 
@@ -111,7 +114,9 @@ typedef enum lq_status {
     LQ_MISMATCH = 35,
     LQ_MISUSE = 40,
     LQ_EMPTY = 41,
-    LQ_ENDED = 42
+    LQ_ENDED = 42,
+    LQ_NO_VALUE = 43,
+    LQ_UNUSED_VALUE = 44
 } lq_status;
 
 /* The name of a status, as "NoNode" for LQ_NO_NODE and "Ok" for LQ_OK. Null: no status has this
@@ -149,23 +154,25 @@ void lq_volume_close(lq *handle);
 
 /* The place of the last fault: after a call that answered LQ_BAD_QUERY, the byte of the formula
  * where it has its leftmost fault, counted from 0, or 4096 for one of more bytes; for a call with
- * pushed items, the number of pushes that were accepted since the stack was new. 0 where no call
- * was refused in this way. */
+ * pushed items, the number of pushes that were accepted since the stack was new; after LQ_NO_VALUE
+ * and LQ_UNUSED_VALUE, the number of the value, counted from 1. 0 where no call was refused in this
+ * way. */
 uint64_t lq_fault_place(const lq *handle);
 
 /* ---- a script's lines ---- */
 
-/* Answers one line of a script, without its LF. The reply, JSON with LF, has the bytes that
- * `lq run` writes for the line, and the handle is as a script is after it: a line and the calls
- * below act on the same volume and slots. `*size` is the size of the reply, which lq_text copies
- * until another lq_answer or lq_path; 0 for an empty line, which has none. A refused line is
+/* Answers one line of a script, without its LF. The reply, JSON with LF, has the bytes that `lq
+ * run` writes for the line, and the handle is as a script is after it: a line and the calls below
+ * act on the same volume and slots. `*size` is the size of the reply, which lq_text copies until
+ * another call that writes such a text; 0 for an empty line, which has none. A refused line is
  * answered with LQ_OK, and says so in its reply. LQ_NO_MEMORY: there is no reply, and nothing is
  * said of whether the line was carried out; a message that it read is lost, but lq_result has it,
  * or the slot is left without a rebuilt result. */
 lq_status lq_answer(lq *handle, const char *line, size_t line_size, size_t *size);
 
-/* Copies the text of the last lq_answer or lq_path, and answers its size. Where `room` is smaller
- * nothing is copied; where it is larger a NUL comes after the text. */
+/* Copies the text of the last lq_answer or lq_path, or of a formula with its values
+ * (lq_query_open_bound), and answers its size. Where `room` is smaller nothing is copied; where it
+ * is larger a NUL comes after the text. */
 size_t lq_text(const lq *handle, char *out, size_t room);
 
 /* ---- changes ---- */
@@ -235,11 +242,11 @@ typedef struct lq_row {
 
 /* Takes the next entries of a result, `room` at most, and writes how many there were: fewer than
  * `room`, once none is left. A handle has one result at a time, whose number the call that made it
- * has written as `result` (lq_query_open, lq_query_open_pushed, lq_fetch, lq_fetch_pushed,
- * lq_result, lq_children); it doesn't change with the volume. LQ_MISUSE: another result was made
- * since, or the handle was closed. A handle that is opened again counts on, so no number is given
- * twice, unless it was set to LQ_INIT in between. To use two results at once, take all of the
- * first, whose `count` is known, before the second is made. */
+ * has written as `result` (the openings and fetches, lq_result, lq_children); it doesn't change
+ * with the volume. LQ_MISUSE: another result was made since, or the handle was closed. A handle
+ * that is opened again counts on, so no number is given twice, unless it was set to LQ_INIT in
+ * between. To use two results at once, take all of the first, whose `count` is known, before the
+ * second is made. */
 lq_status lq_take(lq *handle, uint64_t result, lq_row *out, size_t room, size_t *got);
 
 /* Takes the next entry alone. LQ_NO_ENTRY: none is left. LQ_MISUSE: as lq_take. */
@@ -484,6 +491,44 @@ lq_status lq_clear_pushed(lq *handle);
  * where they are refused after that. LQ_BAD_QUERY: the stack holds anything else; it stays. */
 lq_status lq_query_open_pushed(lq *handle, const lq_options *options, lq_opening *out);
 lq_status lq_fetch_pushed(lq *handle, lq_fetched *out);
+
+/* ---- texts and values in a formula ---- */
+
+/* Writes a text as a literal that matches just this text after `==`, `=` and `!=`: between `"`,
+ * with a `\` before each `*`, `?`, `[`, `\` and `"`. It answers the size of the literal. Where
+ * `room` is smaller nothing is written; where it is larger a NUL comes after the literal. It needs
+ * no handle, and takes no memory. 0: the text is above LQ_TEXT_SIZE, or null with a size. Bytes
+ * that are no UTF-8 are quoted as they are, and refused with the formula. After other operators a
+ * literal is no pattern, and has a `\` before `\` and `"` alone: bind a text there. */
+size_t lq_quote(const char *text, size_t text_size, char *out, size_t room);
+
+/* Binds a value. The first one stands for `$1` in the next lq_query_open_bound or lq_fetch_bound,
+ * the second for `$2`, and so on to `$256`. LQ_MISUSE: LQ_VALUES are bound already. LQ_NOT_UTF8 and
+ * LQ_TOO_LONG for a text. LQ_NO_MEMORY. A value that is refused isn't bound. */
+lq_status lq_bind_text(lq *handle, const char *text, size_t text_size);
+lq_status lq_bind_int64(lq *handle, int64_t value);
+lq_status lq_bind_uint64(lq *handle, uint64_t value);
+
+/* Takes all bound values off. */
+lq_status lq_clear_bound(lq *handle);
+
+/* lq_query_open and lq_fetch of a formula with the bound values in place of its parameters. A
+ * parameter is a literal that is one of `$1` to `$256`, without quotes and `\`. A bound number
+ * takes its place in decimal, a bound text between `"`: after `==`, `=` and `!=` as lq_quote writes
+ * it, so that it is no pattern, and after other operators as the plain text. Both calls take all
+ * values off, also where they are refused, but for LQ_MISUSE. LQ_NO_MEMORY. Else they are refused
+ * in this order:
+ * - LQ_BAD_QUERY: the formula is above LQ_FORMULA_SIZE, or a quoted text in it has no end, or a `\`
+ *   ends it. Then lq_text copies the empty text.
+ * - LQ_NO_VALUE: no value was bound for a parameter. lq_fault_place is the number of the leftmost
+ *   parameter without a value.
+ * - LQ_UNUSED_VALUE: no parameter stands for a bound value. lq_fault_place is the number of the
+ *   first value of this kind.
+ * - As lq_query_open and lq_fetch refuse the formula with its values in place. After LQ_BAD_QUERY
+ *   lq_fault_place is a byte of that formula, which lq_text copies. */
+lq_status lq_query_open_bound(lq *handle, const char *formula, size_t formula_size,
+                              const lq_options *options, lq_opening *out);
+lq_status lq_fetch_bound(lq *handle, const char *formula, size_t formula_size, lq_fetched *out);
 
 #ifdef __cplusplus
 }

@@ -56,7 +56,9 @@ static void the_names_of_statuses(void) {
                {LQ_MISMATCH, "Mismatch"},
                {LQ_MISUSE, "Misuse"},
                {LQ_EMPTY, "Empty"},
-               {LQ_ENDED, "Ended"}};
+               {LQ_ENDED, "Ended"},
+               {LQ_NO_VALUE, "NoValue"},
+               {LQ_UNUSED_VALUE, "UnusedValue"}};
     size_t known = 0;
     for (int status = 0; status < 1000; status++)
         known += lq_status_name((lq_status)status) != NULL;

@@ -1,6 +1,6 @@
 /* Each growth of memory that a call asks for, refused in turn. The call answers LQ_NO_MEMORY, leaves its `out`, and
    changes nothing: it then succeeds, and all that follows is answered as by a handle that was never refused; but a call
-   that takes pushes off does so all the same. lq_read and a subscription go without their rebuilt result instead.
+   that takes pushes or bound values off does so all the same. lq_read and a subscription go without their rebuilt result instead.
    Nothing is left once a handle is closed. The linker puts the calls below in place of malloc, realloc and free. */
 #include "acts.h"
 
@@ -151,7 +151,7 @@ static lq_status drop(lq *handle, text *to) {
     return status;
 }
 
-/* A push, which gives nothing. */
+/* A push or a value, which gives nothing. */
 #define PUSH(name, call) \
     static lq_status name(lq *handle, text *to) { \
         (void)to; \
@@ -183,6 +183,30 @@ static lq_status open_pushed(lq *handle, text *to) {
     lq_opening opening;
     lq_status status = lq_query_open_pushed(handle, &options, &opening);
     if (status == LQ_OK) say_result(to, handle, opening.result, opening.count);
+    return status;
+}
+
+PUSH(bind_text, lq_bind_text(handle, TEXT("[a-z]*b?c, a text of many bytes")))
+PUSH(bind_int64, lq_bind_int64(handle, INT64_MIN))
+PUSH(bind_uint64, lq_bind_uint64(handle, UINT64_MAX))
+
+static lq_status fetch_bound(lq *handle, text *to) {
+    lq_fetched fetched;
+    POISON(fetched);
+    lq_status status = lq_fetch_bound(handle, TEXT("size>$2&&(name!=$1||size<$3)"), &fetched);
+    if (status == LQ_OK) say_result(to, handle, fetched.result, fetched.count);
+    else LEFT(fetched);
+    return status;
+}
+
+static lq_status open_bound(lq *handle, text *to) {
+    lq_opening opening;
+    POISON(opening);
+    lq_status status = lq_query_open_bound(handle, TEXT("name<$1||name>=$1"), NULL, &opening);
+    if (status == LQ_OK) {
+        say_result(to, handle, opening.result, opening.count);
+        OK(lq_drop(handle, opening.slot));
+    } else LEFT(opening);
     return status;
 }
 
@@ -280,7 +304,8 @@ static step *const steps[] = {
     children,     path,         attr_named,  push_attr,    push_text,      push_ne,   push_attr,
     push_text,    push_contains, push_and,   push_attr,    push_int32,     push_gt,   push_or,
     push_not,     fetch_pushed, fetch_pushed, push_attr,   push_int64,     push_gt,   push_not,
-    open_pushed,  find_path,    fetch_and_take, fetch_beside, open_all,  create_late,    read_many, drop,
+    open_pushed,  bind_text,    bind_int64,  bind_uint64,  fetch_bound,    bind_text, open_bound,
+    find_path,    fetch_and_take, fetch_beside, open_all,  create_late,    read_many, drop,
     open_without_result, push_attr, push_uint32, push_uint64, push_and};
 
 enum {
@@ -298,16 +323,17 @@ static bool call(lq *handle, int script, size_t number, text *to, lq_status *sta
     return true;
 }
 
-/* Whether a call takes the pushes off, whatever it answers. */
-static bool takes_pushes(int script, size_t number) {
-    return script == 1 && number >= VALUES &&
-           (steps[number - VALUES] == fetch_pushed || steps[number - VALUES] == open_pushed);
+/* Whether a call takes the pushes or the values off, whatever it answers. */
+static bool takes_off(int script, size_t number) {
+    if (script == 0 || number < VALUES) return false;
+    step *const one = steps[number - VALUES];
+    return one == fetch_pushed || one == open_pushed || one == fetch_bound || one == open_bound;
 }
 
-/* Where a call is made again: at itself, or at the first of the pushes that it took off. */
+/* Where a call is made again: at itself, or at the first of the pushes or values that it took off. */
 static size_t from_where(int script, size_t number) {
-    if (!takes_pushes(script, number)) return number;
-    while (number > VALUES + 3 && !takes_pushes(script, number - 1)) number--;
+    if (!takes_off(script, number)) return number;
+    while (number > VALUES + 3 && !takes_off(script, number - 1)) number--;
     return number;
 }
 
@@ -318,8 +344,8 @@ static uint64_t lacking(size_t number) {
 
 /* Whether a call may lose the rebuilt result of its slot. */
 static bool loses_result(step *one) {
-    return one == open_pushed || one == open_all || one == open_without_result || one == read_many ||
-           one == drop;
+    return one == open_pushed || one == open_bound || one == open_all || one == open_without_result ||
+           one == read_many || one == drop;
 }
 
 /* Whether a call may go without memory: it does so without the rebuilt result of its slot. */

@@ -58,6 +58,12 @@ static void not_open(lq *it) {
     WANT(lq_clear_pushed(it), LQ_MISUSE);
     REFUSED(lq_query_open_pushed(it, NULL, &out.opening), LQ_MISUSE, out);
     REFUSED(lq_fetch_pushed(it, &out.fetched), LQ_MISUSE, out);
+    WANT(lq_bind_text(it, TEXT("a")), LQ_MISUSE);
+    WANT(lq_bind_int64(it, 1), LQ_MISUSE);
+    WANT(lq_bind_uint64(it, 1), LQ_MISUSE);
+    WANT(lq_clear_bound(it), LQ_MISUSE);
+    REFUSED(lq_query_open_bound(it, TEXT("a=b"), NULL, &out.opening), LQ_MISUSE, out);
+    REFUSED(lq_fetch_bound(it, TEXT("a=b"), &out.fetched), LQ_MISUSE, out);
     CHECK(lq_fault_place(it) == 0 && lq_ready(it) == 0 && lq_changes(it) == 0);
     CHECK(lq_text(it, room, sizeof room) == 0 && room[0] == 'x' && got == 7);
     lq_volume_close(it);
