@@ -1,7 +1,7 @@
-/* The calls of lq.h. Each tests what can be tested of its arguments, as the head of lq.h says, and then makes one proved
+/* The calls of lq.h. Each tests what can be tested of its arguments, as the head of lq.h says, then makes one proved
    call of lq_c, whose contract takes them as tested. What is here isn't proved: that a handle is open, that no pointer
-   is null, and what is passed in place of a null that is allowed. A handle's fields `result` and `pushes` are counts
-   that proved calls alone read and write. */
+   is null, what is passed in place of a null that is allowed, and what is told of slots that become ready. While a
+   handle is open its fields `result` and `pushes` are counts that proved calls alone read and write. */
 #include "proved.h"
 
 /* The most bytes of a line; a longer one is refused unread. */
@@ -13,15 +13,21 @@ static const char too_long[LINE_SIZE + 1];
 
 /* ---- tests of arguments ---- */
 
-/* The tag of an open handle. It has the handle's address in it, so a copy elsewhere isn't open. */
-static uint64_t tag_of(const lq *handle)
+/* The tags of a handle that is open, and of one that was closed. They have the handle's address in them, so a copy
+   elsewhere is neither, nor is memory that never had a handle. */
+static uint64_t open_tag(const lq *handle)
 {
     return UINT64_C(0x6c712d68616e646c) ^ (uint64_t)(uintptr_t)handle;
 }
 
+static uint64_t closed_tag(const lq *handle)
+{
+    return ~open_tag(handle);
+}
+
 static bool is_open(const lq *handle)
 {
-    return handle && handle->at && handle->tag == tag_of(handle);
+    return handle && handle->at && handle->tag == open_tag(handle);
 }
 
 /* The pointer that a proved call takes. It is never written through, so a const handle stays as it is. */
@@ -42,6 +48,23 @@ static bool is_text(const char **text, size_t *size, size_t most)
         *size = most + 1;
     }
     return true;
+}
+
+/* ---- slots that become ready ---- */
+
+/* The slots that are ready before a call that may make others ready, if the handle has something to call then. */
+static uint64_t ready_before(const lq *handle)
+{
+    return handle->ready ? lqp_ready(in(handle)) : 0;
+}
+
+/* Calls what the handle has for slots that became ready, and answers the status. This is the last that a call does,
+   since what is called here may close the handle. */
+static lq_status told(const lq *handle, uint64_t before, uint32_t status)
+{
+    uint64_t slots = handle->ready ? lqp_ready(in(handle)) & ~before : 0;
+    if (slots) handle->ready(handle->user, slots);
+    return status;
 }
 
 /* ---- the library, and handles ---- */
@@ -103,10 +126,9 @@ lq_status lq_volume_open_as(lq *handle, uint32_t version)
     served made;
     lq_status status = lqp_start(&made);
     if (status != LQ_OK) return status;
-    handle->at = made;
-    handle->tag = tag_of(handle);
-    handle->version = version;
-    handle->pushes = 0;
+    /* only one that was closed here goes on with its numbers of results */
+    uint64_t results = handle->tag == closed_tag(handle) ? handle->result : 0;
+    *handle = (lq){.at = made, .tag = open_tag(handle), .result = results, .version = version};
     return LQ_OK;
 }
 
@@ -114,9 +136,8 @@ void lq_volume_close(lq *handle)
 {
     if (!is_open(handle)) return;
     served held = handle->at;
-    handle->at = NULL;
-    handle->tag = 0;
-    handle->result++; /* a number that no result has, so that the last one of this volume is out of date too */
+    /* the next number, which no result has: so the last result of this volume is out of date too */
+    *handle = (lq){.tag = closed_tag(handle), .result = handle->result + 1};
     lqp_free(held);
 }
 
@@ -130,7 +151,8 @@ uint64_t lq_fault_place(const lq *handle)
 lq_status lq_answer(lq *handle, const char *line, size_t line_size, size_t *size)
 {
     if (!is_open(handle) || !size || !is_text(&line, &line_size, LINE_SIZE)) return LQ_MISUSE;
-    return lqp_answer(in(handle), line, line_size, size);
+    uint64_t before = ready_before(handle);
+    return told(handle, before, lqp_answer(in(handle), line, line_size, size));
 }
 
 size_t lq_text(const lq *handle, char *out, size_t room)
@@ -147,14 +169,16 @@ lq_status lq_create(lq *handle, uint64_t dir, const char *name, size_t name_size
 {
     lq_applied unwanted;
     if (!is_open(handle) || !is_text(&name, &name_size, LQ_NAME_SIZE)) return LQ_MISUSE;
-    return lqp_create(in(handle), dir, name, name_size, kind, size, time, out ? out : &unwanted);
+    uint64_t before = ready_before(handle);
+    return told(handle, before, lqp_create(in(handle), dir, name, name_size, kind, size, time, out ? out : &unwanted));
 }
 
 lq_status lq_remove(lq *handle, uint64_t node, lq_applied *out)
 {
     lq_applied unwanted;
     if (!is_open(handle)) return LQ_MISUSE;
-    return lqp_remove(in(handle), node, out ? out : &unwanted);
+    uint64_t before = ready_before(handle);
+    return told(handle, before, lqp_remove(in(handle), node, out ? out : &unwanted));
 }
 
 lq_status lq_move(lq *handle, uint64_t node, uint64_t dir, const char *name, size_t name_size, bool clobber,
@@ -162,14 +186,16 @@ lq_status lq_move(lq *handle, uint64_t node, uint64_t dir, const char *name, siz
 {
     lq_applied unwanted;
     if (!is_open(handle) || !is_text(&name, &name_size, LQ_NAME_SIZE)) return LQ_MISUSE;
-    return lqp_move(in(handle), node, dir, name, name_size, clobber, out ? out : &unwanted);
+    uint64_t before = ready_before(handle);
+    return told(handle, before, lqp_move(in(handle), node, dir, name, name_size, clobber, out ? out : &unwanted));
 }
 
 lq_status lq_write(lq *handle, uint64_t node, uint64_t size, int64_t time, lq_applied *out)
 {
     lq_applied unwanted;
     if (!is_open(handle)) return LQ_MISUSE;
-    return lqp_write(in(handle), node, size, time, out ? out : &unwanted);
+    uint64_t before = ready_before(handle);
+    return told(handle, before, lqp_write(in(handle), node, size, time, out ? out : &unwanted));
 }
 
 lq_status lq_set_text(lq *handle, uint64_t node, const char *attr, size_t attr_size, const char *text, size_t text_size,
@@ -178,42 +204,49 @@ lq_status lq_set_text(lq *handle, uint64_t node, const char *attr, size_t attr_s
     lq_applied unwanted;
     if (!is_open(handle) || !is_text(&attr, &attr_size, LQ_NAME_SIZE) || !is_text(&text, &text_size, LQ_TEXT_SIZE))
         return LQ_MISUSE;
-    return lqp_set_text(in(handle), node, attr, attr_size, text, text_size, out ? out : &unwanted);
+    uint64_t before = ready_before(handle);
+    return told(handle, before,
+                lqp_set_text(in(handle), node, attr, attr_size, text, text_size, out ? out : &unwanted));
 }
 
 lq_status lq_set_int32(lq *handle, uint64_t node, const char *attr, size_t attr_size, int32_t value, lq_applied *out)
 {
     lq_applied unwanted;
     if (!is_open(handle) || !is_text(&attr, &attr_size, LQ_NAME_SIZE)) return LQ_MISUSE;
-    return lqp_set_int32(in(handle), node, attr, attr_size, value, out ? out : &unwanted);
+    uint64_t before = ready_before(handle);
+    return told(handle, before, lqp_set_int32(in(handle), node, attr, attr_size, value, out ? out : &unwanted));
 }
 
 lq_status lq_set_int64(lq *handle, uint64_t node, const char *attr, size_t attr_size, int64_t value, lq_applied *out)
 {
     lq_applied unwanted;
     if (!is_open(handle) || !is_text(&attr, &attr_size, LQ_NAME_SIZE)) return LQ_MISUSE;
-    return lqp_set_int64(in(handle), node, attr, attr_size, value, out ? out : &unwanted);
+    uint64_t before = ready_before(handle);
+    return told(handle, before, lqp_set_int64(in(handle), node, attr, attr_size, value, out ? out : &unwanted));
 }
 
 lq_status lq_set_uint32(lq *handle, uint64_t node, const char *attr, size_t attr_size, uint32_t value, lq_applied *out)
 {
     lq_applied unwanted;
     if (!is_open(handle) || !is_text(&attr, &attr_size, LQ_NAME_SIZE)) return LQ_MISUSE;
-    return lqp_set_uint32(in(handle), node, attr, attr_size, value, out ? out : &unwanted);
+    uint64_t before = ready_before(handle);
+    return told(handle, before, lqp_set_uint32(in(handle), node, attr, attr_size, value, out ? out : &unwanted));
 }
 
 lq_status lq_set_uint64(lq *handle, uint64_t node, const char *attr, size_t attr_size, uint64_t value, lq_applied *out)
 {
     lq_applied unwanted;
     if (!is_open(handle) || !is_text(&attr, &attr_size, LQ_NAME_SIZE)) return LQ_MISUSE;
-    return lqp_set_uint64(in(handle), node, attr, attr_size, value, out ? out : &unwanted);
+    uint64_t before = ready_before(handle);
+    return told(handle, before, lqp_set_uint64(in(handle), node, attr, attr_size, value, out ? out : &unwanted));
 }
 
 lq_status lq_unset(lq *handle, uint64_t node, const char *attr, size_t attr_size, lq_applied *out)
 {
     lq_applied unwanted;
     if (!is_open(handle) || !is_text(&attr, &attr_size, LQ_NAME_SIZE)) return LQ_MISUSE;
-    return lqp_unset(in(handle), node, attr, attr_size, out ? out : &unwanted);
+    uint64_t before = ready_before(handle);
+    return told(handle, before, lqp_unset(in(handle), node, attr, attr_size, out ? out : &unwanted));
 }
 
 /* ---- results ---- */
@@ -248,6 +281,14 @@ uint64_t lq_ready(const lq *handle)
     return is_open(handle) ? lqp_ready(in(handle)) : 0;
 }
 
+lq_status lq_on_ready(lq *handle, lq_ready_fn call, void *user)
+{
+    if (!is_open(handle)) return LQ_MISUSE;
+    handle->ready = call;
+    handle->user = user;
+    return LQ_OK;
+}
+
 lq_status lq_read(lq *handle, uint64_t slot, lq_message *out)
 {
     if (!is_open(handle) || !out) return LQ_MISUSE;
@@ -263,14 +304,17 @@ lq_status lq_read_many(lq *handle, uint64_t slot, lq_message *out, size_t room, 
 
 lq_status lq_hang_up(lq *handle, uint64_t slot)
 {
-    return is_open(handle) ? (lq_status)lqp_hang_up(in(handle), slot) : LQ_MISUSE;
+    if (!is_open(handle)) return LQ_MISUSE;
+    uint64_t before = ready_before(handle);
+    return told(handle, before, lqp_hang_up(in(handle), slot));
 }
 
 lq_status lq_query_close(lq *handle, uint64_t slot, uint64_t *change)
 {
     uint64_t unwanted;
     if (!is_open(handle)) return LQ_MISUSE;
-    return lqp_close(in(handle), slot, change ? change : &unwanted);
+    uint64_t before = ready_before(handle);
+    return told(handle, before, lqp_close(in(handle), slot, change ? change : &unwanted));
 }
 
 lq_status lq_finish(lq *handle, uint64_t slot)

@@ -31,16 +31,21 @@
  * (LQ_INIT, closed, or a copy of an open one), for a null `out` where it doesn't say that null is
  * allowed, and for a text that is null with a size. Calls that return no status return 0 instead.
  *
+ * A handle without LQ_INIT. `lq volume;` has the bytes that its memory had before. It is answered
+ * as LQ_INIT is: calls answer LQ_MISUSE, lq_volume_close does nothing, lq_volume_open opens it. One
+ * case can't be told: the bytes are those of a handle that was opened at this address and never
+ * closed, as by a function that returned too early. That handle is open still, and is used. Tools
+ * such as valgrind report that memory without a value was read. So write LQ_INIT.
+ *
  * What a caller owes, and nothing tests:
  * - Each pointer points to memory of its type, aligned, that lives through the call and that no
  *   other argument of the call overlaps.
  * - Each size is the size of the memory at its pointer, where it is within the limits above.
- * - A handle is LQ_INIT before it is opened for the first time, and stays where it was opened: a
- *   copy of it elsewhere isn't open, and a copy that is put back in its place after lq_volume_close
- *   would be taken for an open one.
+ * - A handle stays where it was opened: a copy of it elsewhere isn't open, and a copy that is put
+ *   back in its place after lq_volume_close would be taken for an open one.
  * - A `bool` is 0 or 1.
- * - A handle is in one call at a time, on any thread, under a lock of yours. Handles know nothing
- *   of each other: two of them need no lock.
+ * - A handle is in one call at a time, on any thread, under a lock of yours; what lq_on_ready has
+ *   called may use it. Handles know nothing of each other: two of them need no lock.
  * - No call comes from a signal handler, or from the child of a fork of a process with threads.
  * - malloc, realloc and free belong together, and align as the C standard says, up to 16 bytes.
  * - The stack has room: 256 KiB is plenty.
@@ -123,24 +128,28 @@ typedef enum lq_status {
  * number. The text lives as long as the library. */
 const char *lq_status_name(lq_status status);
 
-/* A handle. Its fields belong to the library. `version` is the version of the header with which it
- * was opened. */
+/* What a handle calls once slots can be read (lq_on_ready). `slots` has their bits, as lq_ready. */
+typedef void (*lq_ready_fn)(void *user, uint64_t slots);
+
+/* A handle. Its fields belong to the library. `version` is the LQ_VERSION of its opening. */
 typedef struct lq {
     void *at;
     uint64_t tag;
     uint64_t result;
+    lq_ready_fn ready;
+    void *user;
     uint32_t version;
     uint32_t pushes;
 } lq;
 
 /* A handle that isn't open, and was never: it counts its results from 1. */
-#define LQ_INIT { 0, 0, 0, 0, 0 }
+#define LQ_INIT { 0, 0, 0, 0, 0, 0, 0 }
 
-/* Opens a handle over a volume with the root alone. `version` is LQ_VERSION, that of the header
- * with which the caller was compiled. Until 1.0 a minor version may change structs and statuses; so
- * a library opens no volume for a caller of another minor version, or of a later version than its
- * own. LQ_MISUSE: `version` is one of these, or the handle is null or open already. LQ_NO_MEMORY:
- * the handle stays as it was. */
+/* Opens a handle over a volume with the root alone. `version` is the LQ_VERSION with which the
+ * caller was compiled, and lq_volume_open passes it. Until 1.0 a minor version may change structs
+ * and statuses; so a library opens no volume for a caller of another minor version, or of a later
+ * version than its own. LQ_MISUSE: `version` is one of these, or the handle is null or open
+ * already. LQ_NO_MEMORY: the handle stays as it was. */
 lq_status lq_volume_open_as(lq *handle, uint32_t version);
 
 static inline lq_status lq_volume_open(lq *handle)
@@ -315,6 +324,16 @@ typedef struct lq_message {
 /* Which slots have a message or a mark to read: the bit `slot - 1` is set just where lq_read would
  * answer LQ_OK. It takes no memory. */
 uint64_t lq_ready(const lq *handle);
+
+/* Sets what the handle calls once slots can be read. A call that makes slots readable calls `call`
+ * last, once, with `user` and the bits of these slots. Changes, lq_hang_up, lq_query_close and
+ * lq_answer do so, and no other call. A slot that could be read before it isn't among the bits. So
+ * read a slot until lq_read doesn't answer LQ_OK, and look at lq_ready once after lq_on_ready.
+ * `call` runs on the thread of that call. It may use the handle, close it, and open it again; what
+ * it makes readable is told in a call inside it. An lq_answer or lq_path in it replaces the reply
+ * of an lq_answer around it. Null: nothing is called any more. lq_volume_close forgets `call`. It
+ * takes no memory. */
+lq_status lq_on_ready(lq *handle, lq_ready_fn call, void *user);
 
 /* Takes the oldest message of a slot, or the mark after the last one. LQ_NOT_OPEN: the slot is
  * free. LQ_EMPTY: nothing is there to read. LQ_ENDED: the mark was read. So a loop that reads while
@@ -518,8 +537,8 @@ lq_status lq_clear_bound(lq *handle);
  * it, so that it is no pattern, and after other operators as the plain text. Both calls take all
  * values off, also where they are refused, but for LQ_MISUSE. LQ_NO_MEMORY. Else they are refused
  * in this order:
- * - LQ_BAD_QUERY: the formula is above LQ_FORMULA_SIZE, or a quoted text in it has no end, or a `\`
- *   ends it. Then lq_text copies the empty text.
+ * - LQ_BAD_QUERY: the formula is above LQ_FORMULA_SIZE, a quoted text in it has no end, a `\` ends
+ *   it, or it has a `&` or `|` alone. Then lq_text copies the empty text.
  * - LQ_NO_VALUE: no value was bound for a parameter. lq_fault_place is the number of the leftmost
  *   parameter without a value.
  * - LQ_UNUSED_VALUE: no parameter stands for a bound value. lq_fault_place is the number of the

@@ -20,7 +20,8 @@ _Name = c_uint8 * 256
 
 class _Handle(Structure):
     _fields_ = [
-        ("at", ctypes.c_void_p), ("tag", c_uint64), ("result", c_uint64), ("version", c_uint32), ("pushes", c_uint32),
+        ("at", ctypes.c_void_p), ("tag", c_uint64), ("result", c_uint64), ("ready", ctypes.c_void_p),
+        ("user", ctypes.c_void_p), ("version", c_uint32), ("pushes", c_uint32),
     ]  # fmt: skip
 
 

@@ -1,5 +1,5 @@
-/* Misuse is answered: handles that aren't open, callers of other versions, null for an `out` or a text, sizes beyond
-   limits, too many pushes. */
+/* Misuse is answered: handles that aren't open or were never LQ_INIT, callers of other versions, null for an `out` or a
+   text, sizes beyond limits, too many pushes. */
 #include "check.h"
 
 /* A call of each kind on a handle that isn't open: it answers LQ_MISUSE, or 0, and writes nothing. */
@@ -64,6 +64,7 @@ static void not_open(lq *it) {
     WANT(lq_clear_bound(it), LQ_MISUSE);
     REFUSED(lq_query_open_bound(it, TEXT("a=b"), NULL, &out.opening), LQ_MISUSE, out);
     REFUSED(lq_fetch_bound(it, TEXT("a=b"), &out.fetched), LQ_MISUSE, out);
+    WANT(lq_on_ready(it, NULL, NULL), LQ_MISUSE);
     CHECK(lq_fault_place(it) == 0 && lq_ready(it) == 0 && lq_changes(it) == 0);
     CHECK(lq_text(it, room, sizeof room) == 0 && room[0] == 'x' && got == 7);
     lq_volume_close(it);
@@ -90,6 +91,41 @@ static void handles(void) {
     OK(lq_volume_open(&copy));
     CHECK(lq_changes(&copy) == 0);
     lq_volume_close(&copy);
+}
+
+/* Handles in memory that was filled with a byte, without LQ_INIT: they are answered as LQ_INIT is. */
+static void handles_without_init(void) {
+    static const int bytes[] = {0xa5, 0x00, 0xff};
+    for (size_t at = 0; at < sizeof bytes / sizeof *bytes; at++) {
+        lq it, as_it_was;
+        lq_opening opening;
+        lq_fetched fetched;
+        lq_row row;
+        size_t got;
+        memset(&it, bytes[at], sizeof it);
+        memset(&as_it_was, bytes[at], sizeof as_it_was);
+        not_open(&it);
+        WANT(lq_volume_open_as(&it, 0), LQ_MISUSE);
+        CHECK(memcmp(&it, &as_it_was, sizeof it) == 0);
+        OK(lq_volume_open(&it));
+        /* nothing is called once a slot is ready, results count from 1, and a whole stack can be pushed */
+        OK(lq_query_open(&it, TEXT("size>0"), NULL, &opening));
+        CHECK(opening.result == 1);
+        created(&it, LQ_ROOT, "a", LQ_FILE, 1);
+        CHECK(lq_ready(&it) == 1);
+        OK(lq_fetch(&it, TEXT("size>0"), &fetched));
+        CHECK(fetched.result == 2);
+        OK(lq_take(&it, fetched.result, &row, 1, &got));
+        CHECK(got == 1 && row.node == 2);
+        for (int number = 0; number < LQ_PUSHES; number++) OK(lq_push_int32(&it, number));
+        WANT(lq_push_int32(&it, 0), LQ_MISUSE);
+        lq_volume_close(&it);
+        not_open(&it);
+        OK(lq_volume_open(&it));
+        OK(lq_fetch(&it, TEXT("size>0"), &fetched));
+        CHECK(fetched.result > 2);
+        lq_volume_close(&it);
+    }
 }
 
 /* A volume is opened for callers of this minor version alone, and for none that is later than the library. */
@@ -260,6 +296,7 @@ static void pushes(void) {
 
 int main(void) {
     handles();
+    handles_without_init();
     versions();
     nulls();
     sizes();

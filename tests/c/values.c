@@ -223,6 +223,8 @@ static void refusals(void) {
     } rows[] = {{"name==\"$1", 0, LQ_BAD_QUERY, 9, ""},
                 {"size==$1&&name=='", 0, LQ_BAD_QUERY, 17, ""},
                 {"size==$2||name==a\\", 1, LQ_BAD_QUERY, 18, ""},
+                {"size==$1&name==a", 0, LQ_BAD_QUERY, 8, ""},
+                {"size==$1||name==a|\"", 1, LQ_BAD_QUERY, 17, ""},
                 {"size==$1", 0, LQ_NO_VALUE, 1, NULL},
                 {"size==$3&&size==$2||size==$1", 1, LQ_NO_VALUE, 3, NULL},
                 {"size==$1&&size==$256", 255, LQ_NO_VALUE, 256, NULL},
