@@ -12,9 +12,10 @@ from ._types import (
 
 _VERSION = 3000  # of the header whose structs stand below
 _ROOM = 64  # entries that are taken at a time
+_TEXT_SIZE = 4096
 _KINDS = FILE, FOLDER
 _END = 2  # of lq_what
-_EMPTY, _ENDED = 41, 42
+_BAD_QUERY, _EMPTY, _ENDED = 20, 41, 42
 _Name = c_uint8 * 256
 
 
@@ -114,6 +115,12 @@ _STATUS = {
     "lq_clear_pushed": [],
     "lq_query_open_pushed": [POINTER(_Options), POINTER(_Opening)],
     "lq_fetch_pushed": [POINTER(_Fetched)],
+    "lq_bind_text": _Text,
+    "lq_bind_int64": [c_int64],
+    "lq_bind_uint64": [c_uint64],
+    "lq_clear_bound": [],
+    "lq_query_open_bound": [*_Text, POINTER(_Options), POINTER(_Opening)],
+    "lq_fetch_bound": [*_Text, POINTER(_Fetched)],
 }
 _OTHERS = {
     "lq_version": (c_uint32, []),
@@ -123,6 +130,7 @@ _OTHERS = {
     "lq_text": (c_size_t, [POINTER(_Handle), ctypes.c_char_p, c_size_t]),
     "lq_ready": (c_uint64, [POINTER(_Handle)]),
     "lq_changes": (c_uint64, [POINTER(_Handle)]),
+    "lq_quote": (c_size_t, [*_Text, ctypes.c_char_p, c_size_t]),
 }
 
 _lq: Any = None
@@ -189,9 +197,13 @@ class Handle:
         """Makes a call, under the lock. Where it is refused, the exception says the name and what the caller said."""
         self._want(call(self._own(), *given), name, said)
 
-    def _want(self, status: int, name: str, said: Tuple[Any, ...]) -> None:
+    def _want(self, status: int, name: str, said: Tuple[Any, ...], has_values: bool = False) -> None:
         if status:
-            raise refusal(status, _lq.lq_status_name(status).decode(), _lq.lq_fault_place(self._at), name, said)
+            place, word = _lq.lq_fault_place(self._at), _lq.lq_status_name(status).decode()
+            # the formula with its values in place, where the fault is in it
+            size = _lq.lq_text(self._at, None, 0) if has_values and status == _BAD_QUERY else 0
+            bound = [self._copied(size).decode("utf-8")] if size else []
+            raise refusal(status, word, place, name, said, *bound)
 
     def _change(self, name: str, said: Tuple[Any, ...], call: Any, *given: Any) -> Applied:
         with self.lock:
@@ -301,16 +313,52 @@ class Handle:
             _lq.lq_clear_pushed(self._at)
             raise
 
-    def open(self, formula: Any, backlog: int, moved: Any) -> Tuple[int, int, List[Entry]]:
-        self._own()
-        it, how, said = _Opening(), _Options(backlog, bool(moved), True), (formula, backlog, moved)
+    def _bind(self, name: str, said: Tuple[Any, ...], values: Tuple[Any, ...]) -> None:
+        """Binds each value. Where one is refused none stays."""
+        _lq.lq_clear_bound(self._own())
+        try:
+            for value in values:
+                if isinstance(value, str):
+                    raw = encode("values", value)
+                    self._call(name, said, _lq.lq_bind_text, raw, len(raw))
+                    continue
+                number = whole("values", value, -(1 << 63), (1 << 64) - 1)
+                self._call(name, said, _lq.lq_bind_int64 if number < 1 << 63 else _lq.lq_bind_uint64, number)
+        except BaseException:
+            _lq.lq_clear_bound(self._at)
+            raise
+
+    def _ask(self, name: str, said: Tuple[Any, ...], formula: Any, values: Any, *given: Any) -> None:
+        """Opens a query, or fetches, by a formula, a formula and a tuple of values, or pushes."""
         raw = encode("formula", formula) if isinstance(formula, str) else b""
+        if values is not None and not (isinstance(values, tuple) and isinstance(formula, str)):
+            raise TypeError("values must be a tuple, beside a formula that is a str")
+        call = "lq_query_open" if name == "open" else "lq_fetch"
         with self.lock:
-            if isinstance(formula, str):
-                self._call("open", said, _lq.lq_query_open, raw, len(raw), byref(how), byref(it))
+            if not isinstance(formula, str):
+                self._push(name, said, formula)
+                self._call(name, said, getattr(_lq, f"{call}_pushed"), *given)
+            elif values is None:
+                self._call(name, said, getattr(_lq, call), raw, len(raw), *given)
             else:
-                self._push("open", said, formula)
-                self._call("open", said, _lq.lq_query_open_pushed, byref(how), byref(it))
+                self._bind(name, said, values)
+                status = getattr(_lq, f"{call}_bound")(self._own(), raw, len(raw), *given)
+                self._want(status, name, said, has_values=True)
+
+    @staticmethod
+    def quote(text: Any) -> str:
+        raw = encode("text", text)
+        literal = ctypes.create_string_buffer(2 * _TEXT_SIZE + 2)
+        size = _lq.lq_quote(raw, len(raw), literal, len(literal))
+        if size == 0:
+            raise ValueError(f"text must have at most {_TEXT_SIZE} bytes in UTF-8, not {len(raw)}")
+        return literal.raw[:size].decode("utf-8")
+
+    def open(self, formula: Any, backlog: int, moved: Any, *values: Any) -> Tuple[int, int, List[Entry]]:
+        self._own()
+        it, how, said = _Opening(), _Options(backlog, bool(moved), True), (formula, backlog, moved, *values)
+        with self.lock:
+            self._ask("open", said, formula, values[0] if values else None, byref(how), byref(it))
             try:
                 return it.slot, it.at, self._taken(it.count, it.result)
             except BaseException:
@@ -339,16 +387,11 @@ class Handle:
         with self.lock:
             return _lq.lq_ready(self._own())
 
-    def fetch(self, formula: Any) -> List[Entry]:
+    def fetch(self, formula: Any, *values: Any) -> List[Entry]:
         self._own()
-        it, said = _Fetched(), (formula,)
-        raw = encode("formula", formula) if isinstance(formula, str) else b""
+        it = _Fetched()
         with self.lock:
-            if isinstance(formula, str):
-                self._call("fetch", said, _lq.lq_fetch, raw, len(raw), byref(it))
-            else:
-                self._push("fetch", said, formula)
-                self._call("fetch", said, _lq.lq_fetch_pushed, byref(it))
+            self._ask("fetch", (formula, *values), formula, values[0] if values else None, byref(it))
             return self._taken(it.count, it.result)
 
     def find(self, name: Any, dir: Any) -> int:

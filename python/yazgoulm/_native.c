@@ -15,7 +15,8 @@
     X(move) X(write) X(set_text) X(set_int32) X(set_int64) X(set_uint32) X(set_uint64) X(unset) X(take) X(query_open) \
     X(ready) X(read) X(hang_up) X(query_close) X(finish) X(drop) X(fetch) X(find) X(find_path) X(entry) X(attr_at) \
     X(attr_named) X(children) X(path) X(changes) X(push_attr) X(push_text) X(push_int32) X(push_int64) X(push_uint32) \
-    X(push_uint64) X(push_op) X(clear_pushed) X(query_open_pushed) X(fetch_pushed)
+    X(push_uint64) X(push_op) X(clear_pushed) X(query_open_pushed) X(fetch_pushed) X(quote) X(bind_text) X(bind_int64) \
+    X(bind_uint64) X(clear_bound) X(query_open_bound) X(fetch_bound)
 
 /* What is taken of _arguments.py and _types.py. */
 #define ARGUMENTS(X) X(encode) X(encode_name) X(kind) X(natural) X(whole)
@@ -278,21 +279,30 @@ static const lq_status CLOSED = (lq_status)UINT32_MAX, RAISED = (lq_status)(UINT
         answered; \
     })
 
-/* Raises what a status says of a call, with what the caller gave. `place` is that of a fault in a query. */
-static PyObject *refused_at(Handle *self, lq_status status, uint64_t place, const char *name, PyObject *const *args,
-                            Py_ssize_t count) {
+/* Raises what a status says of a call, with what the caller gave. `place` is that of a fault in a query. `bound`, which
+   it takes, is the formula with its values that the place is in, or null. */
+static PyObject *refused_in(Handle *self, lq_status status, uint64_t place, PyObject *bound, const char *name,
+                            PyObject *const *args, Py_ssize_t count) {
     const Own *own = self->own;
     if (status == RAISED) return NULL;
     if (status == CLOSED) return PyErr_SetString(PyExc_ValueError, "the volume is closed"), NULL;
     const char *word = own->status_name(status);
     PyObject *said = PyTuple_New(count);
-    if (!said) return NULL;
+    if (!said) {
+        Py_XDECREF(bound);
+        return NULL;
+    }
     for (Py_ssize_t at = 0; at < count; at++) PyTuple_SET_ITEM(said, at, same(args[at]));
-    PyObject *why = PyObject_CallFunction(own->py_refusal, "isKsN", (int)status, word ? word : "",
-                                          (unsigned long long)place, name, said);
+    PyObject *why = PyObject_CallFunction(own->py_refusal, bound ? "isKsNN" : "isKsN", (int)status, word ? word : "",
+                                          (unsigned long long)place, name, said, bound);
     if (why) PyErr_SetObject((PyObject *)Py_TYPE(why), why);
     Py_XDECREF(why);
     return NULL;
+}
+
+static PyObject *refused_at(Handle *self, lq_status status, uint64_t place, const char *name, PyObject *const *args,
+                            Py_ssize_t count) {
+    return refused_in(self, status, place, NULL, name, args, count);
 }
 
 #define REFUSED(name) refused_at(self, status, 0, name, args, count)
@@ -300,10 +310,15 @@ static PyObject *refused_at(Handle *self, lq_status status, uint64_t place, cons
 /* The name in the type's dictionary of what owns its Own. */
 static const char OWN[] = "_own";
 
-static PyObject *Handle_new(PyTypeObject *type, PyObject *Py_UNUSED(args), PyObject *Py_UNUSED(named)) {
-    PyObject *owner = PyObject_GetAttrString((PyObject *)type, OWN);
+static const Own *own_of(PyObject *type) {
+    PyObject *owner = PyObject_GetAttrString(type, OWN);
     const Own *own = owner ? PyCapsule_GetPointer(owner, OWN) : NULL;
     Py_XDECREF(owner); /* the type has it */
+    return own;
+}
+
+static PyObject *Handle_new(PyTypeObject *type, PyObject *Py_UNUSED(args), PyObject *Py_UNUSED(named)) {
+    const Own *own = own_of((PyObject *)type);
     Handle *self = own ? (Handle *)type->tp_alloc(type, 0) : NULL;
     if (!self) return NULL;
     self->own = own;
@@ -630,29 +645,122 @@ static int take_formula(const Own *own, PyObject *given, text_given *out) {
     return -1;
 }
 
-METHOD(fetch) {
-    TAKES(1);
-    lq_fetched out;
-    text_given formula;
-    lq_status status = CLOSED;
-    uint64_t place = 0;
-    PyObject *entries = NULL;
-    if (take_formula(own, args[0], &formula)) return NULL;
-    enter(self);
-    if (self->is_open && formula.at) {
-        status = own->fetch(&self->handle, TEXT(formula), &out);
-        place = own->fault_place(&self->handle);
-    } else if (self->is_open) {
-        status = push_all(self, args[0], &place);
-        if (status == LQ_OK) {
-            status = own->fetch_pushed(&self->handle, &out);
-            place = own->fault_place(&self->handle);
-        }
+/* Binds one value, which the library may refuse. RAISED: it is none. */
+static lq_status bind(Handle *self, PyObject *value) {
+    const Own *own = self->own;
+    lq *handle = &self->handle;
+    if (PyUnicode_Check(value)) {
+        text_given text;
+        if (take_text(own->py_encode, "values", value, &text)) return RAISED;
+        lq_status status = own->bind_text(handle, TEXT(text));
+        leave_text(&text);
+        return status;
     }
+    PyObject *number = PyObject_CallFunction(own->py_whole, "sOLK", "values", value, (long long)INT64_MIN,
+                                             (unsigned long long)UINT64_MAX);
+    if (!number) return RAISED;
+    int is_over;
+    int64_t whole = PyLong_AsLongLongAndOverflow(number, &is_over);
+    lq_status status = is_over ? own->bind_uint64(handle, PyLong_AsUnsignedLongLong(number))
+                               : own->bind_int64(handle, whole);
+    Py_DECREF(number);
+    return status;
+}
+
+/* Binds each value of a tuple, under the lock. Where one is refused none stays. */
+static lq_status bind_all(Handle *self, PyObject *values) {
+    const Own *own = self->own;
+    lq_status status = LQ_OK;
+    own->clear_bound(&self->handle);
+    for (Py_ssize_t at = 0; status == LQ_OK && at < PyTuple_GET_SIZE(values); at++)
+        status = bind(self, PyTuple_GET_ITEM(values, at));
+    if (status != LQ_OK) own->clear_bound(&self->handle);
+    return status;
+}
+
+/* What a query is asked by: a formula, with a tuple of values or without, or pushes where `formula` is no text. */
+typedef struct asked {
+    PyObject *given, *values;
+    text_given formula;
+} asked;
+
+/* Takes it. -1: it is none, with an exception. */
+static int take_asked(const Own *own, PyObject *given, PyObject *values, asked *out) {
+    *out = (asked){given, values == Py_None ? NULL : values, {NULL, 0, NULL}};
+    if (take_formula(own, given, &out->formula)) return -1;
+    if (!out->values || (PyTuple_Check(values) && out->formula.at)) return 0;
+    PyErr_SetString(PyExc_TypeError, "values must be a tuple, beside a formula that is a str");
+    leave_text(&out->formula);
+    return -1;
+}
+
+/* The formula with its values in place, if the place of its fault is one of it. */
+static PyObject *bound_formula(Handle *self) {
+    const Own *own = self->own;
+    size_t size = own->text(&self->handle, NULL, 0);
+    char *room = size ? PyMem_Malloc(size) : NULL;
+    if (!room) return NULL;
+    own->text(&self->handle, room, size);
+    PyObject *made = text(room, size);
+    PyMem_Free(room);
+    if (!made) PyErr_Clear();
+    return made;
+}
+
+/* Opens a query, or fetches where there are no options, under the lock. `place` is that of a fault, and `bound`
+   as refused_in takes it. */
+static lq_status ask(Handle *self, const asked *it, const lq_options *options, lq_opening *out, uint64_t *place,
+                     PyObject **bound) {
+    const Own *own = self->own;
+    lq *handle = &self->handle;
+    lq_fetched fetched = {0, 0, 0};
+    bool is_formula = it->formula.at;
+    *place = 0;
+    *bound = NULL;
+    if (!self->is_open) return CLOSED;
+    lq_status status = !is_formula ? push_all(self, it->given, place) : it->values ? bind_all(self, it->values) : LQ_OK;
+    if (status != LQ_OK) return status;
+    if (options && !is_formula) status = own->query_open_pushed(handle, options, out);
+    else if (options && it->values) status = own->query_open_bound(handle, TEXT(it->formula), options, out);
+    else if (options) status = own->query_open(handle, TEXT(it->formula), options, out);
+    else {
+        if (!is_formula) status = own->fetch_pushed(handle, &fetched);
+        else if (it->values) status = own->fetch_bound(handle, TEXT(it->formula), &fetched);
+        else status = own->fetch(handle, TEXT(it->formula), &fetched);
+        out->count = fetched.count;
+        out->result = fetched.result;
+    }
+    *place = own->fault_place(handle);
+    if (status == LQ_BAD_QUERY && it->values) *bound = bound_formula(self);
+    return status;
+}
+
+METHOD(fetch) {
+    TAKES(count == 2 ? 2 : 1);
+    lq_opening out;
+    asked it;
+    uint64_t place;
+    PyObject *bound, *entries = NULL;
+    if (take_asked(own, args[0], count > 1 ? args[1] : Py_None, &it)) return NULL;
+    enter(self);
+    lq_status status = ask(self, &it, NULL, &out, &place, &bound);
     if (status == LQ_OK) entries = taken(self, out.count, out.result);
     leave(self);
-    leave_text(&formula);
-    return status == LQ_OK ? entries : refused_at(self, status, place, "fetch", args, count);
+    leave_text(&it.formula);
+    return status == LQ_OK ? entries : refused_in(self, status, place, bound, "fetch", args, count);
+}
+
+/* A text as a literal of a formula. */
+static PyObject *Handle_quote(PyObject *type, PyObject *given) {
+    char literal[2 * LQ_TEXT_SIZE + 2];
+    const Own *own = own_of(type);
+    text_given it;
+    if (!own || take_text(own->py_encode, "text", given, &it)) return NULL;
+    size_t size = own->quote(TEXT(it), literal, sizeof literal);
+    if (size == 0)
+        PyErr_Format(PyExc_ValueError, "text must have at most %d bytes in UTF-8, not %zd", LQ_TEXT_SIZE, it.size);
+    leave_text(&it);
+    return size == 0 ? NULL : text(literal, size);
 }
 
 METHOD(children) {
@@ -737,35 +845,25 @@ METHOD(attribute) {
 /* ---- live queries ---- */
 
 METHOD(open) {
-    TAKES(3);
+    TAKES(count == 4 ? 4 : 3);
     lq_options options = LQ_OPTIONS_INIT;
     lq_opening out;
-    text_given formula;
-    lq_status status = CLOSED;
-    uint64_t place = 0;
-    PyObject *entries = NULL;
+    asked it;
+    uint64_t place;
+    PyObject *bound, *entries = NULL;
     int moved = PyObject_IsTrue(args[2]);
     if (moved < 0 || take_natural(own, "backlog", args[1], &options.backlog) ||
-        take_formula(own, args[0], &formula))
+        take_asked(own, args[0], count > 3 ? args[3] : Py_None, &it))
         return NULL;
     options.moved = moved;
     options.no_result = true; /* a Query keeps rows of its own */
     enter(self);
-    if (self->is_open && formula.at) {
-        status = own->query_open(&self->handle, TEXT(formula), &options, &out);
-        place = own->fault_place(&self->handle);
-    } else if (self->is_open) {
-        status = push_all(self, args[0], &place);
-        if (status == LQ_OK) {
-            status = own->query_open_pushed(&self->handle, &options, &out);
-            place = own->fault_place(&self->handle);
-        }
-    }
+    lq_status status = ask(self, &it, &options, &out, &place, &bound);
     if (status == LQ_OK) entries = taken(self, out.count, out.result);
     if (status == LQ_OK && !entries) own->drop(&self->handle, out.slot);
     leave(self);
-    leave_text(&formula);
-    if (status != LQ_OK) return refused_at(self, status, place, "open", args, count);
+    leave_text(&it.formula);
+    if (status != LQ_OK) return refused_in(self, status, place, bound, "open", args, count);
     if (!entries) return NULL;
     return Py_BuildValue("KKN", (unsigned long long)out.slot, (unsigned long long)out.at, entries);
 }
@@ -925,6 +1023,7 @@ static PyMethodDef handle_methods[] = {
     {"free", (PyCFunction)Handle_free, METH_NOARGS, NULL},
     {"is_open", (PyCFunction)Handle_is_open, METH_NOARGS, NULL},
     {"release", (PyCFunction)Handle_release, METH_NOARGS, NULL},
+    {"quote", Handle_quote, METH_O | METH_CLASS, NULL},
     {"__enter__", (PyCFunction)Handle_enter, METH_NOARGS, NULL},
     {"__exit__", (PyCFunction)(void (*)(void))Handle_exit, METH_FASTCALL, NULL},
     FAST(acquire) FAST(create) FAST(remove) FAST(move) FAST(write) FAST(set) FAST(unset) FAST(answer) FAST(path)
