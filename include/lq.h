@@ -61,6 +61,8 @@
 extern "C" {
 #endif
 
+/* ---- versions, limits, statuses and handles ---- */
+
 /* The version of this header: a million for each major version, a thousand for each minor one. */
 #define LQ_VERSION 3000
 #define LQ_VERSION_TEXT "0.3.0"
@@ -152,6 +154,7 @@ typedef struct lq {
  * already. LQ_NO_MEMORY: the handle stays as it was. */
 lq_status lq_volume_open_as(lq *handle, uint32_t version);
 
+/* Opens a handle for a caller of this header. */
 static inline lq_status lq_volume_open(lq *handle)
 {
     return lq_volume_open_as(handle, LQ_VERSION);
@@ -186,6 +189,7 @@ size_t lq_text(const lq *handle, char *out, size_t room);
 
 /* ---- changes ---- */
 
+/* What an entry is. LQ_GONE stands for a node that was removed, in a result that has it still. */
 typedef enum lq_kind { LQ_FILE = 0, LQ_FOLDER = 1, LQ_GONE = 2 } lq_kind;
 
 /* The effect of a change: its number, and the node that it created or named. Each call that
@@ -471,20 +475,6 @@ uint64_t lq_changes(const lq *handle);
 
 /* ---- a query by pushes, in postfix order as BQuery's ---- */
 
-/* Pushes an attribute's name, a value, or an operator, which takes what it needs from the top: a
- * comparison a value and the attribute below it, LQ_AND and LQ_OR two predicates, LQ_NOT one.
- * LQ_BAD_QUERY: the push doesn't fit (a name of no attribute, a text above LQ_TEXT_SIZE, items that
- * are missing, a text that is no pattern for LQ_EQ and LQ_NE, a limit of formulas); the stack stays
- * as it is, and lq_fault_place is the number of pushes accepted before. LQ_MISUSE: LQ_PUSHES were
- * accepted since the stack was new. LQ_BAD_LINE: no operator has this number. LQ_NO_MEMORY: the
- * stack stays as it is. */
-lq_status lq_push_attr(lq *handle, const char *attr, size_t attr_size);
-lq_status lq_push_text(lq *handle, const char *text, size_t text_size);
-lq_status lq_push_int32(lq *handle, int32_t value);
-lq_status lq_push_int64(lq *handle, int64_t value);
-lq_status lq_push_uint32(lq *handle, uint32_t value);
-lq_status lq_push_uint64(lq *handle, uint64_t value);
-
 /* The operators. */
 typedef enum lq_operator {
     LQ_EQ = 1,
@@ -501,6 +491,19 @@ typedef enum lq_operator {
     LQ_NOT = 12
 } lq_operator;
 
+/* Pushes an attribute's name, a value, or an operator, which takes what it needs from the top: a
+ * comparison a value and the attribute below it, LQ_AND and LQ_OR two predicates, LQ_NOT one.
+ * LQ_BAD_QUERY: the push doesn't fit (a name of no attribute, a text above LQ_TEXT_SIZE, items that
+ * are missing, a text that is no pattern for LQ_EQ and LQ_NE, a limit of formulas); the stack stays
+ * as it is, and lq_fault_place is the number of pushes accepted before. LQ_MISUSE: LQ_PUSHES were
+ * accepted since the stack was new. LQ_BAD_LINE: no operator has this number. LQ_NO_MEMORY: the
+ * stack stays as it is. */
+lq_status lq_push_attr(lq *handle, const char *attr, size_t attr_size);
+lq_status lq_push_text(lq *handle, const char *text, size_t text_size);
+lq_status lq_push_int32(lq *handle, int32_t value);
+lq_status lq_push_int64(lq *handle, int64_t value);
+lq_status lq_push_uint32(lq *handle, uint32_t value);
+lq_status lq_push_uint64(lq *handle, uint64_t value);
 lq_status lq_push_op(lq *handle, uint32_t op);
 
 /* Empties the stack. */
