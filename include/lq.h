@@ -14,22 +14,23 @@
  * Texts. A text that is given is a pointer and its size in bytes; it is UTF-8, and needs no NUL.
  * Null with size 0 is the empty text. LQ_TEXT gives a literal and its size. A text that a call
  * writes has its size beside it and a NUL after it, which doesn't count; a value may have NULs
- * inside. Sizes are tested before a text is read: a name above LQ_NAME_SIZE, a value above
- * LQ_TEXT_SIZE, a formula above LQ_FORMULA_SIZE and a path above LQ_PATH_SIZE are refused by their
- * sizes alone, as if they were UTF-8.
+ * inside. Sizes are tested before a text is read. A name above LQ_NAME_SIZE, a value above
+ * LQ_TEXT_SIZE, a formula above LQ_FORMULA_SIZE and a path above LQ_PATH_SIZE are refused unread,
+ * as if they were UTF-8.
  *
  * Statuses. A call that can be refused answers a status: LQ_OK, or why it was refused. A refused
  * call leaves its `out` as it was, and doesn't do its act. Two things may happen all the same, as
  * in a script: a query that was asked to hang up ends, and waiting messages move up. The first
- * fault that fits is answered, in this order: LQ_MISUSE; LQ_NOT_UTF8; LQ_BAD_LINE for a number that
- * names no kind or operator; LQ_BAD_NAME; LQ_TOO_LONG for the text of a value; LQ_BAD_QUERY; then
- * those of the act itself, as listed at each call. A call that says so may answer LQ_NO_MEMORY in
- * place of LQ_OK, or before any of those refusals but LQ_MISUSE is found; then its act isn't done
- * either. lq_answer is the one exception, and says so.
+ * fault that fits is answered. LQ_MISUSE comes first, then LQ_NOT_UTF8, and LQ_BAD_LINE for a
+ * number that names no kind or operator. Then come LQ_BAD_NAME, LQ_TOO_LONG for the text of a
+ * value, and LQ_BAD_QUERY. Those of the act itself come last, as each call lists them. A call that
+ * says so may answer LQ_NO_MEMORY in place of LQ_OK, or before any of those refusals but LQ_MISUSE
+ * is found; then its act isn't done either. lq_answer is the one exception, and says so.
  *
- * Misuse. Each call but lq_volume_close answers LQ_MISUSE for a handle that is null or not open
- * (LQ_INIT, closed, or a copy of an open one), for a null `out` where it doesn't say that null is
- * allowed, and for a text that is null with a size. Calls that return no status return 0 instead.
+ * Misuse. Each call but lq_volume_close answers LQ_MISUSE for a handle that is null or not open:
+ * LQ_INIT, closed, or a copy of an open one. So it does for a null `out`, unless it says that null
+ * is allowed, and for a text that is null with a size. Calls that return no status return 0
+ * instead.
  *
  * A handle without LQ_INIT. `lq volume;` has the bytes that its memory had before. It is answered
  * as LQ_INIT is: calls answer LQ_MISUSE, lq_volume_close does nothing, lq_volume_open opens it. One
@@ -164,22 +165,22 @@ static inline lq_status lq_volume_open(lq *handle)
  * open, also to a copy of one that was closed. */
 void lq_volume_close(lq *handle);
 
-/* The place of the last fault: after a call that answered LQ_BAD_QUERY, the byte of the formula
- * where it has its leftmost fault, counted from 0, or 4096 for one of more bytes; for a call with
- * pushed items, the number of pushes that were accepted since the stack was new; after LQ_NO_VALUE
- * and LQ_UNUSED_VALUE, the number of the value, counted from 1. 0 where no call was refused in this
+/* The place of the last fault. After LQ_BAD_QUERY it is the byte of the formula where it has its
+ * leftmost fault, counted from 0, or 4096 for a formula of more bytes. For a call with pushed items
+ * it is the number of pushes that were accepted since the stack was new. After LQ_NO_VALUE and
+ * LQ_UNUSED_VALUE it is the number of the value, counted from 1. 0: no call was refused in this
  * way. */
 uint64_t lq_fault_place(const lq *handle);
 
 /* ---- a script's lines ---- */
 
 /* Answers one line of a script, without its LF. The reply, JSON with LF, has the bytes that `lq
- * run` writes for the line, and the handle is as a script is after it: a line and the calls below
+ * run` writes for the line, and the handle is as a script is after it. A line and the calls below
  * act on the same volume and slots. `*size` is the size of the reply, which lq_text copies until
  * another call that writes such a text; 0 for an empty line, which has none. A refused line is
  * answered with LQ_OK, and says so in its reply. LQ_NO_MEMORY: there is no reply, and nothing is
- * said of whether the line was carried out; a message that it read is lost, but lq_result has it,
- * or the slot is left without a rebuilt result. */
+ * said of whether the line was carried out. A message that it read is lost; lq_result has it, or
+ * the slot is left without a rebuilt result. */
 lq_status lq_answer(lq *handle, const char *line, size_t line_size, size_t *size);
 
 /* Copies the text of the last lq_answer or lq_path, or of a formula with its values
@@ -304,8 +305,8 @@ typedef enum lq_op { LQ_ENTRY_CREATED = 1, LQ_ENTRY_REMOVED = 2, LQ_ENTRY_MOVED 
 typedef enum lq_cause { LQ_CLOSED = 1, LQ_HUNG_UP = 2, LQ_OVERRUN = 3 } lq_cause;
 
 /* What a read gave. `what` is an lq_what, `op` an lq_op and `cause` an lq_cause. `seq` counts a
- * query's messages, and then the mark, from 1; `change` is the change that made the message, and at
- * the mark the last one that the messages cover; `last` is true at the final message of a change.
+ * query's messages, and then the mark, from 1. `change` is the change that made the message, and at
+ * the mark the last one that the messages cover. `last` is true at the final message of a change.
  * `dir`, `name` and `node` are the entry's, after the change; `from_dir` and `from_name` are the
  * place that it moved from. A field that `what` and `op` give no meaning is 0, and its name is the
  * empty text. */
@@ -369,10 +370,10 @@ lq_status lq_finish(lq *handle, uint64_t slot);
  * slot. LQ_NOT_OPEN: the slot is free. */
 lq_status lq_drop(lq *handle, uint64_t slot);
 
-/* The result of a slot, rebuilt from its opening and the messages that were read from it: the
- * change of the latest message, how many entries lq_take gives, by rising node, whether that
- * message was the last of its change, so that this is the query's result then, and the number of
- * this result. */
+/* The result of a slot, rebuilt from its opening and the messages that were read from it. `change`
+ * is that of the latest message. `settled` is true if that message was the last of its change, so
+ * that this is the query's result then. `count` is how many entries lq_take gives, by rising node,
+ * and `result` the number of this result. */
 typedef struct lq_rebuilt {
     uint64_t change;
     size_t count;
@@ -403,7 +404,7 @@ lq_status lq_find(const lq *handle, uint64_t dir, const char *name, size_t name_
                   uint64_t *node);
 
 /* The node at the end of a path from a folder: names with one `/` or more between them, before them
- * or after them; a path without a name is the folder itself, and isn't refused. LQ_BAD_NAME: it is
+ * or after them. A path without a name is the folder itself, and isn't refused. LQ_BAD_NAME: it is
  * above LQ_PATH_SIZE. Else it is refused as lq_find refuses the first of its names that doesn't
  * lead on. */
 lq_status lq_find_path(const lq *handle, uint64_t dir, const char *path, size_t path_size,
@@ -493,11 +494,11 @@ typedef enum lq_operator {
 
 /* Pushes an attribute's name, a value, or an operator, which takes what it needs from the top: a
  * comparison a value and the attribute below it, LQ_AND and LQ_OR two predicates, LQ_NOT one.
- * LQ_BAD_QUERY: the push doesn't fit (a name of no attribute, a text above LQ_TEXT_SIZE, items that
- * are missing, a text that is no pattern for LQ_EQ and LQ_NE, a limit of formulas); the stack stays
- * as it is, and lq_fault_place is the number of pushes accepted before. LQ_MISUSE: LQ_PUSHES were
- * accepted since the stack was new. LQ_BAD_LINE: no operator has this number. LQ_NO_MEMORY: the
- * stack stays as it is. */
+ * LQ_BAD_QUERY: the push doesn't fit. It is a name of no attribute, a text above LQ_TEXT_SIZE,
+ * items are missing, a text is no pattern for LQ_EQ and LQ_NE, or a limit of formulas is met. The
+ * stack stays as it is, and lq_fault_place is the number of pushes accepted before. LQ_MISUSE:
+ * LQ_PUSHES were accepted since the stack was new. LQ_BAD_LINE: no operator has this number.
+ * LQ_NO_MEMORY: the stack stays as it is. */
 lq_status lq_push_attr(lq *handle, const char *attr, size_t attr_size);
 lq_status lq_push_text(lq *handle, const char *text, size_t text_size);
 lq_status lq_push_int32(lq *handle, int32_t value);
@@ -536,10 +537,10 @@ lq_status lq_clear_bound(lq *handle);
 
 /* lq_query_open and lq_fetch of a formula with the bound values in place of its parameters. A
  * parameter is a literal that is one of `$1` to `$256`, without quotes and `\`. A bound number
- * takes its place in decimal, a bound text between `"`: after `==`, `=` and `!=` as lq_quote writes
- * it, so that it is no pattern, and after other operators as the plain text. Both calls take all
- * values off, also where they are refused, but for LQ_MISUSE. LQ_NO_MEMORY. Else they are refused
- * in this order:
+ * takes its place in decimal, a bound text between `"`. After `==`, `=` and `!=` the text is
+ * written as by lq_quote, so that it is no pattern. After other operators it is plain. Both calls
+ * take all values off, also where they are refused, but for LQ_MISUSE. LQ_NO_MEMORY. Else they are
+ * refused in this order:
  * - LQ_BAD_QUERY: the formula is above LQ_FORMULA_SIZE, a quoted text in it has no end, a `\` ends
  *   it, or it has a `&` or `|` alone. Then lq_text copies the empty text.
  * - LQ_NO_VALUE: no value was bound for a parameter. lq_fault_place is the number of the leftmost
