@@ -174,11 +174,11 @@ uint64_t lq_fault_place(const lq *handle);
 
 /* ---- a script's lines ---- */
 
-/* Answers one line of a script, without its LF. The reply, JSON with LF, has the bytes that `lq
- * run` writes for the line, and the handle is as a script is after it. A line and the calls below
- * act on the same volume and slots. `*size` is the size of the reply, which lq_text copies until
- * another call that writes such a text; 0 for an empty line, which has none. A refused line is
- * answered with LQ_OK, and says so in its reply. LQ_NO_MEMORY: there is no reply, and nothing is
+/* Answers one line of a script, without its LF. The reply, JSON with LF, has the bytes that
+ * `lq run` writes for the line, and the handle is as a script is after it. A line and the calls
+ * below act on the same volume and slots. `*size` is the size of the reply, which lq_text copies
+ * until another call that writes such a text; 0 for an empty line, which has none. A refused line
+ * is answered with LQ_OK, and says so in its reply. LQ_NO_MEMORY: there is no reply, and nothing is
  * said of whether the line was carried out. A message that it read is lost; lq_result has it, or
  * the slot is left without a rebuilt result. */
 lq_status lq_answer(lq *handle, const char *line, size_t line_size, size_t *size);
