@@ -12,19 +12,19 @@ The calls go by an extension in C, where there is one for this Python (`make lib
 compiler), or else by ctypes, at some eight times the cost. `backend` says which, and YAZGOULM_BACKEND in the
 environment chooses one. YAZGOULM_LIBRARY names the shared library. Without it the module looks beside itself,
 where a wheel, a clone and `make install` have it, and then asks the system."""
-from ._arguments import to_bytes, to_name
 from ._library import VERSION as __version__
 from ._library import backend
+from ._names import to_bytes, to_name
 from ._types import (
-    B_ENTRY_CREATED, B_ENTRY_MOVED, B_ENTRY_REMOVED, FILE, FOLDER, ROOT, Applied, Attr, Attribute, BadQuery, Cause,
-    Difference, Entry, Error, Exists, Formula, Info, Kind, Mark, Message, NoMemory, NotEmpty, NotFolder, NotFound, Op,
-    Opcode, Overrun, Place, Refused, Result, Type,
+    B_ENTRY_CREATED, B_ENTRY_MOVED, B_ENTRY_REMOVED, FILE, FOLDER, ROOT, Applied, Attr, Attribute, BadName, BadQuery,
+    Cause, Difference, Entry, Error, Exists, Formula, Info, Kind, Mark, Message, NoMemory, NotEmpty, NotFolder, NotFound,
+    Op, Opcode, Overrun, Place, Refused, Result, Type,
 )  # fmt: skip
 from ._volume import Query, Row, Rows, Volume
 
 __all__ = [
     "B_ENTRY_CREATED", "B_ENTRY_MOVED", "B_ENTRY_REMOVED", "FILE", "FOLDER", "ROOT", "Applied", "Attr", "Attribute",
-    "BadQuery", "Cause", "Difference", "Entry", "Error", "Exists", "Formula", "Info", "Kind", "Mark", "Message",
-    "NoMemory", "NotEmpty", "NotFolder", "NotFound", "Op", "Opcode", "Overrun", "Place", "Query", "Refused", "Result",
-    "Row", "Rows", "Type", "Volume", "__version__", "backend", "to_bytes", "to_name",
+    "BadName", "BadQuery", "Cause", "Difference", "Entry", "Error", "Exists", "Formula", "Info", "Kind", "Mark",
+    "Message", "NoMemory", "NotEmpty", "NotFolder", "NotFound", "Op", "Opcode", "Overrun", "Place", "Query", "Refused",
+    "Result", "Row", "Rows", "Type", "Volume", "__version__", "backend", "to_bytes", "to_name",
 ]  # fmt: skip

@@ -5,7 +5,7 @@ from ctypes import (
 )  # fmt: skip
 from typing import Any, Dict, List, Optional, Tuple, Union
 
-from ._arguments import encode, encode_name, kind, natural, whole
+from ._arguments import encode, encode_name, is_whole, kind, natural, no_value, whole
 from ._types import (
     CAUSES, FILE, FOLDER, TYPES, Applied, Attr, Attribute, Entry, Info, Mark, Message, Op, Opcode, refusal,
 )  # fmt: skip
@@ -235,11 +235,11 @@ class Handle:
         self._own()
         raw, said = encode_name("attr", attr), (node, attr, value, type)
         head = natural("node", node), raw, len(raw)
-        if isinstance(value, str):
-            if type not in (None, "CSTR"):
-                raise ValueError(f"type is {type!r}, and value is a text")
+        if isinstance(value, str) and type in (None, "CSTR"):
             text = encode("value", value)
             return self._change("set", said, _lq.lq_set_text, *head, text, len(text))
+        if isinstance(value, str) or not is_whole(value):
+            no_value(value, type)
         if type in (None, "LLNG"):
             return self._change("set", said, _lq.lq_set_int64, *head, whole("value", value))
         if type == "LONG":
@@ -249,7 +249,7 @@ class Handle:
             return self._change("set", said, _lq.lq_set_uint32, *head, natural("value", value, 32))
         if type == "ULLG":
             return self._change("set", said, _lq.lq_set_uint64, *head, natural("value", value))
-        raise ValueError(f"type is {type!r}, and value is no text")
+        no_value(value, type)
 
     def unset(self, node: Any, attr: Any) -> Applied:
         self._own()
@@ -414,7 +414,8 @@ class Handle:
         with self.lock:
             self._call("entry", said, _lq.lq_entry, number, byref(it))
             attributes = [self._attribute("entry", said, _lq.lq_attr_at, number, at) for at in range(it.attr_count)]
-        return Info(it.dir, it.node, _text(it.name, it.name_size), _KINDS[it.kind], it.size, it.time, attributes)
+        values, types = {each.name: each.value for each in attributes}, {each.name: each.type for each in attributes}
+        return Info(it.dir, it.node, _text(it.name, it.name_size), _KINDS[it.kind], it.size, it.time, values, types)
 
     def attribute(self, node: Any, name: Any) -> Attribute:
         self._own()

@@ -26,9 +26,9 @@ from email.header import decode_header, make_header
 from email.parser import BytesHeaderParser
 
 from . import B_ENTRY_CREATED, NotFound, Overrun, Volume, __version__
+from ._text import printable
 from .folder._inotify import events
 from .folder._terminal import ENDED, UNUSABLE, Trouble, Unread, carried_out, is_read, say, tell
-from .folder._text import printable
 
 NAME = "yazgoulm-mail"
 SECONDS = 0.2  # between two looks at the Maildir, where the system doesn't say what happens there

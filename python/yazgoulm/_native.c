@@ -19,7 +19,7 @@
     X(bind_uint64) X(clear_bound) X(query_open_bound) X(fetch_bound)
 
 /* What is taken of _arguments.py and _types.py. */
-#define ARGUMENTS(X) X(encode) X(encode_name) X(kind) X(natural) X(whole)
+#define ARGUMENTS(X) X(encode) X(encode_name) X(kind) X(natural) X(no_value) X(whole)
 #define TYPES(X) \
     X(Applied) X(Attr) X(Attribute) X(Entry) X(Info) X(Mark) X(Message) X(Op) X(Opcode) X(CAUSES) X(TYPES) X(FILE) \
     X(FOLDER) X(refusal)
@@ -452,18 +452,22 @@ METHOD(write) {
     return status == LQ_OK ? applied(own, &out) : REFUSED("write");
 }
 
+/* Has _arguments.py say why a value and its type aren't those of an attribute. */
+static lq_status no_value(const Own *own, PyObject *value, PyObject *type) {
+    Py_XDECREF(PyObject_CallFunctionObjArgs(own->py_no_value, value, type, NULL));
+    return RAISED;
+}
+
 /* Sets a number of the type that `type` names. RAISED: it names none, or the number doesn't fit. */
 static lq_status set_number(Handle *self, uint64_t node, const text_given *attr, PyObject *value, PyObject *type,
                             lq_applied *out) {
     const Own *own = self->own;
     const char *named = type == Py_None ? "LLNG" : PyUnicode_Check(type) ? PyUnicode_AsUTF8(type) : "";
-    if (!named) return RAISED;
-    bool is_signed = !strcmp(named, "LONG") || !strcmp(named, "LLNG");
-    bool is_short = !strcmp(named, "LONG") || !strcmp(named, "ULNG");
-    if (!is_signed && !is_short && strcmp(named, "ULLG")) {
-        PyErr_Format(PyExc_ValueError, "type is %R, and value is no text", type);
-        return RAISED;
-    }
+    if (!named) PyErr_Clear(); /* a text with surrogates names none */
+    bool is_signed = named && (!strcmp(named, "LONG") || !strcmp(named, "LLNG"));
+    bool is_short = named && (!strcmp(named, "LONG") || !strcmp(named, "ULNG"));
+    bool is_type = is_signed || is_short || (named && !strcmp(named, "ULLG"));
+    if (!is_type || !PyIndex_Check(value)) return no_value(own, value, type);
     PyObject *number;
     if (is_signed && is_short)
         number = PyObject_CallFunction(own->py_whole, "sOLL", "value", value, (long long)INT32_MIN,
@@ -485,10 +489,8 @@ static lq_status set_number(Handle *self, uint64_t node, const text_given *attr,
 static lq_status set_text(Handle *self, uint64_t node, const text_given *attr, PyObject *value, PyObject *type,
                           lq_applied *out) {
     const Own *own = self->own;
-    if (type != Py_None && (!PyUnicode_Check(type) || PyUnicode_CompareWithASCIIString(type, "CSTR"))) {
-        PyErr_Format(PyExc_ValueError, "type is %R, and value is a text", type);
-        return RAISED;
-    }
+    if (type != Py_None && (!PyUnicode_Check(type) || PyUnicode_CompareWithASCIIString(type, "CSTR")))
+        return no_value(own, value, type);
     text_given text;
     if (take_text(own->py_encode, "value", value, &text)) return RAISED;
     lq_status status = LOCKED(set_text(&self->handle, node, TEXT(*attr), TEXT(text), out));
@@ -799,12 +801,24 @@ METHOD(find_path) {
     return found(self, true, args, count);
 }
 
-static PyObject *attribute(const Own *own, const lq_attr *it) {
+static PyObject *value(const lq_attr *it) {
+    if (it->type == LQ_TYPE_TEXT) return text(it->text, it->text_size);
     bool is_signed = it->type == LQ_TYPE_INT32 || it->type == LQ_TYPE_INT64;
-    return RECORD(own->py_Attribute, text(it->name, it->name_size), type(own, it->type),
-                  it->type == LQ_TYPE_TEXT ? text(it->text, it->text_size)
-                  : is_signed              ? PyLong_FromLongLong(it->whole)
-                                           : natural(it->natural));
+    return is_signed ? PyLong_FromLongLong(it->whole) : natural(it->natural);
+}
+
+static PyObject *attribute(const Own *own, const lq_attr *it) {
+    return RECORD(own->py_Attribute, text(it->name, it->name_size), type(own, it->type), value(it));
+}
+
+/* Puts an attribute's value and its type under its name. -1, with an exception: it can't. */
+static int put_attribute(const Own *own, const lq_attr *it, PyObject *values, PyObject *types) {
+    PyObject *name = text(it->name, it->name_size), *its = value(it), *of = type(own, it->type);
+    int failed = !name || !its || PyDict_SetItem(values, name, its) || PyDict_SetItem(types, name, of);
+    Py_XDECREF(name);
+    Py_XDECREF(its);
+    Py_DECREF(of);
+    return failed ? -1 : 0;
 }
 
 METHOD(entry) {
@@ -812,22 +826,22 @@ METHOD(entry) {
     uint64_t node;
     lq_info it;
     lq_attr attr;
-    PyObject *attributes = NULL;
     if (take_natural(own, "node", args[0], &node)) return NULL;
+    PyObject *values = PyDict_New(), *types = PyDict_New();
+    bool is_whole = values && types;
     enter(self);
     lq_status status = LOCKED(entry(&self->handle, node, &it));
-    if (status == LQ_OK) attributes = PyList_New((Py_ssize_t)it.attr_count);
-    for (size_t at = 0; attributes && at < it.attr_count; at++) {
+    for (size_t at = 0; is_whole && status == LQ_OK && at < it.attr_count; at++) {
         status = own->attr_at(&self->handle, node, at, &attr);
-        PyObject *made = status == LQ_OK ? attribute(own, &attr) : NULL;
-        if (made) PyList_SET_ITEM(attributes, (Py_ssize_t)at, made);
-        else Py_CLEAR(attributes);
+        is_whole = status == LQ_OK && put_attribute(own, &attr, values, types) == 0;
     }
     leave(self);
-    if (status != LQ_OK) return REFUSED("entry");
-    if (!attributes) return NULL;
-    return RECORD(own->py_Info, natural(it.dir), natural(it.node), text(it.name, it.name_size), kind(own, it.kind),
-                  natural(it.size), PyLong_FromLongLong(it.time), attributes);
+    if (status == LQ_OK && is_whole)
+        return RECORD(own->py_Info, natural(it.dir), natural(it.node), text(it.name, it.name_size), kind(own, it.kind),
+                      natural(it.size), PyLong_FromLongLong(it.time), values, types);
+    Py_XDECREF(values);
+    Py_XDECREF(types);
+    return status == LQ_OK ? NULL : REFUSED("entry");
 }
 
 METHOD(attribute) {

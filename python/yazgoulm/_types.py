@@ -1,6 +1,9 @@
 """What the module gives: numbers with names, tuples, and exceptions."""
 import enum, errno, reprlib
-from typing import Any, Iterable, List, NamedTuple, Optional, Tuple, Union
+from typing import Any, Dict, Iterable, List, NamedTuple, Optional, Tuple, Union
+
+from ._reasons import reason
+from ._text import marked, marked_between
 
 ROOT = 1
 
@@ -133,7 +136,9 @@ class Attribute(NamedTuple):
 
 
 class Info(NamedTuple):
-    """An entry with all that it has: `size` in bytes, `time` in seconds since 1970, `kind` "file" or "folder"."""
+    """An entry with all that it has: `size` in bytes, `time` in seconds since 1970, `kind` "file" or "folder".
+
+    `attributes` has the values by their names, in the order in which they were first set, and `types` their types."""
 
     dir: int
     node: int
@@ -141,7 +146,8 @@ class Info(NamedTuple):
     kind: Kind
     size: int
     time: int
-    attributes: List[Attribute]
+    attributes: Dict[str, Union[str, int]]
+    types: Dict[str, Type]
 
 
 class Message(NamedTuple):
@@ -195,21 +201,29 @@ class Error(Exception):
 class Refused(Error):
     """A call was refused, and its act isn't done. `code` and `name` are those of the table of refusals.
 
-    `call` is the name of the call, and `arguments` what it was given. Of an entry that `create` had made before one of
+    `call` is the name of the call, and `arguments` what it was given. `reason` says what is wrong with one of these,
+    where they alone show it, and is empty elsewhere. Of an entry that `create` had made before one of
     its attributes was refused, `node` is the node, and `attributes` has the names of those that were set."""
 
     node: Optional[int] = None
     attributes: Tuple[str, ...] = ()
+    reason: str = ""
 
     def __init__(self, code: int, name: str, call: str = "", arguments: Tuple[Any, ...] = ()) -> None:
         self.code, self.name, self.call, self.arguments = code, name, call, tuple(arguments)
         self.args = code, name, call, self.arguments
 
     def __str__(self) -> str:
-        return f"{self.name}: {self.call}({', '.join(map(reprlib.repr, self.arguments))})"
+        why = f": {self.reason}" if self.reason else ""
+        return f"{self.name}: {self.call}({', '.join(map(reprlib.repr, self.arguments))}){why}"
 
     def __reduce__(self) -> Tuple[Any, ...]:
         return type(self), (self.code, self.name, self.call, self.arguments), vars(self)
+
+
+class BadName(Refused, ValueError):
+    """A name of an entry or of an attribute breaks its rule. The text says which: it is empty, has more than 255 bytes,
+    has a NUL, or, as the name of an entry, has a `/`, or is `.` or `..`."""
 
 
 class NotFound(Refused, KeyError):
@@ -246,14 +260,15 @@ class NoMemory(Refused, MemoryError):
 
 class BadQuery(Refused, ValueError):
     """A formula can't be read. `place` is the byte of its leftmost fault, in UTF-8, or 4096 where it has more bytes; of
-    pushes it is the number of those before the one that doesn't fit."""
+    pushes it is the number of those before the one that doesn't fit. The text shows it, with a caret under the place."""
 
     def __init__(self, code: int, name: str, call: str = "", arguments: Tuple[Any, ...] = (), place: int = 0) -> None:
         super().__init__(code, name, call, arguments)
         self.place = place
 
     def __str__(self) -> str:
-        return f"{self.name} at {self.place}{super().__str__()[len(self.name):]}"
+        shown = _shown(self.arguments[0] if self.arguments else None, self.place)
+        return f"{self.name} at {self.place}{super().__str__()[len(self.name):]}{shown}"
 
     def __reduce__(self) -> Tuple[Any, ...]:
         kind, given, fields = super().__reduce__()
@@ -272,7 +287,21 @@ class Overrun(Error):
         return f"the messages of {reprlib.repr(self.formula)} end after change {self.change}: the backlog was full"
 
 
-_REFUSALS = {2: NotFound, 3: NotFolder, 4: NotFound, 5: Exists, 7: NotEmpty, 10: NotFound, 15: NoMemory}
+def _shown(formula: Any, place: int) -> str:
+    """Lines that mark a place in a formula or in pushes."""
+    if isinstance(formula, str):
+        return "\n" + marked(formula, place)
+    if isinstance(formula, tuple):
+        pushes = [*map(_push, formula)]
+        return "\n" + marked_between("".join(f"{it}, " for it in pushes[:place]), ", ".join(pushes[place:]))
+    return ""
+
+
+def _push(item: Any) -> str:
+    return f"Op.{item.name}" if isinstance(item, Op) else f"Attr({item.name!r})" if isinstance(item, Attr) else repr(item)
+
+
+_REFUSALS = {1: BadName, 2: NotFound, 3: NotFolder, 4: NotFound, 5: Exists, 7: NotEmpty, 10: NotFound, 15: NoMemory}
 _BAD_QUERY = 20
 
 
@@ -280,4 +309,6 @@ def refusal(code: int, name: str, place: int, call: str, arguments: Tuple[Any, .
     """The exception for a status."""
     if code == _BAD_QUERY:
         return BadQuery(code, name, call, arguments, place)
-    return _REFUSALS.get(code, Refused)(code, name, call, arguments)
+    made: Refused = _REFUSALS.get(code, Refused)(code, name, call, arguments)
+    made.reason = reason(code, call, arguments)
+    return made

@@ -5,6 +5,8 @@ from typing import Any, Callable, Dict, ItemsView, Iterator, List, Mapping, Opti
 from . import _arguments
 from ._library import Handle
 from ._library import Reader as _Reader
+from ._reasons import RESERVED, reason
+from ._text import said
 from ._types import (
     FILE, ROOT, Applied, Attribute, Cause, Difference, Entry, Formula, Info, Mark, Message, NotFound, Overrun, Place,
     Refused, Result,
@@ -14,7 +16,6 @@ from ._types import (
 Name = Union[str, bytes, "os.PathLike[Any]"]
 Value = Union[str, int, Tuple[int, str]]  # of an attribute: by itself, or with the type
 _NO_NODE = (1 << 64) - 1  # which is never given
-_RESERVED = "name", "size", "last_modified"  # what can't be set as an attribute
 _NOT_OPEN = 25  # the refusal of what only a query that hasn't ended can do
 _IN_A_ROW = 100  # messages of an `async for`, after which the loop has a turn
 
@@ -74,7 +75,7 @@ class Volume:
 
     @wake.setter
     def wake(self, wake: Optional[Callable[[], Any]]) -> None:
-        self._wake, self._is_due = wake, True
+        self._wake, self._is_due = _arguments.call("wake", wake), True
 
     def _turned(self) -> None:
         """What is due after a turn: frees the slots that nobody has any more, and wakes who waits for messages."""
@@ -140,10 +141,10 @@ class Volume:
         another type it is a pair of the value and the type. All are tested before the first change. Where one is
         refused after that, for want of memory, the exception has the node as `node`, and the names that were set as
         `attributes`."""
-        if attributes:
-            applied = self._create_with(name, dir, kind, size, time, attributes)
-        else:
+        if attributes is None:
             applied = self._handle.create(name, dir, kind, size, time)
+        else:
+            applied = self._create_with(name, dir, kind, size, time, attributes)
         if self._is_due:
             self._turned()
         return applied
@@ -151,8 +152,8 @@ class Volume:
     def _create_with(
         self, name: Name, dir: int, kind: str, size: int, time: int, given: Mapping[Name, Value]
     ) -> Applied:
-        attributes = [_arguments.attribute(attr, value) for attr, value in given.items()]
-        text = _arguments.encode_name("name", name).decode()
+        text, attributes = _arguments.encode_name("name", name).decode(), _arguments.attributes(given)
+        _arguments.kind(kind)
         numbers = _arguments.natural("dir", dir), kind, _arguments.natural("size", size), _arguments.whole("time", time)
         with self._lock, _as("create", name, dir, kind, size, time, given):
             for attr, value, type in attributes:
@@ -160,7 +161,7 @@ class Volume:
                     self._handle.set(_NO_NODE, attr, value, type)
                 except NotFound:
                     pass  # which is what comes where the attribute is well
-                if attr in _RESERVED:
+                if attr in RESERVED:
                     raise Refused(11, "Reserved")
             applied = self._handle.create(text, *numbers)
             node, done = applied.node, []
@@ -232,7 +233,7 @@ class Volume:
         if time is not None:
             time = _arguments.whole("time", time)
         with self._lock, _as("write", node, size, time):
-            info = Info(ROOT, ROOT, "", FILE, 0, 0, []) if node == ROOT else self._handle.entry(node)
+            info = Info(ROOT, ROOT, "", FILE, 0, 0, {}, {}) if node == ROOT else self._handle.entry(node)
             return self._handle.write(node, info.size if size is None else size, info.time if time is None else time)
 
     def set(self, node: int, attr: Name, value: Union[str, int], type: Optional[str] = None) -> Applied:
@@ -280,7 +281,7 @@ class Volume:
         return self._handle.find_path(path, dir)
 
     def entry(self, node: int) -> Info:
-        """The entry of a node, with its attributes in the order in which they were first set."""
+        """The entry of a node, with its attributes: see Info."""
         return self._handle.entry(node)
 
     def attribute(self, node: int, name: Name) -> Attribute:
@@ -309,6 +310,7 @@ class _as:
         if isinstance(error, Refused):
             error.call, error.arguments = self.call, self.arguments
             error.args = error.code, error.name, self.call, self.arguments
+            error.reason = reason(error.code, self.call, self.arguments)
 
 
 def _settle(future: Any) -> None:
@@ -512,7 +514,7 @@ class Query(_Reader):  # type: ignore[misc]
 
     def __init__(self, volume: Volume, formula: Formula, backlog: int, moved: bool, on_overrun: str) -> None:
         if on_overrun not in ("raise", "mark"):
-            raise ValueError(f'on_overrun must be "raise" or "mark", not {on_overrun!r}')
+            raise ValueError(f'on_overrun must be "raise" or "mark", not {said(on_overrun)}')
         self._volume, self._moved, self._on_overrun = volume, moved, on_overrun
         self._backlog = _arguments.whole("backlog", backlog, 1, 65_536)
         self._in_a_row = 0  # messages of an `async for` that waited for nothing
@@ -575,6 +577,7 @@ class Query(_Reader):  # type: ignore[misc]
 
     def _waited(self, timeout: Optional[float]) -> Optional[Message]:
         """What `read` gives once there is something to read, or the time is over."""
+        timeout = _arguments.seconds("timeout", timeout)
         until = None if timeout is None else time.monotonic() + timeout
         while True:
             told = threading.Event()

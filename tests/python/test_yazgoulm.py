@@ -120,8 +120,9 @@ class ByMethods:
 
     def entry(self, node, **_):
         info = self.volume.entry(node)._asdict()
-        attributes = info.pop("attributes")
-        return {**info, "attrs": [it._asdict() for it in attributes]}
+        attributes, types = info.pop("attributes"), info.pop("types")
+        assert [*attributes] == [*types]
+        return {**info, "attrs": [{"name": it, "type": types[it], "value": attributes[it]} for it in attributes]}
 
     def fetch(self, query, **_):
         return {"result": self.places(self.volume.fetch(query)), "at": self.volume.changes}
@@ -193,7 +194,7 @@ class Volumes(Case):
         self.assertEqual(volume.move(3, ROOT, smile), (4, 3))
         self.assertEqual(volume.path(3), f"/{smile}")
         self.assertEqual(volume.write(3, 2**63 - 1, -(2**63)), (5, 3))
-        self.assertEqual(volume.entry(3), (ROOT, 3, smile, "file", 2**63 - 1, -(2**63), []))
+        self.assertEqual(volume.entry(3), (ROOT, 3, smile, "file", 2**63 - 1, -(2**63), {}, {}))
         self.assertEqual(volume.remove(4), (6, 4))
         self.assertEqual(volume.changes, 6)
         found = [Entry(ROOT, folder, "in", FOLDER, 0, 3), Entry(ROOT, 3, smile, FILE, 2**63 - 1, -(2**63))]
@@ -271,8 +272,8 @@ class Volumes(Case):
         [*query]
         found = [(volume.entry(node).kind, Kind.FILE, "file", 0), (query.mark.cause, Cause.CLOSED, "closed", 1)]
         found += [(volume.children()[0].kind, FILE, "file", 0), (volume.entry(node).kind, FILE, "file", 0)]
-        for it in volume.entry(node).attributes:
-            found.append((it.type, Type[it.name], it.name, int.from_bytes(it.name.encode(), "big")))
+        for name, type in volume.entry(node).types.items():
+            found.append((type, Type[name], name, int.from_bytes(name.encode(), "big")))
         for is_it, member, said, number in found:
             self.assertIs(is_it, member)
             self.assertEqual((is_it, str(is_it), f"{is_it:>8}", repr(is_it), json.loads(json.dumps(is_it)), is_it.code),
@@ -289,15 +290,22 @@ class Volumes(Case):
         values += [("ul", "ULNG", 2**32 - 1), ("ull", "ULLG", 2**64 - 1)]
         for name, type, value in values:
             volume.set(node, name, value, type)
-        self.assertEqual(volume.entry(node).attributes, values)
+        info = volume.entry(node)
+        self.assertEqual([*info.attributes.items()], [(name, value) for name, _, value in values])
+        self.assertEqual([*info.types.items()], [(name, type) for name, type, _ in values])
+        self.assertEqual((info.attributes["l"], info.types["l"]), (-(2**31), Type.LONG))
         for each in values:
             self.assertEqual(volume.attribute(node, each[0]), each)
+        row = volume.open("t==*").rows[node]
+        self.assertEqual(row.info, info)
+        volume.set(node, "ul", 2**32 - 1, "ULLG")  # another type, and the same value
+        self.assertEqual((row.refresh(), row.info.types["ul"], row.info.attributes), (True, "ULLG", info.attributes))
         volume.set(node, "t", "text")
         volume.set(node, "l", 7)
         self.assertEqual(volume.attribute(node, "t"), Attribute("t", "CSTR", "text"))
         self.assertEqual(volume.attribute(node, "l"), Attribute("l", "LLNG", 7))
         volume.unset(node, "t")
-        self.assertEqual([it.name for it in volume.entry(node).attributes], ["e", "l", "ll", "ul", "ull"])
+        self.assertEqual([*volume.entry(node).attributes], ["e", "l", "ll", "ul", "ull"])
         self.refused(10, "NoAttr", volume.attribute, node, "t")
         bad = [("LONG", 2**31), ("LLNG", 2**63), ("ULNG", -1), ("ULLG", 2**64), ("CSTR", 1), ("LONG", "1"), ("what", 1)]
         for type, value in bad:
@@ -313,7 +321,8 @@ class Volumes(Case):
         given = {"from": "Ann", "count": 5, b"\xff": (2**32 - 1, "ULNG"), "big": (2**64 - 1, "ULLG"), "status": "New"}
         applied = volume.create("a", size=7, attributes=given)
         self.assertEqual((applied, volume.changes), (Applied(6, 2), 6))
-        self.assertEqual([tuple(it) for it in volume.entry(2).attributes], [
+        info = volume.entry(2)
+        self.assertEqual([(name, info.types[name], value) for name, value in info.attributes.items()], [
             ("from", "CSTR", "Ann"), ("count", "LLNG", 5), ("\uf7ff", "ULNG", 2**32 - 1), ("big", "ULLG", 2**64 - 1),
             ("status", "CSTR", "New")])
         self.assertEqual([(it.change, it.name) for it in query], [(6, "a")])
@@ -322,8 +331,8 @@ class Volumes(Case):
                                 (11, "Reserved", {"size": 1})):
             refused = self.refused(code, name, volume.create, "c", attributes={"well": 1, **bad})
             self.assertEqual((refused.call, refused.arguments), ("create", ("c", ROOT, FILE, 0, 0, {"well": 1, **bad})))
-        self.says(ValueError, "type is 'what', and value is no text", volume.create, "c", attributes={"a": (1, "what")})
-        self.says(TypeError, "value must be a whole number, not 1.5", volume.create, "c", attributes={"a": 1, "b": 1.5})
+        self.says(TypeError, "attributes['b'] must be a str or a whole number, not 1.5", volume.create, "c",
+                  attributes={"a": 1, "b": 1.5})
         self.refused(5, "Exists", volume.create, "a", attributes=given)
         self.assertEqual(volume.changes, 7)
         handle = mock.Mock(wraps=volume._handle)
@@ -332,33 +341,6 @@ class Volumes(Case):
             volume.create("c", attributes={"one": 1, "two": 2})
         for error in caught.exception, pickle.loads(pickle.dumps(caught.exception)):
             self.assertEqual((error.call, error.node, error.attributes), ("create", 4, ("one",)))
-
-    def test_arguments_that_do_not_fit(self):
-        volume, says = self.volume, self.says
-        says(TypeError, "size must be a whole number, not 2.5", volume.create, "a", size=2.5)
-        says(TypeError, "time must be a whole number, not 0.5", volume.write, 2, 1, 0.5)
-        says(TypeError, "node must be a whole number, not '2'", volume.remove, "2")
-        says(TypeError, "dir must be a whole number, not None", volume.children, None)
-        says(TypeError, "value must be a whole number, not 1.5", volume.set, 2, "a", 1.5)
-        says(TypeError, "name must be a str, bytes or a path, not int", volume.create, 5)
-        says(TypeError, "attr must be a str, bytes or a path, not NoneType", volume.unset, 2, None)
-        says(TypeError, "line must be a str, not int", volume.answer, 5)
-        says(TypeError, "formula must be a str or pushes, not bytes", volume.fetch, b"size>1")
-        says(TypeError, "formula must be a str or pushes, not 5", volume.open, 5)
-        says(TypeError, "formula must be a whole number, not 1.5", volume.fetch, [Attr("size"), 1.5, Op.GT])
-        says(ValueError, "size must be from 0 to 18446744073709551615, not -1", volume.create, "a", size=-1)
-        says(ValueError, f"node must be from 0 to {2**64 - 1}, not {2**64}", volume.remove, 2**64)
-        says(ValueError, f"time must be from {-(2**63)} to {2**63 - 1}, not {2**63}", volume.create, "a", time=2**63)
-        says(ValueError, f"value must be from 0 to {2**32 - 1}, not -1", volume.set, 2, "a", -1, "ULNG")
-        says(ValueError, "type is 'what', and value is no text", volume.set, 2, "a", 1, "what")
-        says(ValueError, "type is 'LONG', and value is a text", volume.set, 2, "a", "1", "LONG")
-        says(ValueError, "kind must be \"file\" or \"folder\", not 'link'", volume.create, "a", kind="link")
-        says(ValueError, "backlog must be from 1 to 65536, not 0", volume.open, "size>1", 0)
-        says(ValueError, "backlog must be from 1 to 65536, not 65537", volume.open, "size>1", 65_537)
-        says(ValueError, "on_overrun must be \"raise\" or \"mark\", not 'end'", volume.open, "size>1", on_overrun="end")
-        says(ValueError, r"name has a surrogate that stands for no byte: '\ud800'", volume.create, "\ud800")
-        self.assertEqual((volume.changes, volume.ready()), (0, []))
-        self.assertEqual(volume.create("a", size=True).node, 2)  # a bool is a whole number
 
     def test_names_of_files(self):
         """A byte that is no UTF-8 becomes U+F700 and the byte; so do the bytes of U+F780 to U+F7FF themselves."""
@@ -383,7 +365,7 @@ class Volumes(Case):
         self.refused(12, "TooLong", volume.set, 2, "a", "x" * 4097)
         self.refused(11, "Reserved", volume.remove, ROOT)
         refused = self.refused(20, "BadQuery", volume.fetch, "size>")
-        self.assertEqual((refused.place, str(refused)), (5, "BadQuery at 5: fetch('size>')"))
+        self.assertEqual((refused.place, str(refused)), (5, "BadQuery at 5: fetch('size>')\n    size>\n         ^"))
         self.assertEqual(volume.changes, 0)
 
     def test_exceptions_have_all_arguments(self):

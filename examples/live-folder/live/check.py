@@ -2,7 +2,7 @@
 from yazgoulm.folder._disk import look_below
 from yazgoulm.folder._mirror import ROOT
 from yazgoulm import Query, to_name
-from yazgoulm.folder._text import printable
+from yazgoulm._text import printable
 
 
 def is_same(mirror, window, say):

@@ -11,7 +11,8 @@ def listing(volume, pause):
     """Each entry with all that it has, by rising node."""
     for number, row in enumerate(volume.fetch("name==*"), 1):
         it = volume.entry(row.node)
-        yield [it.node, it.dir, it.name, it.kind, it.size, it.time, it.attributes]
+        attributes = [(name, it.types[name], value) for name, value in it.attributes.items()]
+        yield [it.node, it.dir, it.name, it.kind, it.size, it.time, attributes]
         if number % PART == 0:
             pause()
 

@@ -3,7 +3,7 @@ import collections, errno, fnmatch, os, select, time
 from typing import Any, DefaultDict, Dict, Iterable, List, Optional, Set, Tuple
 
 from .. import Error
-from .._arguments import to_bytes, to_name
+from .._names import to_bytes, to_name
 from ._disk import Identity, Seen, identity, look, names_in
 from ._inotify import AGAIN, IGNORED, MODIFY, OVERFLOW, Events, events
 from ._server import Server

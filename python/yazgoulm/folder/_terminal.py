@@ -3,8 +3,8 @@ import errno, os, re, select, signal, sys
 from typing import Any, Callable, Optional
 
 from .. import BadQuery, Error, Refused
+from .._text import marked, printable
 from ._mirror import FolderGone
-from ._text import printable
 
 UNUSABLE = 2  # the command can't begin with its arguments
 ENDED = 3  # the folder, or another thing that it needs, has gone
@@ -65,12 +65,10 @@ def is_read() -> bool:
 
 def fault(formula: str, refused: BadQuery) -> str:
     """Why a formula can't be read, with a mark below its fault."""
-    before = formula.encode("utf-8", "surrogatepass")[: refused.place].decode("utf-8", "ignore")
     hint = ""
     if not re.search("[=<>]", formula):
         hint = "\nput the formula in quotes, as 'size>1000'; names are asked for by 'name==*.txt'"
-    mark = " " * len(printable(before)) + "^"
-    return f"the formula can't be read: BadQuery at byte {refused.place}\n    {printable(formula)}\n    {mark}{hint}"
+    return f"the formula can't be read: BadQuery at byte {refused.place}\n{marked(formula, refused.place)}{hint}"
 
 
 def carried_out(name: str, main: Callable[[], Optional[int]]) -> int:
