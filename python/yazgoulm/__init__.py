@@ -17,8 +17,8 @@ from ._library import backend
 from ._names import to_bytes, to_name
 from ._types import (
     B_ENTRY_CREATED, B_ENTRY_MOVED, B_ENTRY_REMOVED, FILE, FOLDER, ROOT, Applied, Attr, Attribute, BadName, BadQuery,
-    Cause, Difference, Entry, Error, Exists, Formula, Info, Kind, Mark, Message, NoMemory, NotEmpty, NotFolder, NotFound,
-    Op, Opcode, Overrun, Place, Refused, Result, Type,
+    Cause, Difference, Entry, Error, Exists, Formula, Info, Kind, Mark, Message, NoMemory, NotEmpty, NotFolder,
+    NotFound, Op, Opcode, Overrun, Place, Refused, Result, Type,
 )  # fmt: skip
 from ._volume import Query, Row, Rows, Volume
 

@@ -44,7 +44,7 @@ def marked_between(before: str, after: str, indent: str = "    ") -> str:
     first = "..." if len(left) < len(before) else ""
     last = "..." if len(right) < len(after) else ""
     line = first + "".join(shown for shown, _ in left + right) + last
-    return f"{indent}{line.rstrip()}\n{indent}{' ' * (len(first) + _columns(left))}^"
+    return f"{indent}{line}".rstrip() + f"\n{indent}{' ' * (len(first) + _columns(left))}^"
 
 
 def _cells(text: str) -> List[Tuple[str, int]]:

@@ -260,7 +260,7 @@ class NoMemory(Refused, MemoryError):
 
 class BadQuery(Refused, ValueError):
     """A formula can't be read. `place` is the byte of its leftmost fault, in UTF-8, or 4096 where it has more bytes; of
-    pushes it is the number of those before the one that doesn't fit. The text shows it, with a caret under the place."""
+    pushes it is the number of those before the one that doesn't fit. The text has a caret under the place."""
 
     def __init__(self, code: int, name: str, call: str = "", arguments: Tuple[Any, ...] = (), place: int = 0) -> None:
         super().__init__(code, name, call, arguments)
@@ -298,7 +298,9 @@ def _shown(formula: Any, place: int) -> str:
 
 
 def _push(item: Any) -> str:
-    return f"Op.{item.name}" if isinstance(item, Op) else f"Attr({item.name!r})" if isinstance(item, Attr) else repr(item)
+    if isinstance(item, Op):
+        return f"Op.{item.name}"
+    return f"Attr({item.name!r})" if isinstance(item, Attr) else repr(item)
 
 
 _REFUSALS = {1: BadName, 2: NotFound, 3: NotFolder, 4: NotFound, 5: Exists, 7: NotEmpty, 10: NotFound, 15: NoMemory}
