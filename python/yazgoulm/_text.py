@@ -2,7 +2,7 @@
 import reprlib
 from typing import Any, List, Tuple
 
-_BEFORE, _AFTER = 64, 24  # columns that are shown at most before a fault, and from it on
+_COLUMNS, _BEFORE = 72, 48  # that are shown at most of a text, and that are left to what comes before a fault
 
 
 def printable(text: str) -> str:
@@ -36,10 +36,11 @@ def marked(formula: str, place: int, indent: str = "    ") -> str:
 
 def marked_between(before: str, after: str, indent: str = "    ") -> str:
     """A text in two parts on one line, cut to what is near, and below it a caret under the begin of the second."""
-    left, right = _cells(before[-_BEFORE:]), _cells(after[:_AFTER])
-    while _columns(left) > _BEFORE:
+    left, right = _cells(before[-_COLUMNS:]), _cells(after[:_COLUMNS])
+    room = max(_BEFORE, _COLUMNS - _columns(right))
+    while _columns(left) > room:
         del left[0]
-    while _columns(right) > _AFTER:
+    while _columns(right) > _COLUMNS - _columns(left):
         del right[-1]
     first = "..." if len(left) < len(before) else ""
     last = "..." if len(right) < len(after) else ""

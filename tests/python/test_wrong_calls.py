@@ -80,7 +80,8 @@ WORDS = [
 NAMES = [
     *every([
         ("volume.create(@)", "name"), ("volume.create(@, attributes={'x': 1})", "name"),
-        ("volume.move(4, 1, @)", "name"), ("volume.rename(4, @)", "name"), ("volume.find(@)", "name"), ("volume.find_path(@)", "path"),
+        ("volume.move(4, 1, @)", "name"), ("volume.rename(4, @)", "name"), ("volume.find(@)", "name"),
+        ("volume.find_path(@)", "path"),
         ("volume.set(4, @, 1)", "attr"), ("volume.set(4, @, 't')", "attr"), ("volume.unset(4, @)", "attr"),
         ("volume.attribute(4, @)", "name"), ("volume.create('c', attributes={@: 1})", "a name in attributes"),
     ], [
@@ -310,9 +311,11 @@ class WrongCalls(unittest.TestCase):
             ("e\u0301==x &", "e\u0301==x &", 5),  # an accent takes none
             ("a==b\n&& &", "a==b\\n&& &", 9),
             ("a==\x1b[m &", "a==\\x1b[m &", 7),
-            (f"{long} & y==1", f"...{'x' * 63} & y==1", 3 + 64),
-            (f"size>>1 || {long}", "size>>1 || name==xxxxxxxxxxxx...", 5),
-            ("x" * 4097, "..." + "x" * 64 + "x", 3 + 64),
+            (f"{long} & y==1", f"...{'x' * 65} & y==1", 3 + 66),  # the last 72 columns
+            (f"size>>1 || {long}", f"size>>1 || name=={'x' * 55}...", 5),  # the first 72 columns
+            # 48 columns before the fault, and 24 from it on
+            (f"name=={'x' * 94} & {long}", f"...{'x' * 47} & name=={'x' * 16}...", 3 + 48),
+            ("x" * 4097, "..." + "x" * 72, 3 + 71),
         ):
             first, *shown = str(self.error_of(f"volume.fetch({formula!r})")).split("\n")
             self.assertEqual(shown, [f"    {line}".rstrip(), " " * (4 + column) + "^"], first)
