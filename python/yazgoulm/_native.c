@@ -231,32 +231,34 @@ static void leave_text(text_given *it) {
 /* ---- handles ---- */
 
 /* A handle, with the lock of its volume: a call takes it, and Python's `with` does for what takes several. The thread
-   that has it may take it again, from a finalizer say. All of it is read and written under the interpreter's lock. */
+   that has it, `depth` times, may take it again, from a finalizer say. All of it is read and written under the
+   interpreter's lock, so it is free or taken by its fields alone. Who waits for it does so at a gate, which is shut but
+   for the moment in which one thread passes. */
 typedef struct {
     PyObject_HEAD
     lq handle;
     const Own *own; /* which the type owns */
     bool is_open;
-    PyThread_type_lock lock;
     unsigned long owner;
-    int depth;
+    int depth, waiting;
+    PyThread_type_lock gate;
+    bool is_gate_open;
 } Handle;
 
 /* Takes the lock. False: another thread has it, and this one may not wait. */
 static bool enter_if(Handle *self, bool waits) {
     unsigned long me = PyThread_get_thread_ident();
-    if (self->depth > 0 && self->owner == me) {
-        self->depth++;
-        return true;
-    }
-    if (!PyThread_acquire_lock(self->lock, NOWAIT_LOCK)) {
+    while (self->depth > 0 && self->owner != me) {
         if (!waits) return false;
+        self->waiting++;
         Py_BEGIN_ALLOW_THREADS
-        PyThread_acquire_lock(self->lock, WAIT_LOCK);
+        PyThread_acquire_lock(self->gate, WAIT_LOCK);
         Py_END_ALLOW_THREADS
+        self->waiting--;
+        self->is_gate_open = false;
     }
     self->owner = me;
-    self->depth = 1;
+    self->depth++;
     return true;
 }
 
@@ -264,8 +266,13 @@ static void enter(Handle *self) {
     enter_if(self, true);
 }
 
+static void open_gate(Handle *self) {
+    self->is_gate_open = true;
+    PyThread_release_lock(self->gate);
+}
+
 static void leave(Handle *self) {
-    if (--self->depth == 0) PyThread_release_lock(self->lock);
+    if (--self->depth == 0 && self->waiting > 0 && !self->is_gate_open) open_gate(self);
 }
 
 /* What stands for a status where the call wasn't made: the volume is closed, or an exception is set. */
@@ -322,11 +329,12 @@ static PyObject *Handle_new(PyTypeObject *type, PyObject *Py_UNUSED(args), PyObj
     Handle *self = own ? (Handle *)type->tp_alloc(type, 0) : NULL;
     if (!self) return NULL;
     self->own = own;
-    self->lock = PyThread_allocate_lock();
-    if (!self->lock) {
+    self->gate = PyThread_allocate_lock();
+    if (!self->gate) {
         Py_DECREF(self);
         return PyErr_NoMemory();
     }
+    PyThread_acquire_lock(self->gate, WAIT_LOCK);
     lq_status status = own->volume_open_as(&self->handle, LQ_VERSION);
     if (status != LQ_OK) {
         refused_at(self, status, 0, "Volume", NULL, 0);
@@ -345,7 +353,10 @@ static void close_handle(Handle *self) {
 static void Handle_dealloc(Handle *self) {
     PyTypeObject *type = Py_TYPE(self);
     close_handle(self);
-    if (self->lock) PyThread_free_lock(self->lock);
+    if (self->gate) {
+        if (!self->is_gate_open) open_gate(self);
+        PyThread_free_lock(self->gate);
+    }
     type->tp_free((PyObject *)self);
     Py_DECREF(type);
 }
