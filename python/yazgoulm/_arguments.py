@@ -7,7 +7,7 @@ from ._names import encode, encode_name
 from ._text import said
 from ._types import Attr, Op, Type
 
-_TYPES = tuple(Type)
+_TYPES, _MOST_VALUES = tuple(Type), 256
 _LONGEST = 1e9  # seconds, some 30 years
 _PUSH = "an Attr, a str, a whole number or an Op"
 # The numbers of each type that has numbers.
@@ -98,6 +98,29 @@ def _attribute(attr: Any, value: Any) -> Tuple[str, Union[str, int], Optional[st
     if numbers is None or not is_whole(value) or isinstance(value, str):
         no_value(value, type, argument, f"the type of {argument}")
     return name, whole(argument, value, *numbers), type
+
+
+def asked(given: Any, values: Any) -> Tuple[Any, ...]:
+    """A formula, and where it has parameters, or values are given, their values as a tuple."""
+    its = formula(given)
+    if values is None:
+        return (its,)
+    if isinstance(values, (str, bytes, bytearray)) or not isinstance(values, Iterable):
+        raise TypeError(f"values must be a list of texts and whole numbers, not {said(values)}")
+    taken = tuple(_value(f"values[{at}]", value) for at, value in enumerate(values))
+    if taken and not isinstance(its, str):
+        raise TypeError(f"values must be empty where formula is a list of pushes, not {said(taken)}")
+    if len(taken) > _MOST_VALUES:
+        raise ValueError(f"values has {len(taken)} items, and may have {_MOST_VALUES}")
+    return (its, taken) if taken or (isinstance(its, str) and "$" in its) else (its,)
+
+
+def _value(argument: str, value: Any) -> Union[str, int]:
+    if isinstance(value, str):
+        return value if value.isascii() else encode(argument, value).decode()
+    if not is_whole(value):
+        raise TypeError(f"{argument} must be a str or a whole number, not {said(value)}")
+    return whole(argument, value, most=(1 << 64) - 1)
 
 
 def formula(value: Any) -> Any:

@@ -102,7 +102,7 @@ class Folder:
 
     def __init__(self, volume, formula, backlog=65_536):
         self.volume, self.formula, self.rows = volume, formula, {}
-        self.query = volume.open(formula, backlog)
+        self.query = volume.open(formula, backlog=backlog)
         self.change(self.query.entries, [])
 
     def change(self, created, removed):

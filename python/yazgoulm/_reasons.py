@@ -55,6 +55,8 @@ def _reserved(call: str, given: Tuple[Any, ...]) -> str:
 
 def _too_long(call: str, given: Tuple[Any, ...]) -> str:
     values = [("value", given[2])] if call == "set" else []
+    if call in ("open", "fetch"):
+        values = [(f"values[{at}]", value) for at, value in enumerate(given[-1])]
     for attr, value in _attributes(call, given):
         values.append((f"attributes[{said(attr)}]", value[0] if isinstance(value, tuple) else value))
     for argument, value in values:

@@ -260,15 +260,36 @@ class NoMemory(Refused, MemoryError):
 
 class BadQuery(Refused, ValueError):
     """A formula can't be read. `place` is the byte of its leftmost fault, in UTF-8, or 4096 where it has more bytes; of
-    pushes it is the number of those before the one that doesn't fit. The text has a caret under the place."""
+    pushes it is the number of those before the one that doesn't fit. With values the formula is cut into tokens first,
+    and read with its values in place: where the fault is in that, it is `text`, else None. What is printed has a caret
+    under the place."""
 
     def __init__(self, code: int, name: str, call: str = "", arguments: Tuple[Any, ...] = (), place: int = 0) -> None:
         super().__init__(code, name, call, arguments)
         self.place = place
+        self.text: Optional[str] = None
 
     def __str__(self) -> str:
-        shown = _shown(self.arguments[0] if self.arguments else None, self.place)
+        given = self.arguments[0] if self.arguments else None
+        shown = _shown(given if self.text is None else self.text, self.place)
         return f"{self.name} at {self.place}{super().__str__()[len(self.name):]}{shown}"
+
+    def __reduce__(self) -> Tuple[Any, ...]:
+        kind, given, fields = super().__reduce__()
+        return kind, (*given, self.place), fields
+
+
+class BadValues(Refused, ValueError):
+    """NoValue: a formula has a parameter, `$1` to `$256`, for which `values` has no item. UnusedValue: `values` has an
+    item for which the formula has no parameter. `place` is the parameter's number, from 1."""
+
+    def __init__(self, code: int, name: str, call: str = "", arguments: Tuple[Any, ...] = (), place: int = 0) -> None:
+        super().__init__(code, name, call, arguments)
+        self.place = place
+        is_missing = code == _NO_VALUE
+        self.reason = f"{'values has no item for' if is_missing else 'the formula has no'} ${place}"
+        if not is_missing:
+            self.reason += f", so values[{place - 1}] isn't used"
 
     def __reduce__(self) -> Tuple[Any, ...]:
         kind, given, fields = super().__reduce__()
@@ -304,13 +325,19 @@ def _push(item: Any) -> str:
 
 
 _REFUSALS = {1: BadName, 2: NotFound, 3: NotFolder, 4: NotFound, 5: Exists, 7: NotEmpty, 10: NotFound, 15: NoMemory}
-_BAD_QUERY = 20
+_BAD_QUERY, _NO_VALUE, _UNUSED_VALUE = 20, 43, 44
 
 
-def refusal(code: int, name: str, place: int, call: str, arguments: Tuple[Any, ...]) -> Refused:
-    """The exception for a status."""
+def refusal(
+    code: int, name: str, place: int, call: str, arguments: Tuple[Any, ...], text: Optional[str] = None
+) -> Refused:
+    """The exception for a status. `text` is a formula with its values in place, where `place` is one of it."""
     if code == _BAD_QUERY:
-        return BadQuery(code, name, call, arguments, place)
+        bad = BadQuery(code, name, call, arguments, place)
+        bad.text = text
+        return bad
+    if code in (_NO_VALUE, _UNUSED_VALUE):
+        return BadValues(code, name, call, arguments, place)
     made: Refused = _REFUSALS.get(code, Refused)(code, name, call, arguments)
     made.reason = reason(code, call, arguments)
     return made

@@ -1,6 +1,8 @@
 """Volumes, their queries, and the rows of a query."""
 import os, threading, time, weakref
-from typing import Any, Callable, Dict, ItemsView, Iterator, List, Mapping, Optional, Tuple, Union, ValuesView
+from typing import (
+    Any, Callable, Dict, ItemsView, Iterable, Iterator, List, Mapping, Optional, Tuple, Union, ValuesView,
+)  # fmt: skip
 
 from . import _arguments
 from ._library import Handle
@@ -31,9 +33,9 @@ class Volume:
     one half done. After a fork the child has a volume of its own, with all that this one held. As a context manager the
     volume is closed at the end; once it is, each call but `close` raises ValueError.
 
-    `wake`, if it is set, is called without arguments after each change, line, `close` and `hang_up` after which a query
-    has something to read, on the thread of that call, once the lock is free: there an event loop can be told to read.
-    What it raises, the call raises."""
+    `wake`, if it is set, is called after each change, line, `close` and `hang_up` after which a query has something to
+    read: there an event loop can be told to read. It has no arguments, and is called on the thread of that call, once
+    the lock is free. What it raises, the call raises."""
 
     def __init__(self) -> None:
         self._handle = Handle()
@@ -134,13 +136,13 @@ class Volume:
         time: int = 0,
         attributes: Optional[Mapping[Name, Value]] = None,
     ) -> Applied:
-        """Creates an entry in a folder: `size` in bytes, 0 for a folder, `time` in seconds since 1970.
+        """Creates an entry in a folder: `size` in bytes, 0 for a folder, `time` in seconds since 1970. No call reads a
+        clock, so without a time it is 0.
 
-        `attributes` are set in their order, by a change for each, and the last change is returned: so the one that
-        windows ask for comes last, and an entry has all others when it enters one. A value is as `set` takes it; for
-        another type it is a pair of the value and the type. All are tested before the first change. Where one is
-        refused after that, for want of memory, the exception has the node as `node`, and the names that were set as
-        `attributes`."""
+        `attributes` are set in their order, by a change for each, and the last change is returned. The one that windows
+        ask for comes last: then an entry has all others when it enters one. A value is as `set` takes it; for another
+        type it is a pair of the value and the type. All are tested before the first change. Where one is refused after
+        that, for want of memory, the exception has the node as `node`, and the names that were set as `attributes`."""
         if attributes is None:
             applied = self._handle.create(name, dir, kind, size, time)
         else:
@@ -218,7 +220,8 @@ class Volume:
         return applied
 
     def write(self, node: int, size: Optional[int] = None, time: Optional[int] = None) -> Applied:
-        """Sets a file's size in bytes, and its `last_modified` in seconds since 1970. What isn't given stays."""
+        """Sets a file's size in bytes, and its `last_modified` in seconds since 1970. What isn't given stays: without a
+        time the time is as it was."""
         if size is None or time is None:
             applied = self._write_part(node, size, time)
         else:
@@ -251,12 +254,20 @@ class Volume:
         return applied
 
     def open(
-        self, formula: Formula, backlog: int = 65_536, moved: bool = False, on_overrun: str = "raise"
+        self,
+        formula: Formula,
+        values: Optional[Iterable[Union[str, int]]] = (),
+        *,
+        backlog: int = 65_536,
+        moved: bool = False,
+        on_overrun: str = "raise",
     ) -> "Query":
-        """Opens a live query: see Query. At most `backlog` messages, 1 to 65,536, wait beside the oldest. With `moved`
-        an entry that moves within the result has one message for it, and not two. Where more messages come the
-        query ends, and reading it then raises Overrun; with `on_overrun="mark"` its `mark` alone says so."""
-        return Query(self, formula, backlog, moved, on_overrun)
+        """Opens a live query: see Query. `values` are those of the formula's `$1`, `$2` and so on: see `fetch`.
+
+        At most `backlog` messages, 1 to 65,536, wait beside the oldest. With `moved` an entry that moves within the
+        result has one message for it, and not two. Where more messages come the query ends, and reading it then raises
+        Overrun; with `on_overrun="mark"` its `mark` alone says so."""
+        return Query(self, formula, values, backlog, moved, on_overrun)
 
     def ready(self) -> List["Query"]:
         """The queries that have a message, or their mark, to be read."""
@@ -268,9 +279,13 @@ class Volume:
                     found.append(it)
             return found
 
-    def fetch(self, formula: Formula) -> List[Entry]:
-        """The entries that match now, by rising node."""
-        return self._handle.fetch(_arguments.formula(formula))
+    def fetch(self, formula: Formula, values: Optional[Iterable[Union[str, int]]] = ()) -> List[Entry]:
+        """The entries that match now, by rising node.
+
+        A literal of the formula that is just `$1` to `$256`, without quotes, stands for the value of that number. A str
+        is a text as it is, and no pattern; an int is a number. BadValues: a parameter has no value, or a value has no
+        parameter. With `values=None` a formula has no parameters, and `$1` is a text as any other."""
+        return self._handle.fetch(*_arguments.asked(formula, values))
 
     def find(self, name: Name, dir: int = ROOT) -> int:
         """The node of the entry with this name in a folder."""
@@ -311,6 +326,13 @@ class _as:
             error.call, error.arguments = self.call, self.arguments
             error.args = error.code, error.name, self.call, self.arguments
             error.reason = reason(error.code, self.call, self.arguments)
+
+
+def quote(text: str) -> str:
+    """A text of at most 4,096 bytes as a literal that means just this text after `==`, `=` and `!=`: no character of it
+    is a pattern's. `f"name=={quote(name)}"` finds the entries of this name, as `"name==$1"` does with `values`."""
+    literal: str = Handle.quote(text)
+    return literal
 
 
 def _settle(future: Any) -> None:
@@ -512,13 +534,21 @@ class Query(_Reader):  # type: ignore[misc]
 
     As a context manager it is dropped at the end; a query that nobody has any more is dropped too."""
 
-    def __init__(self, volume: Volume, formula: Formula, backlog: int, moved: bool, on_overrun: str) -> None:
+    def __init__(
+        self,
+        volume: Volume,
+        formula: Formula,
+        values: Optional[Iterable[Union[str, int]]],
+        backlog: int,
+        moved: bool,
+        on_overrun: str,
+    ) -> None:
         if on_overrun not in ("raise", "mark"):
             raise ValueError(f'on_overrun must be "raise" or "mark", not {said(on_overrun)}')
         self._volume, self._moved, self._on_overrun = volume, moved, on_overrun
         self._backlog = _arguments.whole("backlog", backlog, 1, 65_536)
         self._in_a_row = 0  # messages of an `async for` that waited for nothing
-        self.formula = _arguments.formula(formula)
+        self.formula, *self._values = _arguments.asked(formula, values)
         self.rows = Rows(volume)
         with volume._lock:
             self._open()
@@ -527,7 +557,7 @@ class Query(_Reader):  # type: ignore[misc]
         """Opens it in a slot, under the lock."""
         volume, rows = self._volume, self.rows
         volume._free_forgotten()
-        slot, self.at, self.entries = volume._handle.open(self.formula, self._backlog, self._moved)
+        slot, self.at, self.entries = volume._handle.open(self.formula, self._backlog, self._moved, *self._values)
         self._covered: Optional[int] = None  # the last change that is covered, if `close` has ended it
         rows._begin({it.node: it for it in self.entries})
         self._begin(volume._handle, slot, rows._placed, rows._rows)

@@ -161,7 +161,7 @@ class Methods(Case):
         self.folder = self.volume.create("folder", kind=FOLDER).node
         self.nodes = [self.volume.create(f"f{number}", size=50 * number).node for number in range(6)]
         self.volume.set(self.nodes[0], "a", "t")
-        self.query = self.volume.open("size>100", 64, True)
+        self.query = self.volume.open("size>100", backlog=64, moved=True)
         self.other = self.volume.open("size>=0")
         self.row = self.query.rows[self.nodes[5]]
 
@@ -178,11 +178,11 @@ class Methods(Case):
         self.volume.move(self.nodes[5], ROOT, self.name())
 
     def drop_another(self):
-        with self.volume.open("name==f*", 3) as query:
+        with self.volume.open("name==f*", backlog=3) as query:
             query.read()
 
     def forget_another(self):
-        self.volume.open("size>1", 3)
+        self.volume.open("size>1", backlog=3)
 
     def of_volume(self):
         volume = self.volume

@@ -52,10 +52,10 @@ NUMBERS = [
     ("volume.remove(Unwritten())", TypeError, "node must be a whole number, not <Unwritten instance at"),
     ("volume.create('c', size=10**5000)", ValueError, f"size {NATURAL}, not this int"),
     ("volume.remove('2' * 1000)", TypeError, "node must be a whole number, not '222222222222..."),
-    ("volume.open('size>1', 0)", ValueError, "backlog must be from 1 to 65536, not 0"),
-    ("volume.open('size>1', 65537)", ValueError, "backlog must be from 1 to 65536, not 65537"),
+    ("volume.open('size>1', backlog=0)", ValueError, "backlog must be from 1 to 65536, not 0"),
+    ("volume.open('size>1', backlog=65537)", ValueError, "backlog must be from 1 to 65536, not 65537"),
     ("volume.open('size>1', backlog='all')", TypeError, "backlog must be a whole number, not 'all'"),
-    ("volume.open('size>1', None)", TypeError, "backlog must be a whole number, not None"),
+    ("volume.open('size>1', backlog=None)", TypeError, "backlog must be a whole number, not None"),
     ("query.read('1')", TypeError, "timeout must be a number of seconds or None, not '1'"),
     ("query.read([])", TypeError, "timeout must be a number of seconds or None, not []"),
     ("query.read(b'1')", TypeError, "timeout must be a number of seconds or None, not b'1'"),
@@ -203,6 +203,33 @@ FORMULAS = [
     ]),
 ]
 
+PARAMETERS = [
+    *every([("volume.fetch('name==$1', @)", "values"), ("volume.open('name==$1', @)", "values")], [
+        ("5", TypeError, "must be a list of texts and whole numbers, not 5"),
+        ("'x'", TypeError, "must be a list of texts and whole numbers, not 'x'"),
+        ("b'x'", TypeError, "must be a list of texts and whole numbers, not b'x'"),
+        ("[1.5]", TypeError, "[0] must be a str or a whole number, not 1.5"),
+        ("['x', None]", TypeError, "[1] must be a str or a whole number, not None"),
+        ("[2**64]", ValueError, f"[0] must be from {LEAST} to {2**64 - 1}, not {2**64}"),
+        (r"['\ud800']", ValueError, r"[0] has a surrogate that stands for no byte: '\ud800'"),
+        ("['x'] * 257", ValueError, "has 257 items, and may have 256"),
+        ("['x', 'x' * 4097]", "Refused", "[1] has 4097 bytes, and may have 4096"),
+        ("[]", "BadValues", "has no item for $1"),
+        ("()", "BadValues", "has no item for $1"),
+    ]),
+    ("volume.fetch('name==$1')", "BadValues", "values has no item for $1"),
+    ("volume.fetch('name==$2', ['x'])", "BadValues", "values has no item for $2"),
+    ("volume.fetch('name==$1', ['x', 'y'])", "BadValues", "the formula has no $2, so values[1] isn't used"),
+    ("volume.open('name==x', ['x'])", "BadValues", "the formula has no $1, so values[0] isn't used"),
+    ("volume.fetch([Attr('size'), 1, Op.GT], [1])", TypeError, "values must be empty where formula is a list of"),
+    ("volume.open('size>1', 16)", TypeError, "values must be a list of texts and whole numbers, not 16"),
+    ("volume.open('size>1', (), 16)", TypeError, "positional argument"),
+    ("quote(5)", TypeError, "text must be a str, not int"),
+    ("quote(None)", TypeError, "text must be a str, not NoneType"),
+    (r"quote('\ud800')", ValueError, r"text has a surrogate that stands for no byte: '\ud800'"),
+    ("quote('x' * 4097)", ValueError, "text must have at most 4096 bytes in UTF-8, not 4097"),
+]
+
 STATES = [
     ("volume.remove(9)", "NotFound", "NoNode: remove(9)"),
     ("volume.move(9, 1, 'c')", "NotFound", "NoNode: move(9, 1, 'c', False)"),
@@ -243,7 +270,7 @@ SIGNATURES = [
     ("Volume(5)", TypeError, "__init__()"), ("volume.remove()", TypeError, "'node'"),
 ]
 
-GROUPS = NUMBERS, WORDS, NAMES, VALUES, FORMULAS, STATES, SIGNATURES
+GROUPS = NUMBERS, WORDS, NAMES, VALUES, FORMULAS, PARAMETERS, STATES, SIGNATURES
 
 
 class Unwritten:

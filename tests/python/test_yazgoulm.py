@@ -10,7 +10,7 @@ import yazgoulm
 from yazgoulm import (
     B_ENTRY_CREATED, B_ENTRY_MOVED, B_ENTRY_REMOVED, FILE, FOLDER, ROOT, Applied, Attr, Attribute, BadQuery, Cause,
     Difference, Entry, Exists, Kind, Mark, Message, NoMemory, NotFound, Op, Opcode, Overrun, Place, Query, Refused,
-    Type, Volume, to_bytes, to_name,
+    Type, Volume, quote, to_bytes, to_name,
 )
 
 SECONDS = 8  # the longest wait for something that has to come
@@ -83,7 +83,7 @@ class ByMethods:
         return self.volume.unset(node, attr)._asdict()
 
     def open(self, query, port, backlog, moved=False, **_):
-        made = self.volume.open(query, backlog, moved, on_overrun="mark")
+        made = self.volume.open(query, backlog=backlog, moved=moved, on_overrun="mark")
         self.queries[made.slot] = made
         return {"at": made.at, "result": self.places(made.entries), "slot": made.slot}
 
@@ -372,7 +372,7 @@ class Volumes(Case):
         """What was given, with the defaults, whichever way calls the library."""
         volume, pushes = self.volume, (Attr("size"), 1, Op.GT)
         volume.create("a")
-        query = volume.open("size>=0", 7, True)
+        query = volume.open("size>=0", backlog=7, moved=True)
         slots = [volume.open("size>1") for _ in range(63)]
         for arguments, call in (
             (("a", ROOT, FILE, 0, 0), lambda: volume.create("a")),
@@ -383,10 +383,10 @@ class Volumes(Case):
             ((9, "x", 1, "LONG"), lambda: volume.set(9, "x", 1, "LONG")),
             ((9, "x"), lambda: volume.unset(9, "x")),
             (("size>1", 65_536, False), lambda: volume.open("size>1")),
-            (("size>", 3, True), lambda: volume.open("size>", 3, True)),
+            (("size>", 3, True), lambda: volume.open("size>", backlog=3, moved=True)),
             ((pushes, 65_536, False), lambda: volume.open([*pushes])),
-            ((pushes[:2], 5, 1), lambda: volume.open(pushes[:2], 5, 1)),
-            (((Op.GT,), 5, False), lambda: volume.open([Op.GT], 5)),
+            ((pushes[:2], 5, 1), lambda: volume.open(pushes[:2], backlog=5, moved=1)),
+            (((Op.GT,), 5, False), lambda: volume.open([Op.GT], backlog=5)),
             (("size>",), lambda: volume.fetch("size>")),
             ((pushes[:2],), lambda: volume.fetch([*pushes[:2]])),
             (((Op.GT,),), lambda: volume.fetch([Op.GT])),
@@ -431,7 +431,7 @@ class Volumes(Case):
             volume.find("b")
         with self.assertRaises(ValueError) as caught:
             volume.fetch([Attr("size"), Op.GT])
-        query = volume.open("size>=0", 1)
+        query = volume.open("size>=0", backlog=1)
         for number in range(3):
             volume.create(f"f{number}")
         with self.assertRaises(Overrun) as overrun:
@@ -659,7 +659,7 @@ class Queries(Case):
     def test_ends(self):
         volume = self.volume
         ended, hung_up = volume.open("size>1"), volume.open("size>1")
-        overrun = volume.open("size>1", 1, on_overrun="mark")
+        overrun = volume.open("size>1", backlog=1, on_overrun="mark")
         volume.create("a", size=2)
         self.assertEqual(ended.close(), 1)
         hung_up.hang_up()
@@ -680,7 +680,7 @@ class Queries(Case):
     def test_close_may_be_repeated(self):
         """It says the last change that is covered, where that is known: it closed the query, or its mark was read."""
         volume = self.volume
-        query, overrun = volume.open("size>=0"), volume.open("size>=0", 1)
+        query, overrun = volume.open("size>=0"), volume.open("size>=0", backlog=1)
         volume.create("a")
         self.assertEqual([query.close(), query.close()], [1, 1])
         volume.create("b")
@@ -797,7 +797,7 @@ class Queries(Case):
 
         draw, volume = random.Random(5), self.volume
         for moved in (False, True):
-            with volume.open("size>100", 65_536, moved) as query:
+            with volume.open("size>100", moved=moved) as query:
                 found, nodes = {}, []
                 for number in range(500):
                     act = draw.choice("cwwmr") if nodes else "c"
@@ -818,7 +818,7 @@ class Queries(Case):
                     volume.remove(node)
 
     def test_what_was_not_read_is_dropped_at_the_end(self):
-        with self.volume.open("name==*", 100) as query:
+        with self.volume.open("name==*", backlog=100) as query:
             for number in range(50):
                 self.volume.create(f"f{number}")
             self.assertEqual(next(query).name, "f0")
@@ -853,7 +853,7 @@ class Queries(Case):
         return thread
 
     def test_a_read_that_waits(self):
-        volume, query = self.volume, self.volume.open("size>=0", 3)
+        volume, query = self.volume, self.volume.open("size>=0", backlog=3)
         since = time.monotonic()
         self.assertIsNone(query.read(timeout=0.03))
         self.assertGreaterEqual(time.monotonic() - since, 0.03)
@@ -921,7 +921,7 @@ class Queries(Case):
         self.assertEqual(volume.ready(), [large, all_of_them])
 
     def test_ready_is_just_where_a_read_gives_something(self):
-        queries = [self.volume.open(f"size>{10 * number}", 3, on_overrun="mark") for number in range(20)]
+        queries = [self.volume.open(f"size>{10 * number}", backlog=3, on_overrun="mark") for number in range(20)]
         for number in range(60):
             self.volume.create(f"f{number}", size=7 * number % 200)
             ready = self.volume.ready()
@@ -967,6 +967,97 @@ class Queries(Case):
         with self.assertRaises(ValueError):
             self.volume.fetch([Attr("a"), 2**64, Op.EQ])
         self.assertEqual(len(self.volume.fetch([Attr("size"), 0, Op.GE])), 3)
+
+
+class Values(Case):
+    """Texts and numbers that stand in a formula as they are: by `quote`, and as the values of its parameters."""
+
+    TEXTS = ["", "*", "a*b", "axb", "a?b", "[a-b]", "[", "]", "\\", "a\\", "\\*", '"', "'", "a b", "(a)", "a&&b", "$1"]
+    TEXTS += ["$2", "!a", "\n", "a\0b", "\u00e4\U0001f600", "\uf7ff", "5", "-5", "x" * 1900]
+
+    def test_quote(self):
+        """A `\\` stands before each `*`, `?`, `[`, `\\` and `"`, and `"` around it all."""
+        for text, literal in (
+            ("", '""'), ("a b", '"a b"'), ("a*b", r'"a\*b"'), ("?[x]", r'"\?\[x]"'), ("\\", r'"\\"'), ('"', r'"\""'),
+            ("'^-$1", "\"'^-$1\""), ("\u00e4\0", '"\u00e4\0"'), (os.fsdecode(b"\xff"), '"\uf7ff"'),
+            ("*" * 4096, '"' + r"\*" * 4096 + '"'),
+        ):  # fmt: skip
+            self.assertEqual(quote(text), literal)
+
+    def names(self, *given):
+        return [it.name for it in self.volume.fetch(*given)]
+
+    def test_texts_as_they_are(self):
+        """Each of the texts is found alone; by `quote`, and by a value after each operator."""
+        volume, nodes = self.volume, {}
+        for number, text in enumerate(self.TEXTS):
+            nodes[text] = volume.create(str(number), attributes={"t": text}).node
+        for text, node in nodes.items():
+            others = sorted({*nodes.values()} - {node})
+            wanted = {it: [node] for it in ("t==$1", "t=$1", "!(t!=$1)", "t>=$1 && t<=$1", "!(t<$1||t>$1)")}
+            for formula, found in {**wanted, "t!=$1": others}.items():
+                self.assertEqual([it.node for it in volume.fetch(formula, [text])], found, (formula, text))
+            for sign, found in ("==", [node]), ("=", [node]), ("!=", others):
+                self.assertEqual([it.node for it in volume.fetch(f"t{sign}{quote(text)}")], found, text)
+            with volume.open("t==$1", [text]) as query:
+                self.assertEqual(([it.node for it in query.entries], query.reopen()), ([node], Difference([], [], [])))
+
+    def test_numbers(self):
+        volume = self.volume
+        numbers = [0, 5, 2**31, 2**63 - 1]
+        for number in numbers:
+            volume.create(f"f{number}", size=number)
+        volume.create("below", attributes={"n": -(2**63)})
+        volume.create("above", attributes={"n": (2**64 - 1, "ULLG")})
+        for number in numbers:
+            self.assertEqual([it.name for it in volume.fetch("size==$1 && name==f*", [number])], [f"f{number}"])
+        self.assertEqual([it.name for it in volume.fetch("n==$1", iter([-(2**63)]))], ["below"])
+        self.assertEqual([it.name for it in volume.fetch("n==$2||n>$1", [5, 2**64 - 1])], ["above"])
+        self.assertEqual(len(volume.fetch("size==$1 && size<=$1", [True])), 0)  # a bool is a whole number
+
+    def test_many_values(self):
+        """A formula may name a value more than once, and in any order; 256 are the most."""
+        names = [f"f{number}" for number in range(300)]
+        for name in names:
+            self.volume.create(name)
+        formula = "||".join(f"name==${number}" for number in range(256, 0, -1))
+        self.assertEqual(self.names(formula, names[:256]), names[:256])
+        self.assertEqual(self.names("name==$1 || name==$2 || (name!=$1 && name==$2)", ["f1", "f2"]), ["f1", "f2"])
+
+    def test_what_is_no_parameter(self):
+        """One in quotes, or with a `\\`; another number; an attribute; and any with `values=None`."""
+        for name in "$1", "$0", "$01", "$257", "$1x", "x$1":
+            self.volume.create(name, attributes={"$1": name})
+        for literal, name in ('"$1"', "$1"), (r"\$1", "$1"), ("'$1'", "$1"):
+            self.assertEqual(self.names(f"name=={literal}"), [name])
+        for name in "$0", "$01", "$257", "$1x", "x$1":
+            self.assertEqual(self.names(f"name=={name}"), [name])
+        self.assertEqual(self.names("$1==$1", ["$1x"]), ["$1x"])
+        self.assertEqual(self.names("name==$1", None), ["$1"])
+        with self.volume.open("name==$1", None) as query:
+            self.assertEqual(([it.name for it in query.entries], query.reopen().created), (["$1"], []))
+
+    def test_refusals_of_values(self):
+        """The exception has the number of the parameter, or of the value that no parameter names; nothing is left."""
+        volume = self.volume
+        for formula, values, code, name, place in (
+            ("name==$1", (), 43, "NoValue", 1), ("name==$3||name==$2", ("a",), 43, "NoValue", 3),
+            ("name==a", ("a",), 44, "UnusedValue", 1), ("name==$3||name==$1", (*"abcd",), 44, "UnusedValue", 2),
+        ):  # fmt: skip
+            for call, arguments in (volume.fetch, (formula, values)), (volume.open, (formula, 65_536, False, values)):
+                refused = self.refused(code, name, call, formula, values)
+                self.assertEqual((refused.place, refused.arguments), (place, arguments))
+                self.assertIsInstance(refused, ValueError)
+                again = pickle.loads(pickle.dumps(refused))
+                self.assertIs(type(again), yazgoulm.BadValues)
+                self.assertEqual((str(again), vars(again)), (str(refused), vars(refused)))
+        refused = self.refused(20, "BadQuery", volume.fetch, "name==$1 && size>>1", ["a*"])
+        self.assertEqual((refused.place, refused.text), (20, r'name=="a\*" && size>>1'))
+        self.assertEqual(str(pickle.loads(pickle.dumps(refused))), str(refused))
+        refused = self.refused(20, "BadQuery", volume.fetch, "name==$1 & size>1", ["a*"])
+        self.assertEqual((refused.place, refused.text), (9, None))
+        self.assertEqual(self.refused(12, "TooLong", volume.fetch, "t==$1", ["x" * 4097]).reason[:9], "values[0]")
+        self.assertEqual(volume.fetch("name==a"), [])
 
 
 class EventLoops(Case):
@@ -1101,7 +1192,7 @@ class EventLoops(Case):
             return [message.name async for message in query]
 
         async def go():
-            query = self.volume.open("size>=0", 1)
+            query = self.volume.open("size>=0", backlog=1)
             shown = [asyncio.create_task(show(query)) for _ in range(2)]
             await asyncio.sleep(0)
             self.volume.create("a")
@@ -1228,7 +1319,8 @@ class Libraries(unittest.TestCase):
                 return importlib.import_module("yazgoulm")
             def opened(package):
                 volume = package.Volume()
-                return package, volume, volume.open("size>=0", 2), volume.open("size>=0", 1, on_overrun="mark")
+                query, other = volume.open("size>=0", backlog=2), volume.open("size>=0", backlog=1, on_overrun="mark")
+                return package, volume, query, other
             def used(package, volume, query, other):
                 for name in "ab":
                     volume.create(name + str(volume.changes))

@@ -22,7 +22,7 @@ class Window:
 
     def __init__(self, volume, number, formula, opened, shift, far, seq=0, latest=None):
         self.number, self.formula, self.opened = number, formula, opened
-        self.query = volume.open(formula, BACKLOG, moved=True, on_overrun="mark")
+        self.query = volume.open(formula, None, backlog=BACKLOG, moved=True, on_overrun="mark")
         self.shift, self.base, self.seq, self.latest = shift, seq, seq, latest
         self.change = self.query.at + shift
         self.far = self.since = far

@@ -181,7 +181,7 @@ class Torn(Case):
         volume = Volume()
         for line in lines[:opened]:
             volume.answer(line)
-        query = volume.open(formula, 100, moved=True)
+        query = volume.open(formula, backlog=100, moved=True)
         for line in lines[opened:]:
             volume.answer(line)
         return [(it.seq, it.change, str(it.op), it.name) for it in query]

@@ -86,7 +86,7 @@ class Server:
         return window
 
     def new_window(self, formula: str) -> Window:
-        query = self.volume.open(formula, BACKLOG, moved=True)
+        query = self.volume.open(formula, None, backlog=BACKLOG, moved=True)
         return Window(formula, query.entries, query)
 
     def close(self, window: Window) -> None:

@@ -173,8 +173,8 @@ def watch(
     - With `poll`, everything is looked at after so many seconds. Without it that is so only where the system has no
       inotify, and then every second.
     - `tell` is given a line for what goes wrong and doesn't end the watch. If it isn't given, the logger
-      "yazgoulm.folder" warns. Such are a folder that can't be read, a name that is too long, and more changes at once
-      than inotify's queue holds: after that everything is looked at again, so that no difference is lost.
+      "yazgoulm.folder" warns. That is so of a folder that can't be read, of a name that is too long, and if more
+      changes at once than inotify's queue holds. Then everything is looked at again, so that no difference is lost.
 
     BadQuery: the formula can't be read. FileNotFoundError, NotADirectoryError, PermissionError: nor can the folder."""
     skip = [os.fsdecode(it) for it in ([skip] if isinstance(skip, (str, bytes)) else skip)]
