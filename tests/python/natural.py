@@ -49,7 +49,8 @@ class Window:
 
     def __init__(self, volume, draw):
         self.lock = threading.Lock()  # of the table: messages come into it in the order in which they are read
-        self.query = volume.open(draw.choice(FORMULAS), draw.choice([1, 5, 65_536]), draw.random() < 0.5)
+        formula, backlog, moved = draw.choice(FORMULAS), draw.choice([1, 5, 65_536]), draw.random() < 0.5
+        self.query = volume.open(formula, backlog=backlog, moved=moved)
         self.table = {it.node: Place(*it[:3]) for it in self.query.entries}
 
     def read(self):
@@ -97,25 +98,27 @@ def main(count):
     for thread in threads:
         thread.start()
     compared = 0
-    while compared < count and not done.is_set():
-        while len(windows) < OPEN:
-            windows.append(Window(volume, draw))
-        window = windows.pop(draw.randrange(len(windows)))
-        with mirror.pause:
-            window.read()
-            found = [Place(*it[:3]) for it in volume.fetch(window.query.formula)]
-            shown = [
-                window.query.result().entries,
-                sorted((row.place for row in window.query.rows.values()), key=lambda it: it.node),
-                sorted(window.table.values(), key=lambda it: it.node),
-            ]
-        if shown != [found] * 3:
-            wrong += 1
-        window.query.drop()
-        compared += 1
-    done.set()
-    for thread in threads:
-        thread.join()
+    try:
+        while compared < count and not done.is_set():
+            while len(windows) < OPEN:
+                windows.append(Window(volume, draw))
+            window = windows.pop(draw.randrange(len(windows)))
+            with mirror.pause:
+                window.read()
+                found = [Place(*it[:3]) for it in volume.fetch(window.query.formula)]
+                shown = [
+                    window.query.result().entries,
+                    sorted((row.place for row in window.query.rows.values()), key=lambda it: it.node),
+                    sorted(window.table.values(), key=lambda it: it.node),
+                ]
+            if shown != [found] * 3:
+                wrong += 1
+            window.query.drop()
+            compared += 1
+    finally:
+        done.set()
+        for thread in threads:
+            thread.join()
     for fault in faults:
         print(f"a thread ended with {fault!r}")
     print(f"{compared} windows compared with fetches over {volume.changes} changes, {wrong} wrong")
