@@ -24,7 +24,7 @@ use Rattle.lq_embed.specs.declared.out_structs.MessageOut.{MessageOut}
 use Rattle.lq_embed.specs.declared.out_structs.InfoOut.{InfoOut}
 use Rattle.lq_embed.specs.Outs.{applied_after, opening_after, change_after, read_after, node_after, fetched_after, rebuilt_after, info_after, row_after}
 use Rattle.lq_embed.specs.SessionState.{SessionState, volume_in, with_session, with_entries, with_fault, with_pushed}
-use Rattle.lq_embed.specs.Status.{status_of, response_status}
+use Rattle.lq_embed.specs.Status.{read_status, status_of, response_status}
 
 -- ---- events
 
@@ -76,7 +76,7 @@ pub record ReadsSlot (old new : SessionState) (event : Event_) (status : ℕ)
     (before after : MessageOut) : Type 0 where
   pub answer : Answer
   pub turned : Turned old.session new.session event answer
-  pub code : status ≡ status_of answer
+  pub code : status ≡ read_status answer
   pub out : after ≡ read_after answer before
   pub beside : new ≡ with_session old new.session
 

@@ -8,10 +8,11 @@ use Rattle.lq_volume.specs.State.{Record}
 use Rattle.lq_update.specs.declared.message.Message.{Message}
 use Rattle.lq_update.specs.declared.message.Opcode.{Opcode}
 use Rattle.lq_update.specs.declared.message.Opcode.TheVariants as op
+use Rattle.lq_update.specs.declared.mark.Mark.{Mark}
 use Rattle.lq_update.specs.declared.mark.Cause.{Cause}
 use Rattle.lq_update.specs.declared.mark.Cause.TheVariants as cause
 use Rattle.lq_update.specs.declared.parcel.Parcel.TheVariants.{Update, Fin}
-use Rattle.lq_desk_world.specs.Events.{Answer, Changed, Opened, Took, Empty, Ended, Shut}
+use Rattle.lq_desk_world.specs.Events.{Answer, Changed, Opened, Took, Shut}
 use Rattle.lq_script_desk.specs.Answered.{entry_answer}
 use Rattle.lq_script_desk.specs.Response.{Response, Found, Listed, Fetched, Rebuilt}
 use Rattle.lq_embed.specs.Numbers.{number_of_kind}
@@ -91,17 +92,17 @@ message_after m out = record {
   from_name = text_put (from_name_of m.op) out.from_name;
 }
 
--- nothing but a number of `what`, a `seq`, a change and a cause
-abbrev pub bare_after : ℕ → ℕ → ℕ → ℕ → MessageOut → MessageOut
-bare_after what seq change cause out = record {
-  seq = seq;
-  change = change;
+-- a mark has a `seq`, a change and a cause, and nothing else
+abbrev pub mark_after : Mark → MessageOut → MessageOut
+mark_after mark out = record {
+  seq = mark.seq;
+  change = mark.change;
   dir = 0;
   node = 0;
   from_dir = 0;
-  what = what;
+  what = 2;
   op = 0;
-  cause = cause;
+  cause = number_of_cause mark.cause;
   last = false;
   name_size = 0;
   from_name_size = 0;
@@ -109,12 +110,10 @@ bare_after what seq change cause out = record {
   from_name = text_put [] out.from_name;
 }
 
+-- only a message or the mark is written
 abbrev pub read_after : Answer → MessageOut → MessageOut
 read_after (Took (Update m)) out = message_after m out
-read_after (Took (Fin mark)) out =
-    bare_after 2 mark.seq mark.change (number_of_cause mark.cause) out
-read_after Empty out = bare_after 0 0 0 0 out
-read_after Ended out = bare_after 3 0 0 0 out
+read_after (Took (Fin mark)) out = mark_after mark out
 read_after answer out = out
 
 -- ---- looks

@@ -19,18 +19,13 @@ read_outcome (Took parcel) = Ok true
 read_outcome (Refused refusal) = Err refusal
 read_outcome answer = Ok false
 
--- a place after a read: only a message or the mark is written
-abbrev pub place_after : Answer → MessageOut → MessageOut
-place_after (Took parcel) place = read_after (Took parcel) place
-place_after answer place = place
-
 -- one of the reads
 pub record ReadsOne (old new : SessionState) (slot : ℕ) (outcome : Result Bool Refusal)
     (before after : MessageOut) : Type 0 where
   pub answer : Answer
   pub turned : Turned old.session new.session (Take slot) answer
   pub parcel : outcome ≡ read_outcome answer
-  pub out : after ≡ place_after answer before
+  pub out : after ≡ read_after answer before
   pub beside : new ≡ with_session old new.session
 
 -- a read for each place, one after another, each of which gave a message or the mark

@@ -4,15 +4,15 @@ ghost use Rattle.lq_value.specs.Refusal.{code_of};
 ghost use Rattle.lq_desk.specs.Reply.{answer_of};
 ghost use Rattle.lq_desk_world.specs.declared.event.Event.TheVariants.{Close, Finish, HangUp, Take};
 ghost use Rattle.lq_embed.specs.Calls.{Acts, Ends, GivesRow, ReadsSlot, TellsSlots, forgotten, state_after_opening, state_after_refusal};
-ghost use Rattle.lq_embed.specs.Outs.{bare_after, change_after, from_dir_of, from_name_of, message_after, number_of_cause, number_of_op, opening_after, read_after, row_after, text_put};
+ghost use Rattle.lq_embed.specs.Outs.{change_after, from_dir_of, from_name_of, mark_after, message_after, number_of_op, opening_after, read_after, row_after, text_put};
 ghost use Rattle.lq_embed.specs.SessionState.{holds};
-ghost use Rattle.lq_embed.specs.Status.{status_of};
+ghost use Rattle.lq_embed.specs.Status.{read_status, status_of};
 
 use crate::embedded::Embedded;
 use crate::numbers::number_of_kind;
 use crate::out_structs::{MessageOut, OpeningOut, RowOut};
 use crate::out_text::put_text;
-use crate::statuses::status;
+use crate::statuses::{EMPTY, ENDED, status};
 use lq_desk::{Event, Read, Reply};
 use lq_update::{Cause, Mark, Message, Opcode};
 use lq_value::{Entry, Refusal};
@@ -59,7 +59,8 @@ impl Embedded {
     /// answers `NoMemory`: where memory runs out for the slot's rebuilt result, the slot is left
     /// without one.
     ///
-    /// Refused: `NotOpen` where the slot is free.
+    /// Only a message or the mark is written. Where there is nothing to read it answers `EMPTY`,
+    /// and `ENDED` where the mark was read before. Refused: `NotOpen` where the slot is free.
     pub fn read(&mut self, slot: u64, out: &mut MessageOut) -> u32
         ensures { ReadsSlot (holds self.old) (holds self.new) (Take slot) result out.old out.new }
     {
@@ -146,14 +147,14 @@ fn put_row(volume: &Volume, entry: &Entry, out: &mut RowOut)
 
 // Writes what was taken, and answers the status.
 pub(crate) fn taken(reply: &Reply, out: &mut MessageOut) -> u32
-    ensures status { result ≡ status_of (answer_of reply.now) }
+    ensures status { result ≡ read_status (answer_of reply.now) }
     ensures out { out.new ≡ read_after (answer_of reply.now) out.old }
 {
     match reply {
         Reply::Took(Read::Update(message)) => put_message(message, out),
         Reply::Took(Read::Fin(mark)) => put_mark(mark, out),
-        Reply::Took(Read::Empty) => put_bare(0, out),
-        Reply::Took(Read::Ended) => put_bare(3, out),
+        Reply::Took(Read::Empty) => return EMPTY,
+        Reply::Took(Read::Ended) => return ENDED,
         Reply::Refused(refusal) => return status(*refusal),
         _ => {}
     }
@@ -215,31 +216,20 @@ fn put_no_place(op: u32, out: &mut MessageOut)
 
 // Writes the mark of a subscription.
 fn put_mark(mark: &Mark, out: &mut MessageOut)
-    ensures { out.new ≡ bare_after 2 mark.now.seq mark.now.change
-        (number_of_cause mark.now.cause) out.old }
+    ensures { out.new ≡ mark_after mark.now out.old }
 {
-    put_bare(2, out);
     out.seq = mark.seq;
     out.change = mark.change;
+    out.dir = 0;
+    out.node = 0;
+    out.from_dir = 0;
+    out.what = 2;
+    out.op = 0;
     out.cause = match mark.cause {
         Cause::Closed => 1,
         Cause::HungUp => 2,
         Cause::Overrun => 3,
     };
-}
-
-// Writes nothing but what was read.
-fn put_bare(what: u32, out: &mut MessageOut)
-    ensures { out.new ≡ bare_after what 0 0 0 out.old }
-{
-    out.seq = 0;
-    out.change = 0;
-    out.dir = 0;
-    out.node = 0;
-    out.from_dir = 0;
-    out.what = what;
-    out.op = 0;
-    out.cause = 0;
     out.last = false;
     out.name_size = put_text(&mut out.name, b"");
     out.from_name_size = put_text(&mut out.from_name, b"");

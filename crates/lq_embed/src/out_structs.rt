@@ -59,8 +59,8 @@ pub struct RowOut {
     pub name: [u8; 256],
 }
 
-/// What a read gave. `what`: 0 nothing, 1 a message, 2 the mark, 3 the mark was read before.
-/// `op`: 1 created, 2 removed, 3 moved. `cause`: 1 closed, 2 hung up, 3 overrun.
+/// What a read gave. `what`: 1 a message, 2 the mark. `op`: 1 created, 2 removed, 3 moved. `cause`:
+/// 1 closed, 2 hung up, 3 overrun.
 #[repr(C)]
 #[derive(Drop)]
 pub struct MessageOut {
