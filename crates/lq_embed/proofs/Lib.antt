@@ -7,3 +7,12 @@ pub mod Crossing
 pub mod RowLemmas
 pub mod ReadLemmas
 pub mod PathLemmas
+pub mod QuoteLemmas
+pub mod MeantLemmas
+pub mod ParameterLemmas
+pub mod BoundLemmas
+pub mod ValueLemmas
+pub mod NamedLemmas
+pub mod LiteralLemmas
+pub mod BoundTokenLemmas
+pub mod OffsetLemmas

@@ -11,3 +11,11 @@ pub mod Rows
 pub mod Reads
 pub mod PathNames
 pub mod Opening
+pub mod Quoting
+pub mod QuotedText
+pub mod QuotedReading
+pub mod Parameters
+pub mod ParameterList
+pub mod BoundFormula
+pub mod BoundTokens
+pub mod Bound

@@ -2,6 +2,7 @@
 use Rattle.std.specs.Prelude.{ℕ, List, []}
 use Rattle.std.specs.Vec.Iter.{into_iter_items}
 use Rattle.lq_value.specs.declared.entry.Entry.{Entry}
+use Rattle.lq_value.specs.declared.value.Value.{Value}
 use Rattle.lq_volume.specs.State as volume
 use Rattle.lq_predicate.specs.Stacked.{Stacked, new_stack}
 use Rattle.lq_script_desk.specs.Session.{Session, volume_of}
@@ -9,13 +10,15 @@ use Rattle.lq_script_desk.specs.Keeps.{keeps}
 use Rattle.lq_script_desk.specs.Script.{script_session}
 use Rattle.lq_embed.specs.declared.embedded.Embedded.{Embedded}
 
--- the session, the entries of a result that weren't given yet, the text of the last line's reply or
--- of a path, the stack of pushes, and the place of the last fault of a formula or a push
+-- the session, the entries of a result that weren't given yet, the text that was made last (a
+-- line's reply, a path, or a formula with its values), the stack of pushes, the bound values, and
+-- the place of the last fault of a formula, a push or a value
 pub record SessionState : Type 0 where
   pub session : Session
   pub entries : List Entry
   pub text : List ℕ
   pub pushed : Stacked
+  pub bound : List Value
   pub fault : ℕ
 
 abbrev pub holds : Embedded → SessionState
@@ -24,13 +27,20 @@ holds e = record {
   entries = into_iter_items e.entries;
   text = e.text.items;
   pushed = e.stack;
+  bound = e.bound.items;
   fault = e.fault;
 }
 
 -- what the first state holds: a script's first session, and nothing else
 abbrev pub first_state : SessionState
-first_state =
-    record { session = script_session; entries = []; text = []; pushed = new_stack; fault = 0 }
+first_state = record {
+  session = script_session;
+  entries = [];
+  text = [];
+  pushed = new_stack;
+  bound = [];
+  fault = 0;
+}
 
 -- the volume now
 abbrev pub volume_in : SessionState → volume.State
@@ -48,6 +58,9 @@ with_text s text = record s { text = text }
 
 abbrev pub with_pushed : SessionState → Stacked → SessionState
 with_pushed s stack = record s { pushed = stack }
+
+abbrev pub with_bound : SessionState → List Value → SessionState
+with_bound s values = record s { bound = values }
 
 abbrev pub with_fault : SessionState → ℕ → SessionState
 with_fault s place = record s { fault = place }

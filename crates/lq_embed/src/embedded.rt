@@ -12,7 +12,7 @@ use lq_desk::Reply;
 use lq_predicate::Stack;
 use lq_script_desk::Session;
 use lq_script_request::{RawRequest, RecentAttrs, Request, read_request};
-use lq_value::{Entry, Refusal};
+use lq_value::{Entry, Refusal, Value};
 use std::alloc::Global;
 use std::vec::IntoIter;
 
@@ -26,10 +26,12 @@ pub struct Embedded {
     pub(crate) attrs: RecentAttrs,
     // The entries of the last result that weren't given yet.
     pub(crate) entries: IntoIter<Entry>,
-    // The text of the last line's reply, or of a path.
+    // The text of the last line's reply, of a path, or of a formula with its values.
     pub(crate) text: Vec<u8>,
     pub(crate) stack: Stack,
-    // The place of the last fault of a formula or a push.
+    // The values that were bound and not put in place yet.
+    pub(crate) bound: Vec<Value>,
+    // The place of the last fault of a formula, a push or a value.
     pub(crate) fault: u64,
 }
 
@@ -43,6 +45,7 @@ impl Drop for Embedded {
             entries: _,
             text: _,
             stack: _,
+            bound: _,
             fault: _,
         } = self;
     }
@@ -61,6 +64,7 @@ impl Embedded {
             entries: Vec::new(alloc).into_iter(),
             text: Vec::new(alloc),
             stack: Stack::new(alloc),
+            bound: Vec::new(alloc),
             fault: 0,
         })
     }
@@ -78,8 +82,8 @@ impl Embedded {
         }
     }
 
-    /// The place of the last fault: the byte of a formula, or the number of pushes accepted before.
-    /// It takes no memory.
+    /// The place of the last fault: the byte of a formula, the number of pushes accepted before, or
+    /// the number of a value. It takes no memory.
     pub fn fault_place(&self) -> u64
         ensures { result ≡ (holds self.now).fault }
     {

@@ -8,6 +8,8 @@
 #![tactic(auto)]
 
 mod attrs;
+mod bound_formula;
+mod bound_values;
 mod changes;
 mod embedded;
 mod find_path;
@@ -20,16 +22,19 @@ mod numbers;
 mod options;
 mod out_structs;
 mod out_text;
+mod parameters;
 mod pushes;
+mod quoting;
 mod reads;
 mod rows;
 mod statuses;
 
 pub use embedded::Embedded;
-pub use laws::embedded_may_be_sent;
+pub use laws::{bound_formulas_are_read, embedded_may_be_sent, texts_are_meant};
 pub use out_structs::{
     AppliedOut, AttrOut, FetchedOut, InfoOut, MessageOut, OpenOptions, OpeningOut, RebuiltOut,
     RowOut,
 };
 pub use out_text::put_text;
 pub use pushes::Push;
+pub use quoting::quote_text;

@@ -18,7 +18,7 @@ pub fn put_text(out: &mut [u8], text: &[u8]) -> usize
 }
 
 // Puts a NUL at the front of `out`, where there is room.
-fn put_nul(out: &mut [u8])
+pub(crate) fn put_nul(out: &mut [u8])
     ensures { out.new ≡ ended out.old }
 {
     if !out.is_empty() {

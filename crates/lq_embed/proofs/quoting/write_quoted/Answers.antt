@@ -1,0 +1,15 @@
+use Rattle.std.proofs.Common.{◌≡◌, ◌∙◌, ◌+◌, ◌++◌, ◌∷◌, [], arith, ap, sym, refl, length, take, set, length-set}
+use Rattle.lq_value.specs.declared.op.Op.TheVariants.{Eq}
+use Rattle.lq_embed.specs.Quoting.{escaped_for, quoted_for}
+use Rattle.lq_embed.proofs.QuoteLemmas.{written_first, written_last, written_room}
+use Rattle.lq_embed.proofs.quoting.write_quoted.Goals as goal
+
+pub loop-byte-init : goal.loop-byte-init
+loop-byte-init c = record {
+  room = written_room Eq c.args.text.now c.args.out.now c.requires;
+  written = written_first Eq c.args.text.now c.args.out.now c.requires;
+}
+
+pub returns : goal.returns
+returns c = written_last Eq c.args.text.now _ c.loop-byte.out _ c.loop-byte.at
+    c.loop-byte-test.false c.loop-byte.invariant.room c.loop-byte.invariant.written
