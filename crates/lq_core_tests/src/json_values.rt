@@ -1,8 +1,9 @@
-//! Texts at the borders of what serde_json takes, read by it and by lq_script_request.
+//! Texts at the borders of what serde_json takes and of plain lines, read by it and by
+//! lq_script_request.
+ghost use Rattle.std.specs.Prelude.{◌<◌, length};
 ghost use Rattle.lq_script_request.specs.Fields.{AreLastMembers};
 
-use json::Scratch;
-use lq_script_request::{Fields, Key};
+use lq_script_request::{Fields, Key, Scratch, request_in};
 use lq_value::Refusal;
 use std::alloc::{AllocError, Global};
 use std::test::Fail;
@@ -75,6 +76,72 @@ const ENDS: [&str; 12] = [
     "", "", "", "0", "7", ".0", ".5", "e0", "E+2", "e291", "e292", "e-340",
 ];
 
+// white space, or none
+const SPACES: [&str; 8] = ["", "", "", "", " ", "\t", "\r\n", "\r"];
+
+// keys; the last two are of no plain line
+const KEYS: [&str; 6] = [
+    "\"size\"",
+    "\"size\"",
+    "\"node\"",
+    "\"\"",
+    "\"si\\u007ae\"",
+    "\"no\nde\"",
+];
+
+// values; some are of no plain line, and some are none
+const VALUES: [&str; 40] = [
+    "0",
+    "7",
+    "-7",
+    "00",
+    "-0",
+    "-",
+    "-01",
+    "1-",
+    "123456789012345678",
+    "-123456789012345678",
+    "999999999999999999",
+    "-999999999999999999",
+    "1000000000000000000",
+    "-1000000000000000000",
+    "1234567890123456789",
+    "9223372036854775808",
+    "0.0",
+    "1.0",
+    "1e2",
+    "1e309",
+    "true",
+    "false",
+    "tru",
+    "truee",
+    "falsE",
+    "null",
+    "\"\"",
+    "\"a\"",
+    "\"é€𝄞\"",
+    "\"\\\"\"",
+    "\"\\u00e9\"",
+    "\"\t\"",
+    "\"a",
+    "\"a\"b",
+    "[]",
+    "{\"size\":1}",
+    "\"\0\"",
+    "\"\r\"",
+    "\"\u{7f}\"",
+    "\"\u{1f}\"",
+];
+
+// what comes after a value, mostly a comma
+const MARKS: [&str; 8] = [",", ",", ",", ",", ",", "}", ":", ""];
+
+// how many random lines are read
+const LINES: usize = 100_000;
+
+// the most bytes of a line
+const MAX_LINE: usize = 65_536;
+
 // Whether both have the same field of that key, as far as its kind goes.
 fn has_same(plain: &serde_json::Value, fields: &Fields<'_>, name: &str, key: Key) -> bool
     requires { AreLastMembers fields.now }
@@ -92,12 +159,13 @@ fn has_same(plain: &serde_json::Value, fields: &Fields<'_>, name: &str, key: Key
 
 // Whether serde_json and lq_script_request read the same fields `size` and `node`, or both refuse a
 // text.
-fn is_read_alike(alloc: Global, scratch: &mut Scratch, text: &str) -> bool {
+fn is_read_alike(alloc: Global, text: &str) -> bool {
+    let mut value = serde_json::Value::Null;
     let mut fields = Fields::new();
     let Ok(plain) = serde_json::Value::from_str(alloc, text) else {
-        return fields.read(scratch, text).err() == Some(Refusal::NotJson);
+        return fields.read(alloc, &mut value, text).err() == Some(Refusal::NotJson);
     };
-    match fields.read(scratch, text) {
+    match fields.read(alloc, &mut value, text) {
         Ok(()) => has_same(&plain, &fields, "size", Key::Size)
             && has_same(&plain, &fields, "node", Key::Node),
         Err(_) => false,
@@ -115,9 +183,8 @@ fn drawn_text(alloc: Global, drawn: u64) -> Result<String, AllocError> {
 
 #[test]
 fn a_text_is_read_as_serde_json_reads_it(rt: HostRuntime) -> Result<(), Fail> {
-    let mut scratch = Scratch::new(rt.alloc());
     for text in &TEXTS {
-        if !is_read_alike(rt.alloc(), &mut scratch, text) {
+        if !is_read_alike(rt.alloc(), text) {
             return Err(Fail::from(*text));
         }
     }
@@ -127,9 +194,97 @@ fn a_text_is_read_as_serde_json_reads_it(rt: HostRuntime) -> Result<(), Fail> {
             .wrapping_mul(6_364_136_223_846_793_005)
             .wrapping_add(1_442_695_040_888_963_407);
         let text = drawn_text(rt.alloc(), drawn)?;
-        if !is_read_alike(rt.alloc(), &mut scratch, &text) {
+        if !is_read_alike(rt.alloc(), &text) {
             return Err(Fail::from(text));
         }
     }
+    Ok(())
+}
+
+// One of the texts, by the next number that is drawn.
+fn one_of(drawn: &mut u64, texts: &[&'static str]) -> &'static str
+    requires { 0 < length texts.now }
+{
+    *drawn = drawn
+        .wrapping_mul(6_364_136_223_846_793_005)
+        .wrapping_add(1_442_695_040_888_963_407);
+    texts[(*drawn >> 33) as usize % texts.len()]
+}
+
+// Appends a member, with white space at random.
+fn push_member(line: &mut String, drawn: &mut u64) -> Result<(), AllocError> {
+    line.push_str(one_of(drawn, &SPACES))?;
+    line.push_str(one_of(drawn, &KEYS))?;
+    line.push_str(one_of(drawn, &SPACES))?;
+    line.push_str(":")?;
+    line.push_str(one_of(drawn, &SPACES))?;
+    line.push_str(one_of(drawn, &VALUES))?;
+    line.push_str(one_of(drawn, &SPACES))
+}
+
+// A line of that many members.
+fn drawn_line(alloc: Global, drawn: &mut u64, members: usize) -> Result<String, AllocError> {
+    let mut line = String::from_str(alloc, one_of(drawn, &SPACES))?;
+    line.push_str("{")?;
+    push_member(&mut line, drawn)?;
+    for _ in 1..members {
+        line.push_str(one_of(drawn, &MARKS))?;
+        push_member(&mut line, drawn)?;
+    }
+    line.push_str("}")?;
+    line.push_str(one_of(drawn, &SPACES))?;
+    Ok(line)
+}
+
+#[test]
+fn a_line_at_the_border_of_plain_ones_is_read_alike(rt: HostRuntime) -> Result<(), Fail> {
+    let mut drawn: u64 = 66;
+    for turn in 0..LINES {
+        let line = drawn_line(rt.alloc(), &mut drawn, 1 + turn % 3)?;
+        if !is_read_alike(rt.alloc(), &line) {
+            return Err(Fail::from(line));
+        }
+    }
+    Ok(())
+}
+
+#[test]
+fn a_plain_line_of_the_most_bytes_is_read_alike(rt: HostRuntime) -> Result<(), Fail> {
+    let mut line = String::from_str(rt.alloc(), "{\"node\":\"")?;
+    for _ in 0..MAX_LINE - 21 {
+        line.push_str("x")?;
+    }
+    line.push_str("\",\"size\":-7}")?;
+    assert_eq!(rt; line.len(), MAX_LINE);
+    assert!(rt; is_read_alike(rt.alloc(), &line));
+    Ok(())
+}
+
+// Whether a line is refused with this.
+fn is_refused(alloc: Global, line: &[u8], refusal: Refusal) -> bool {
+    let mut scratch = Scratch::new(alloc);
+    request_in(alloc, &mut scratch, line).err() == Some(refusal)
+}
+
+#[test]
+fn a_byte_that_is_no_utf8_comes_before_all_else(rt: HostRuntime) -> Result<(), Fail> {
+    let alloc = rt.alloc();
+    // in a line that would be plain, in one with an escape, and in one that is no JSON
+    assert!(rt;
+        is_refused(
+            alloc,
+            b"{\"do\":\"find\",\"name\":\"\xff\"}",
+            Refusal::NotUtf8
+        )
+    );
+    assert!(rt;
+        is_refused(
+            alloc,
+            b"{\"do\":\"find\",\"name\":\"\\n\xff\"}",
+            Refusal::NotUtf8
+        )
+    );
+    assert!(rt; is_refused(alloc, b"{\"do\":\"find\",\xc3}", Refusal::NotUtf8));
+    assert!(rt; is_refused(alloc, b"{\"do\":\"find\",}", Refusal::NotJson));
     Ok(())
 }

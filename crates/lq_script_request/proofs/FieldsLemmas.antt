@@ -1,15 +1,16 @@
 -- The fields of a line's keys, and the members that they show.
-use Rattle.std.proofs.Common.{◌≡◌, ◌∙◌, ℕ, List, Bool, true, false, Some, option_map, refl, sym, ap, true≢false, bytes_eq, if◌then◌else◌}
+use Rattle.std.proofs.Common.{◌≡◌, ◌∙◌, ℕ, List, Bool, true, false, Some, None, option_map, unwrap_or, refl, sym, ap, true≢false, bytes_eq, if◌then◌else◌}
 use Rattle.std.proofs.lemmas.Slice.Eq.{bytes_eq-Decides}
-use Rattle.serde_json.specs.Data.{Data, Members, object, put}
-use Rattle.serde_json.specs.Find.{get_member}
+use Rattle.serde_json.specs.Data.{Data, Members, array, boolean, no_members, null, number, object, put, string}
+use Rattle.serde_json.specs.Find.{as_object, get, get_member}
+use Rattle.serde_json.specs.Read.{read}
 use Rattle.serde_json.proofs.Views.{get_member-put, get_member-put_other}
 use Rattle.lq_script_request.specs.declared.key.Key.{Key}
 use Rattle.lq_script_request.specs.declared.key.Key.TheVariants as key
 use Rattle.lq_script_request.specs.declared.field.Field.{Field}
 use Rattle.lq_script_request.specs.declared.fields.Fields.{Fields}
 use Rattle.lq_script_request.specs.Shown.{data_in, json_outline}
-use Rattle.lq_script_request.specs.Fields.{Show, field_at, key_text, updated}
+use Rattle.lq_script_request.specs.Fields.{AreAbsent, AreLastMembers, Show, field_at, key_text, updated, whole_data}
 
 -- a member counts for its key alone
 placed : (k : List ℕ) (f : Field) (fs : Fields) (at : Key)
@@ -52,3 +53,38 @@ Show-put k f fields d ms is were = λ at.
     ap data_in (placed k f fields at)
     ∙ chosen k (key_text at) (bytes_eq k (key_text at)) f (field_at fields at) d ms refl
     is (were at)
+
+-- the fields of a text show its data
+pub whole_data-from : (fields : Fields) (text : List ℕ) (d : Data) → fields.text.now ≡ text
+    → read text ≡ Some d → read text ≡ Some (whole_data fields)
+whole_data-from fields text d at is = is ∙ sym (ap (λ o. Some (unwrap_or o null)) (ap read at ∙ is))
+
+pub AreLastMembers-from : (fields : Fields) (text : List ℕ) (d : Data) → fields.text.now ≡ text
+    → read text ≡ Some d → Show fields d → AreLastMembers fields
+AreLastMembers-from fields text d at is shows = λ key.
+    shows key
+    ∙ ap (λ o. option_map json_outline (get (key_text key) (unwrap_or o null)))
+    (sym (ap read at ∙ is))
+
+-- absent fields show an object without members
+pub Show-absent : (fields : Fields) → AreAbsent fields → Show fields (object no_members)
+Show-absent fields absent = λ key. ap data_in (absent key)
+
+-- and a value that is no object
+pub Show-other : (fields : Fields) (d : Data) → AreAbsent fields → None ≡ as_object d
+    → Show fields d
+Show-other fields null absent is = λ key. ap data_in (absent key)
+Show-other fields (boolean b) absent is = λ key. ap data_in (absent key)
+Show-other fields (number n) absent is = λ key. ap data_in (absent key)
+Show-other fields (string s) absent is = λ key. ap data_in (absent key)
+Show-other fields (array ds) absent is = λ key. ap data_in (absent key)
+Show-other fields (object ms) absent is = absurd (cc)
+
+-- a value with members is the object of them
+pub object-of : (d : Data) (ms : Members) → Some ms ≡ as_object d → object ms ≡ d
+object-of null ms is = absurd (cc)
+object-of (boolean b) ms is = absurd (cc)
+object-of (number n) ms is = absurd (cc)
+object-of (string s) ms is = absurd (cc)
+object-of (array ds) ms is = absurd (cc)
+object-of (object found) ms is = cc

@@ -1,9 +1,9 @@
--- Read in this order. The fields of a line: NumberLemmas, FieldsLemmas, WalkLemmas, ReadingLemmas.
+-- Read in this order. The fields of a line: FieldsLemmas, ReadingLemmas, LexLemmas, MemberLemmas.
 -- What it asks: RequestLemmas, PlainLemmas, NameLemmas, FormulaLemmas.
 pub mod FieldsLemmas
-pub mod NumberLemmas
 pub mod ReadingLemmas
-pub mod WalkLemmas
+pub mod LexLemmas
+pub mod MemberLemmas
 pub mod RequestLemmas
 pub mod PlainLemmas
 pub mod NameLemmas

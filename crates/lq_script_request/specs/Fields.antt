@@ -1,8 +1,7 @@
 -- The fields of a line: for each of its keys what the last member with that key shows.
-use Rattle.std.specs.Prelude.{◌≡◌, ℕ, List, Option, Some, codes, option_map, unwrap_or, if◌then◌else◌}
+use Rattle.std.specs.Prelude.{◌≡◌, ℕ, List, codes, option_map, unwrap_or, if◌then◌else◌}
 use Rattle.std.specs.Str.{bytes_eq}
-use Rattle.json.specs.Token.{Token}
-use Rattle.serde_json.specs.Data.{Data, Members, null, object}
+use Rattle.serde_json.specs.Data.{Data, null}
 use Rattle.serde_json.specs.Find.{get}
 use Rattle.serde_json.specs.Read.{read}
 use Rattle.lq_script_request.specs.Shown.{data_in, json_outline}
@@ -58,14 +57,6 @@ AreAbsent fields = (key : Key) → field_at fields key ≡ Absent
 abbrev pub Show : Fields → Data → Type 0
 Show fields d =
     (key : Key) → data_in (field_at fields key) ≡ option_map json_outline (get (key_text key) d)
-
--- the fields show the value that was read, up to the rest
-abbrev pub Holds : Fields → List Token → Option (Data × List Token) → Type 0
-Holds fields rest read = (d : Data) × (read ≡ Some (d, rest)) × Show fields d
-
--- the same of an object's members
-abbrev pub HoldsMembers : Fields → List Token → Option (Members × List Token) → Type 0
-HoldsMembers fields rest read = (ms : Members) × (read ≡ Some (ms, rest)) × Show fields (object ms)
 
 -- the data of the text whose fields they are
 abbrev pub whole_data : Fields → Data

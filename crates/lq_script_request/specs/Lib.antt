@@ -1,5 +1,6 @@
 pub mod Shown
 pub mod Fields
+pub mod Members
 pub mod Request
 pub mod Asked
 pub mod Plain

@@ -1,10 +1,7 @@
 -- What a field shows of the data that serde_json reads.
-use Rattle.std.specs.Prelude.{◌≡◌, List, Option, Some, None, true, false, is_none, option_and_then}
-use Rattle.json.specs.Json.{Json}
-use Rattle.json.specs.Token.{Token}
+use Rattle.std.specs.Prelude.{◌≡◌, Option, Some, None, true, false, is_none, option_and_then}
 use Rattle.serde_json.specs.Data.{Data, null, boolean, number, string, array, object, no_items, no_members, unsigned}
 use Rattle.serde_json.specs.Find.{as_bool, as_number, as_str}
-use Rattle.serde_json.specs.Read.{converted, of_json}
 use Rattle.serde_json.specs.View.{number_view}
 use Rattle.lq_script_request.specs.declared.field.Field.{Field}
 use Rattle.lq_script_request.specs.declared.field.Field.TheVariants as field
@@ -29,15 +26,6 @@ data_in (field.Number n) = Some (number (number_view n))
 data_in (field.Text s) = Some (string s.now)
 data_in field.Array = Some (array no_items)
 data_in field.Object = Some (object no_members)
-
--- what was read, up to the rest
-abbrev pub IsReadUpTo : {A : Type 0} → List Token → Option (A × List Token) → Type 0
-IsReadUpTo {A} rest read = (x : A) × (read ≡ Some (x, rest))
-
--- a field shows the value that was read, up to the rest
-abbrev pub ShowsField : Field → Option (Json × List Token) → List Token → Type 0
-ShowsField field read rest =
-    (d : Data) × (converted of_json read ≡ Some (d, rest)) × (data_in field ≡ Some (json_outline d))
 
 -- what a field answers is what the data that was found answers; it is absent where none was found
 pub record IsFieldOf (field : Field) (found : Option Data) : Type 0 where

@@ -1,20 +1,19 @@
-//! The fields of a line, found while its JSON is read.
-ghost use Rattle.std.specs.Prelude.{◌≡◌, ◌⊎◌, IfErr, IfOk, None, Some, length};
+//! The fields of a line.
+ghost use Rattle.std.specs.Prelude.{◌≡◌, ◌⊎◌, ◌≤◌, IfErr, IfOk, IfSome, IsTrue, None, Some, length};
 ghost use Rattle.lq_value.specs.declared.refusal.Refusal.TheVariants.{NoMemory, NotJson};
-ghost use Rattle.json.specs.Json.{members, value};
-ghost use Rattle.serde_json.specs.Data.{no_members};
 ghost use Rattle.serde_json.specs.Find.{get};
-ghost use Rattle.serde_json.specs.Read.{converted, of_members, read as read_text};
-ghost use Rattle.lq_script_request.specs.Fields.{AreAbsent, AreLastMembers, HoldsMembers, key_text, updated, whole_data};
+ghost use Rattle.serde_json.specs.Read.{read as read_text};
+ghost use Rattle.serde_json.specs.View.{view};
+ghost use Rattle.lq_script_request.specs.Fields.{AreAbsent, AreLastMembers, key_text, updated, whole_data};
+ghost use Rattle.lq_script_request.specs.Members.{IsMember};
 ghost use Rattle.lq_script_request.specs.Shown.{IsFieldOf};
 
-use crate::field::{Field, field_from};
+use crate::field::{Field, field_of};
 use crate::key::Key;
-use json::{Invalid, Reader, Scratch, Token};
+use crate::member::{byte_at, past_space, text_at, value_at};
 use lq_value::Refusal;
-
-/// How deep arrays and objects may nest.
-const MAX_DEPTH: usize = 127;
+use serde_json::Value;
+use std::alloc::Global;
 
 /// The fields of a JSON text: for each key of a line the last member with that key.
 #[derive(Drop)]
@@ -92,59 +91,130 @@ impl<'a> Fields<'a> {
         }
     }
 
-    /// Finds the fields of a text while it is read, token by token. Of equal keys the last one
-    /// counts, and a value that is no object has no fields.
+    /// Finds the fields of a text. Of equal keys the last one counts, and a value that is no object
+    /// has no fields.
     ///
-    /// They borrow the text, and also the scratch where a string has escapes. A reused scratch
-    /// allocates nothing more once it has read the longest text. Refused: `NoMemory`, else
-    /// `NotJson`, also where arrays and objects nest deeper than 127, or where a number rounds to
-    /// an infinite double.
-    #[inline(never)]
-    pub fn read(&mut self, scratch: &'a mut Scratch, text: &'a str) -> Result<(), Refusal>
+    /// A plain line is one object with a member or more, in which nothing nests. Its keys and texts
+    /// have no escapes. Its other values are `true`, `false`, and whole numbers of up to 18 digits,
+    /// with or without a minus, but not `-0`. White space may be where JSON allows it. A plain line
+    /// is read by its bytes, without memory. Any other text is read by `serde_json` into `value`,
+    /// and the fields borrow from there.
+    ///
+    /// Refused: `NoMemory`, else `NotJson`, also where arrays and objects nest deeper than 127, or
+    /// where a number rounds to an infinite double.
+    #[inline(always)]
+    pub fn read(
+        &mut self,
+        alloc: Global,
+        value: &'a mut Value,
+        text: &'a str,
+    ) -> Result<(), Refusal>
         requires { AreAbsent self.old }
         ensures value { IfOk result (λ _. read_text text.now ≡ Some (whole_data self.new)) }
         ensures found { IfOk result (λ _. AreLastMembers self.new) }
         ensures refused { IfErr result (λ e. (e ≡ NoMemory)
             ⊎ ((e ≡ NotJson) × (read_text text.now ≡ None))) }
     {
-        let Ok(mut reader) = Reader::new(text, scratch) else {
-            return Err(Refusal::NoMemory);
+        if self.read_plain(text) {
+            return Ok(());
+        }
+        self.read_value(alloc, value, text)
+    }
+
+    // Finds the fields of a text by `serde_json`'s value.
+    #[inline(never)]
+    fn read_value(
+        &mut self,
+        alloc: Global,
+        value: &'a mut Value,
+        text: &'a str,
+    ) -> Result<(), Refusal>
+        ensures value { IfOk result (λ _. read_text text.now ≡ Some (whole_data self.new)) }
+        ensures found { IfOk result (λ _. AreLastMembers self.new) }
+        ensures refused { IfErr result (λ e. (e ≡ NoMemory)
+            ⊎ ((e ≡ NotJson) × (read_text text.now ≡ None))) }
+    {
+        match Value::from_str(alloc, text) {
+            Ok(found) => *value = found,
+            Err(error) => {
+                return Err(if error.is_memory() {
+                    Refusal::NoMemory
+                } else {
+                    Refusal::NotJson
+                });
+            }
+        }
+        *self = Fields::of(text, value);
+        Ok(())
+    }
+
+    // The fields of a text with this value.
+    fn of(text: &'a str, value: &'a Value) -> Fields<'a>
+        requires { read_text text.now ≡ Some (view value.now) }
+        ensures value { read_text text.now ≡ Some (whole_data result) }
+        ensures found { AreLastMembers result }
+    {
+        let mut fields = Fields::new();
+        fields.text = text;
+        let Some(members) = value.as_object() else {
+            return fields;
         };
-        let Some(token) = reader.next() else {
-            return Err(Refusal::NotJson);
+        for (key, member) in members.iter() {
+            fields.put(key.as_str(), field_of(member));
+        }
+        fields
+    }
+
+    // Finds the fields of a plain line. False of any other text, whose fields then have no meaning.
+    // It takes no memory.
+    fn read_plain(&mut self, text: &'a str) -> bool
+        requires { AreAbsent self.old }
+        ensures value { IsTrue result → read_text text.now ≡ Some (whole_data self.new) }
+        ensures found { IsTrue result → AreLastMembers self.new }
+    {
+        let bytes = text.as_bytes();
+        let brace = past_space(bytes, 0);
+        if byte_at(bytes, brace) != b'{' {
+            return false;
+        }
+        let Some(mut end) = self.read_member(text, past_space(bytes, brace + 1)) else {
+            return false;
         };
-        let passed = match token {
-            Token::BeginObject => self.read_members(&mut reader, MAX_DEPTH - 1).is_ok(),
-            _ => field_from(&mut reader, token, MAX_DEPTH).is_ok(),
-        };
-        if !passed || reader.next().is_some() {
-            return Err(Refusal::NotJson);
+        'members: while byte_at(bytes, end) == b',' {
+            let Some(next) = self.read_member(text, past_space(bytes, end + 1)) else {
+                return false;
+            };
+            end = next;
+        }
+        if past_space(bytes, end + 1) < bytes.len() {
+            return false;
         }
         self.text = text;
-        Ok(())
+        true
     }
 
-    // Reads the members of an object that is open, one after another; of equal keys the last one
-    // counts. Arrays and objects in them may nest `depth` deep. It takes no memory.
-    #[inline(always)]
-    fn read_members(&mut self, reader: &mut Reader<'a>, depth: usize) -> Result<(), Invalid>
-        requires { AreAbsent self.old }
-        ensures ok { IfOk result (λ _. HoldsMembers self.new reader.new (converted
-            (λ ms. of_members ms no_members)
-            (members (value depth) (length reader.old) reader.old))) }
-        ensures err { IfErr result (λ _. converted (λ ms. of_members ms no_members)
-            (members (value depth) (length reader.old) reader.old) ≡ None) }
+    // Reads the member at an offset, and gives the offset of the comma or the brace after it.
+    fn read_member(&mut self, text: &'a str, from: usize) -> Option<usize>
+        requires { from ≤ length text.now }
+        ensures { IfSome result (λ end. IsMember text.now from self.old self.new end) }
     {
-        'members: while let Some(key) = reader.next_key()? {
-            let token = reader.next().ok_or(Invalid)?;
-            let found = field_from(reader, token, depth)?;
-            self.put(key, found);
+        let bytes = text.as_bytes();
+        let (key, key_end) = text_at(text, from)?;
+        let colon = past_space(bytes, key_end);
+        if byte_at(bytes, colon) != b':' {
+            return None;
         }
-        Ok(())
+        let (found, value_end) = value_at(text, past_space(bytes, colon + 1))?;
+        let end = past_space(bytes, value_end);
+        let byte = byte_at(bytes, end);
+        if byte != b',' && byte != b'}' {
+            return None;
+        }
+        self.put(key, found);
+        Some(end)
     }
 
-    // Puts a value in the place of its key, if the key is one of a line's. It has no hint: the
-    // compiler inlines it, as it has one caller, once the lengths of keys are constants in it.
+    // Puts a value in the place of its key, if the key is one of a line's.
     fn put(&mut self, key: &str, found: Field<'a>)
         ensures { self.new ≡ updated key.now found.entry self.old }
     {

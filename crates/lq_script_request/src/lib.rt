@@ -2,16 +2,16 @@
 //!
 //! Contracts see a line as its bytes, its JSON as serde_json's data, and its meaning as a request
 //! or the first fault that fits (`specs/Request`). Of equal keys the last one counts, and a text
-//! with a number beyond the doubles is no value. The fields are found while the text is read, token
-//! by token, with no tree of its values (`specs/Fields`), and with a scratch that lines reuse and
-//! contracts don't see. Of an array or an object within them only the kind is kept
-//! (`specs/Shown`). Nothing waits. Begin with `request`, then `parse_line`, `fields` and `field`.
+//! with a number beyond the doubles is no value. A plain line is read by its bytes, without memory;
+//! any other line by `serde_json::Value`. `fields` says which lines are plain. Both readers find
+//! the same fields (`specs/Fields`). Of an array or an object within them only the kind is kept
+//! (`specs/Shown`). Nothing waits. Begin with `request`, then `parse_line`, `fields` and `member`.
 #![tactic(auto)]
 
 mod field;
 mod fields;
 mod key;
-mod number;
+mod member;
 mod parse_line;
 mod quick_read;
 mod raw_request;

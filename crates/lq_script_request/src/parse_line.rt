@@ -13,6 +13,7 @@ use lq_desk_world::Event;
 use lq_predicate::read;
 use lq_value::{Kind, Name, Refusal, View};
 use lq_volume::Change;
+use serde_json::Value;
 use simdutf8::is_utf8;
 use std::alloc::Global;
 
@@ -33,8 +34,9 @@ pub fn request_in(alloc: Global, scratch: &mut Scratch, line: &[u8]) -> Result<R
         return Err(Refusal::NotUtf8);
     }
     let text = unsafe { str::from_utf8_unchecked(line) };
+    let mut value = Value::Null;
     let mut fields = Fields::new();
-    fields.read(&mut scratch.json, text)?;
+    fields.read(alloc, &mut value, text)?;
     let Some(raw) = raw_request_in(&fields) else {
         return Err(Refusal::BadLine);
     };

@@ -14,7 +14,6 @@ const RECENT: usize = 16;
 /// answer.
 #[derive(Drop)]
 pub struct Scratch {
-    pub(crate) json: json::Scratch,
     pub(crate) attrs: RecentAttrs,
 }
 
@@ -22,7 +21,6 @@ impl Scratch {
     /// An empty scratch. It takes no memory.
     pub fn new(alloc: Global) -> Scratch {
         Scratch {
-            json: json::Scratch::new(alloc),
             attrs: RecentAttrs::new(alloc),
         }
     }
