@@ -6,6 +6,7 @@ pub mod WritingLemmas
 pub mod LineLemmas
 pub mod ProgressLemmas
 pub mod ResultLemmas
+pub mod CallLemmas
 pub mod RunLemmas
 mod CommandWalkLemmas
 mod CommandFaultLemmas

@@ -1,6 +1,7 @@
 //! Devices that may fail: a source of bytes, and a sink for bytes.
-ghost use Rattle.std.specs.Prelude.{◌≡◌, ◌<◌, ◌≤◌, ℕ, List, length, Bool, true, false, Option, IfOk, OnOk, OnErr};
+ghost use Rattle.std.specs.Prelude.{◌≡◌, ◌<◌, ◌≤◌, ℕ, List, [], ◌∷◌, length, Bool, true, false, is_ok, Option, None, IfOk, OnOk, OnErr};
 ghost use Rattle.std.specs.Io.KnownBytes.{Keeps, WriteAppends, ReadConsumes};
+ghost use Rattle.lq_script_lines.specs.Calls.{Adds, Call, Flushed, Wrote};
 
 use std::io::{Read, Write};
 
@@ -74,6 +75,9 @@ pub trait Sink {
     /// Whether no write came after the last flush that succeeded.
     ghost flushed: { Self → Bool };
 
+    /// The writes and flushes so far, if they are known.
+    ghost calls: { Self → Option (List Call) } = { λ _. None };
+
     /// Takes bytes from the start of `bytes`, and answers their number.
     ///
     /// An error comes only where the device failed; no byte was taken then.
@@ -83,7 +87,8 @@ pub trait Sink {
         ensures works { OnOk result (failed self.new ≡ failed self.old) }
         ensures none { IfOk result (λ n. n ≡ 0 → 0 < length bytes.now → stalled self.new ≡ true) }
         ensures some { IfOk result (λ n. 0 < n → stalled self.new ≡ stalled self.old) }
-        ensures fails { OnErr result (failed self.new ≡ true) };
+        ensures fails { OnErr result (failed self.new ≡ true) }
+        ensures call { Adds (calls self.old) (calls self.new) (Wrote (is_ok result) ∷ []) };
 
     /// Passes on the bytes taken so far. An error comes only where the device failed.
     fn flush(&mut self) -> Result<(), Failed>
@@ -91,7 +96,8 @@ pub trait Sink {
         ensures works { OnOk result (failed self.new ≡ failed self.old) }
         ensures stalls { stalled self.new ≡ stalled self.old }
         ensures flushes { OnOk result (flushed self.new ≡ true) }
-        ensures fails { OnErr result (failed self.new ≡ true) };
+        ensures fails { OnErr result (failed self.new ≡ true) }
+        ensures call { Adds (calls self.old) (calls self.new) (Flushed (is_ok result) ∷ []) };
 }
 
 /// A reader or writer of std, used as a `Source` or a `Sink`.

@@ -1,6 +1,7 @@
 //! A piece of an input, and the replies to each line that ends in it.
 ghost use Rattle.std.specs.Prelude.{◌≡◌, ◌+◌, ◌++◌, ◌⊎◌, ◌<◌, ◌≤◌, ℕ, List, [], ◌∷◌, length, slice_index, take, drop, true, IfErr, OnOk, OnErr, IsErrOf};
 ghost use Rattle.std.specs.Io.KnownBytes.{Appends};
+ghost use Rattle.lq_script_lines.specs.Calls.{CallsOf, WritesOf};
 ghost use Rattle.lq_script_lines.specs.Lines.{IsUnbroken};
 ghost use Rattle.lq_script_lines.specs.Output.{output_of};
 ghost use Rattle.lq_script_lines.specs.Progress.{Completes, Goes, HaltsAtEnd, Leaves, LeavesAtEnd, TakesPiece, standing};
@@ -43,6 +44,7 @@ fn end_line<S: Responder, W: Sink>(
         (writer.new ≡ writer.old) × (out.new.items ≡ out.old.items) }
     ensures cause { IsErrOf result RunFault.Write →
         (W.failed writer.new ≡ true) ⊎ (W.stalled writer.new ≡ true) }
+    ensures calls { WritesOf result (W.calls writer.old) (W.calls writer.new) }
 {
     intake.answer_with(run, responder, out)?;
     intake.line.clear();
@@ -68,6 +70,7 @@ pub fn take_piece<S: Responder, W: Sink>(
         (S.state responder.old) intake.old out.old.items)
         (standing (W.written writer.new) (W.failed writer.new) (W.stalled writer.new)
         (S.state responder.new) intake.new out.new.items) }
+    ensures calls { WritesOf result (W.calls writer.old) (W.calls writer.new) }
 {
     let mut at = 0;
     while at < piece.len() {
@@ -127,6 +130,7 @@ pub(crate) fn finish<S: Responder, W: Sink>(
         W.stalled writer.new ≡ W.stalled writer.old }
     ensures memory_flushed { IsErrOf result RunFault.Memory →
         (W.flushed writer.new ≡ true) ⊎ (W.failed writer.new ≡ true) }
+    ensures calls { CallsOf result (W.calls writer.old) (W.calls writer.new) }
 {
     if intake.answer(responder, out).is_err() {
         write_and_flush(out, writer)?;

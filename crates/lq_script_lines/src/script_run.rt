@@ -1,5 +1,7 @@
 //! A run over a script: each line is answered before the next read.
 ghost use Rattle.std.specs.Prelude.{◌≡◌, ◌+◌, ◌⊎◌, [], length, true, false, OnOk, OnErr, IsErrOf};
+ghost use Rattle.lq_script_lines.specs.Calls.{CallsOf, OnlyWrites};
+ghost use Rattle.lq_script_lines.specs.Faults.{is_write as is_write_fault};
 ghost use Rattle.lq_script_lines.specs.Outcome.{IsRunOutcome, MayReadAfterReplies, reader_log, writer_log};
 ghost use Rattle.lq_script_lines.specs.Output.{Halted};
 ghost use Rattle.lq_script_lines.specs.Progress.{Goes, HaltsIn, Leaves, MeetsLimit};
@@ -47,14 +49,28 @@ fn take_block<S: Responder, W: Sink>(
     ensures not_thread { IsErrOf result RunFault.Thread → ⊥ }
     ensures cause { IsErrOf result RunFault.Write →
         (W.failed writer.new ≡ true) ⊎ (W.stalled writer.new ≡ true) }
+    ensures calls { OnOk result (OnlyWrites (W.calls writer.old) (W.calls writer.new)) }
+    ensures calls_err { OnErr result (CallsOf result (W.calls writer.old) (W.calls writer.new)) }
 {
     match take_piece(intake, piece, responder, out, writer) {
         Ok(()) => Ok(()),
-        Err(RunFault::Write) => Err(RunFault::Write),
         Err(fault) => {
+            if is_write(fault) {
+                return Err(RunFault::Write);
+            }
             write_and_flush(out, writer)?;
             Err(fault)
         }
+    }
+}
+
+// Whether a fault is the writer's.
+fn is_write(fault: RunFault) -> bool
+    ensures { result ≡ is_write_fault fault }
+{
+    match fault {
+        RunFault::Write => true,
+        RunFault::Read | RunFault::Limit | RunFault::Memory | RunFault::Thread => false,
     }
 }
 
@@ -62,11 +78,12 @@ fn take_block<S: Responder, W: Sink>(
 ///
 /// At each read of the device the writer has exactly the replies to the lines that LF ended by
 /// then: a reader that may be read at just these moments will do (`waits`). The writer is flushed
-/// once at the end, also after `Read`, `Limit` and `Memory`. Refused with the first fault: `Read`
-/// and `Write` where that device failed, `Write` also where the writer took none of the bytes
-/// given, `Limit` where a byte follows 10,000,000 lines or 1,073,741,824 bytes, `Memory`. After
-/// `Read` and `Limit` exactly the lines that LF ended are answered, after `Memory` the lines before
-/// one that isn't, and after `Write` a prefix of the replies is written.
+/// once at the end, also after `Read`, `Limit` and `Memory`, and not called again after a write
+/// that failed (`calls`). Refused: `Read` and `Write` where that device failed, `Write` also where
+/// the writer took none of the bytes given, `Limit` where a byte follows 10,000,000 lines or
+/// 1,073,741,824 bytes, `Memory`. After `Read` and `Limit` exactly the lines that LF ended are
+/// answered, after `Memory` the lines before one that isn't, and after `Write` a prefix of the
+/// replies is written.
 pub fn run_lines<R: Client, W: Sink, S: Responder>(
     alloc: Global,
     reader: &mut R,
@@ -86,6 +103,9 @@ pub fn run_lines<R: Client, W: Sink, S: Responder>(
     // It has begun: where memory ran out, a line that was read has no reply.
     ensures begun { IsErrOf result RunFault.Memory → Halted S.rules (S.state responder.old)
         (R.left reader.old) (R.left reader.new) (W.written writer.old) (W.written writer.new) }
+
+    // Which writes and flushes it asked for.
+    ensures calls { CallsOf result (W.calls writer.old) (W.calls writer.new) }
 {
     let mut block = [0u8; BLOCK];
     let mut intake = Intake::new(alloc);

@@ -1,6 +1,7 @@
 //! Writes all waiting bytes to a sink.
 ghost use Rattle.std.specs.Prelude.{◌≡◌, ◌⊎◌, ℕ, [], take, true, IfErr, OnOk, OnErr};
 ghost use Rattle.std.specs.Io.KnownBytes.{Appends, Keeps};
+ghost use Rattle.lq_script_lines.specs.Calls.{EndsInFlush, EndsInWrite, OnlyWrites};
 
 use crate::devices::{Failed, Sink};
 use crate::run_fault::RunFault;
@@ -16,6 +17,8 @@ pub fn write_replies<W: Sink>(out: &mut Vec<u8>, writer: &mut W) -> Result<(), R
         × Appends (W.written writer.old) (W.written writer.new) (take n out.old.items)) }
     ensures fault { IfErr result (λ e. e ≡ RunFault.Write) }
     ensures cause { OnErr result ((W.failed writer.new ≡ true) ⊎ (W.stalled writer.new ≡ true)) }
+    ensures writes { OnOk result (OnlyWrites (W.calls writer.old) (W.calls writer.new)) }
+    ensures ends { OnErr result (EndsInWrite (W.calls writer.old) (W.calls writer.new)) }
 {
     let written = write_all(writer, out);
     out.clear();
@@ -39,6 +42,8 @@ pub fn write_and_flush<W: Sink>(out: &mut Vec<u8>, writer: &mut W) -> Result<(),
         × Appends (W.written writer.old) (W.written writer.new) (take n out.old.items)) }
     ensures fault { IfErr result (λ e. e ≡ RunFault.Write) }
     ensures cause { OnErr result ((W.failed writer.new ≡ true) ⊎ (W.stalled writer.new ≡ true)) }
+    ensures flushes { OnOk result (EndsInFlush (W.calls writer.old) (W.calls writer.new)) }
+    ensures ends { OnErr result (EndsInWrite (W.calls writer.old) (W.calls writer.new)) }
 {
     write_replies(out, writer)?;
     match writer.flush() {
@@ -55,6 +60,8 @@ pub fn write_all<W: Sink>(writer: &mut W, bytes: &[u8]) -> Result<(), Failed>
         × (W.stalled writer.new ≡ W.stalled writer.old)) }
     ensures fails { OnErr result
         ((W.failed writer.new ≡ true) ⊎ (W.stalled writer.new ≡ true)) }
+    ensures writes { OnOk result (OnlyWrites (W.calls writer.old) (W.calls writer.new)) }
+    ensures ends { OnErr result (EndsInWrite (W.calls writer.old) (W.calls writer.new)) }
 {
     let mut at = 0;
     while at < bytes.len() {
@@ -74,6 +81,7 @@ pub fn out_of_memory<W: Sink>(writer: &mut W) -> RunFault
     ensures bytes { Keeps (W.written writer.old) (W.written writer.new) }
     ensures stalls { W.stalled writer.new ≡ W.stalled writer.old }
     ensures flushed { (W.flushed writer.new ≡ true) ⊎ (W.failed writer.new ≡ true) }
+    ensures flushes { EndsInFlush (W.calls writer.old) (W.calls writer.new) }
 {
     match writer.flush() {
         Ok(()) | Err(Failed) => RunFault::Memory,

@@ -1,6 +1,7 @@
 use Rattle.std.proofs.Common.{◌≡◌, Err, rules, refl, ◌+◌, ◌++◌, ◌∷◌, arith, false, append_assoc}
 use Rattle.std.proofs.lemmas.Result.{on_err_weaker, on_ok_weaker}
 use Rattle.lq_script_lines.specs.declared.intake.Intake.{Intake}
+use Rattle.lq_script_lines.proofs.CallLemmas.{no_writes, part_of}
 use Rattle.lq_script_lines.proofs.ProgressLemmas.{fronts_handed, stands_fronts, stands_handed, stands_line}
 use Rattle.lq_script_lines.proofs.input_pieces.end_line.Goals as goal
 
@@ -38,3 +39,15 @@ returns-clause-err g c = on_err_weaker c.write_replies.result (λ part. λ rest 
     (omega (arith, known.lines)) (omega (arith, known.bytes)) c.requires.lines c.requires.bytes)
     rest (simp append_assoc)) part))
     c.write_replies.ensures.err
+
+pub returns-then-len-lt-GATHERED-clause-calls : goal.returns-then-len-lt-GATHERED-clause-calls
+returns-then-len-lt-GATHERED-clause-calls g c = no_writes _
+
+pub returns-in_err-answer_with-clause-calls : goal.returns-in_err-answer_with-clause-calls
+returns-in_err-answer_with-clause-calls g c =
+    let is : c.from_residual.result ≡ Err c.in_err-answer_with.field-0.0 = search rules in
+    rw (is, c.in_err-answer_with.ensures.memory) (no_writes _)
+
+pub returns-clause-calls : goal.returns-clause-calls
+returns-clause-calls g c = let wrote = c.write_replies.ensures in
+    part_of _ _ c.write_replies.result wrote.fault wrote.writes wrote.ends

@@ -1,6 +1,7 @@
-use Rattle.std.proofs.Common.{◌≡◌, Err, refl, rules, sym}
+use Rattle.std.proofs.Common.{◌≡◌, Err, inl, inr, refl, rules, sym}
 use Rattle.std.proofs.KnownBytes.{Appends-kept}
 use Rattle.lq_script_lines.specs.declared.run_fault.RunFault.TheVariants.{Write}
+use Rattle.lq_script_lines.proofs.CallLemmas.{writes_end}
 use Rattle.lq_script_lines.proofs.ResultLemmas.{no_other, not_ok, when_err, when_ok}
 use Rattle.lq_script_lines.proofs.ProgressLemmas.{fronts_all, fronts_handed, halted_now, halts_handed, stands_last, stands_stops, stands_output}
 use Rattle.lq_script_lines.proofs.input_pieces.finish.Goals as goal
@@ -47,3 +48,24 @@ returns-in-Err-clause-err g c = λ began given s.
 -- a fault of the flush isn't one of memory
 pub returns-in-Err-clause-memory : goal.returns-in-Err-clause-memory
 returns-in-Err-clause-memory g c = λ h. no_other h refl
+
+pub returns-in_err-write_and_flush-clause-calls : goal.returns-in_err-write_and_flush-clause-calls
+returns-in_err-write_and_flush-clause-calls g c =
+    let is : c.from_residual.result ≡ Err Write = search rules in
+    rw is (inl c.in_err-write_and_flush.ensures.ends)
+
+pub returns-then-is_err-clause-calls : goal.returns-then-is_err-clause-calls
+returns-then-is_err-clause-calls g c = c.in_ok-write_and_flush.ensures.flushes
+
+pub returns-in_err-write_replies-clause-calls : goal.returns-in_err-write_replies-clause-calls
+returns-in_err-write_replies-clause-calls g c =
+    let is : c.from_residual-in_err-write_replies.result ≡ Err Write = search rules in
+    rw is (inl c.in_err-write_replies.ensures.ends)
+
+pub returns-in-Ok-clause-calls : goal.returns-in-Ok-clause-calls
+returns-in-Ok-clause-calls g c =
+    writes_end _ _ _ c.in_ok-write_replies.ensures.writes _ c.in-Ok.ensures.call
+
+pub returns-in-Err-clause-calls : goal.returns-in-Err-clause-calls
+returns-in-Err-clause-calls g c =
+    inr (writes_end _ _ _ c.in_ok-write_replies.ensures.writes _ c.in-Err.ensures.call)

@@ -1,6 +1,7 @@
 use Rattle.std.proofs.Common.{◌≡◌, ◌∙◌, ◌+◌, Err, length, append-nil, arith, rules, drop, refl, inl, inr}
 use Rattle.std.proofs.lemmas.List.{take_all}
 use Rattle.lq_script_lines.specs.declared.run_fault.RunFault.TheVariants.{Memory}
+use Rattle.lq_script_lines.proofs.CallLemmas.{before_part, no_writes, writes_then}
 use Rattle.lq_script_lines.proofs.ResultLemmas.{neither, no_fault, no_other}
 use Rattle.lq_script_lines.proofs.ProgressLemmas.{given_rest, halted_at, line_rest, line_taken, run_taken, stands_fronts, stands_run}
 use Rattle.lq_script_lines.proofs.input_pieces.take_piece.Goals as goal
@@ -31,6 +32,7 @@ returns-then-intake-ge-MAX_LINES g c = record {
     not_thread = λ h. no_other h refl;
     cause = λ h. no_other h refl;
   };
+  calls = c.loop-at.invariant.calls;
 }
 
 pub loop-at-init : goal.loop-at-init
@@ -39,6 +41,7 @@ loop-at-init g c = record {
   stands = λ began given s. rw append-nil s;
   works = (refl, refl);
   bytes = omega arith;
+  calls = no_writes _;
 }
 
 pub returns-in_err-keep : goal.returns-in_err-keep
@@ -58,6 +61,7 @@ returns-in_err-keep g c =
         not_thread = λ h. no_other h refl;
         cause = λ h. no_other h refl;
       });
+      calls = rw is c.loop-at.invariant.calls;
     }
 
 pub returns-in_err-end_line : goal.returns-in_err-end_line
@@ -83,6 +87,8 @@ returns-in_err-end_line g c =
         not_thread = λ h. neither h says.fault refl refl;
         cause = says.cause;
       });
+      calls = rw is (before_part _ _ _ c.loop-at.invariant.calls
+          (Err c.in_err-end_line.field-0.0) says.calls);
     }
 
 pub loop-at-smaller : goal.loop-at-smaller
@@ -105,6 +111,7 @@ returns g c = record {
     not_thread = no_fault;
     cause = no_fault;
   };
+  calls = c.loop-at.invariant.calls;
 }
 
 pub loop-at-preserved : goal.loop-at-preserved
@@ -119,6 +126,7 @@ loop-at-preserved g c = record {
       (omega (arith, c.run_at-run.ensures.most, c.if-intake-ge-MAX_BYTES.false)));
   works = c.loop-at.invariant.works;
   bytes = omega (arith, c.in_ok-keep.ensures.bytes, c.loop-at.invariant.bytes);
+  calls = c.loop-at.invariant.calls;
 }
 
 pub loop-at-preserved-then-run-most : goal.loop-at-preserved-then-run-most
@@ -134,4 +142,5 @@ loop-at-preserved-then-run-most g c = record {
     c.in_ok-end_line.ensures.works.1 ∙ c.loop-at.invariant.works.1,
   );
   bytes = omega (arith, c.in_ok-end_line.ensures.bytes, c.loop-at.invariant.bytes);
+  calls = writes_then _ _ _ c.loop-at.invariant.calls c.in_ok-end_line.ensures.calls;
 }

@@ -1,4 +1,5 @@
 use Rattle.std.proofs.Common.{◌≡◌, ◌≤◌, ◌+◌, ◌-◌, ◌++◌, ℕ, List, length, take}
+use Rattle.lq_script_lines.specs.Calls.{OnlyWrites}
 use Rattle.lq_script_lines.specs.Progress.{Began, RunStands}
 use Rattle.lq_script_lines.proofs.input_pieces.take_piece.Given as goal
 
@@ -13,6 +14,7 @@ invariant-loop-at g l = record {
   works : (g.W.Sink.failed l.writer ≡ g.W.Sink.failed l.fn.writer)
       × (g.W.Sink.stalled l.writer ≡ g.W.Sink.stalled l.fn.writer);
   bytes : l.intake.bytes ≡ l.fn.intake.bytes + l.at;
+  calls : OnlyWrites (g.W.Sink.calls l.fn.writer) (g.W.Sink.calls l.writer);
 }
 
 abbrev pub decreases-loop-at : goal.decreases-loop-at

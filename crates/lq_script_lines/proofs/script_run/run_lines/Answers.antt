@@ -2,6 +2,7 @@ use Rattle.std.proofs.Common.{refl, sym, ◌∙◌, rules, arith, Err, ◌≡◌
 use Rattle.std.proofs.KnownBytes.{Consumes-kept, Consumes-nil, Consumes-trans}
 use Rattle.std.proofs.lemmas.Result.{on_err_weaker, on_ok_weaker}
 use Rattle.lq_script_lines.specs.declared.run_fault.RunFault.TheVariants.{Memory, Write}
+use Rattle.lq_script_lines.proofs.CallLemmas.{before_end, no_writes, writes_before, writes_then}
 use Rattle.lq_script_lines.proofs.ResultLemmas.{no_other}
 use Rattle.lq_script_lines.proofs.ProgressLemmas.{fronts_all, fronts_handed, stands_handed, stands_stops, stands_within}
 use Rattle.lq_script_lines.proofs.RunLemmas.{end_outcome, less_left, read_none, read_outcome, run_ended, run_halted, run_passed, run_stopped, stands_none, write_outcome}
@@ -16,6 +17,7 @@ loop-out-init g c = record {
   reader_works = c.requires.reader_works;
   writer_works = c.requires.writer_works;
   writer_moves = c.requires.writer_moves;
+  calls = no_writes _;
 }
 
 -- a read, where each reply is written
@@ -37,6 +39,7 @@ returns-in_err-write_replies g c =
     (fronts_handed (stands_stops i.stands) says.err) in record {
       outcome = rw is (write_outcome stopped says.cause);
       begun = λ h. no_other (sym is ∙ h) refl;
+      calls = rw is (inl (says.ends.0, writes_before _ _ _ i.calls _ says.ends.1));
     }
 
 -- a fault of the writer after a read fault
@@ -51,6 +54,11 @@ returns-in_err-write_and_flush g c =
     (fronts_handed (stands_stops stood) says.err) in record {
       outcome = rw is (write_outcome stopped says.cause);
       begun = λ h. no_other (sym is ∙ h) refl;
+      calls = rw is (inl (
+        says.ends.0,
+        writes_before _ _ _ (writes_then _ _ _ i.calls c.in_ok-write_replies.ensures.writes)
+            _ says.ends.1,
+      ));
     }
 
 -- a read fault
@@ -66,6 +74,11 @@ returns-in_default g c =
     let ended = run_ended (stands_handed stood says.ok none) read none in record {
       outcome = read_outcome stopped ended says.flushed c.in_default.ensures.fails;
       begun = λ h. no_other h refl;
+      calls = (
+        says.flushes.0,
+        writes_before _ _ _ (writes_then _ _ _ i.calls c.in_ok-write_replies.ensures.writes)
+            _ says.flushes.1,
+      );
     }
 
 -- the end of the input
@@ -93,6 +106,7 @@ returns-then-count-eq0 g c =
           )) says.works) (λ h. says.memory_works h ∙ wrote.works.1 ∙ i.writer_moves) says.fault
           says.cause says.flushed says.memory_flushed;
       begun = halted;
+      calls = before_end _ _ _ (writes_then _ _ _ i.calls wrote.writes) r says.calls;
     }
 
 pub loop-out-smaller : goal.loop-out-smaller
@@ -114,6 +128,7 @@ loop-out-preserved g c =
       reader_works = c.in-Ok.ensures.works ∙ i.reader_works;
       writer_works = took.works.0 ∙ wrote.works.0 ∙ i.writer_works;
       writer_moves = took.works.1 ∙ wrote.works.1 ∙ i.writer_moves;
+      calls = writes_then _ _ _ (writes_then _ _ _ i.calls wrote.writes) took.calls;
     }
 
 -- a fault of a piece
@@ -144,4 +159,6 @@ returns-in_err-take_block g c =
         no_thread = says.not_thread;
       });
       begun = λ h. run_halted read (says.memory (sym is ∙ h) _ i.given stood);
+      calls = rw is (before_end _ _ _ (writes_then _ _ _ i.calls wrote.writes)
+          (Err c.in_err-take_block.field-0.0) says.calls_err);
     }

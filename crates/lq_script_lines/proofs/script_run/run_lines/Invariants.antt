@@ -1,5 +1,6 @@
 use Rattle.std.proofs.Common.{◌≡◌, ◌-◌, ℕ, List, false}
 use Rattle.std.specs.Io.KnownBytes.{Consumes}
+use Rattle.lq_script_lines.specs.Calls.{OnlyWrites}
 use Rattle.lq_script_lines.specs.Progress.{RunStands}
 use Rattle.lq_script_lines.proofs.script_run.run_lines.Given as goal
 
@@ -14,6 +15,7 @@ invariant-loop-out g l = record {
   reader_works : g.R.Client.failed l.reader ≡ false;
   writer_works : g.W.Sink.failed l.writer ≡ false;
   writer_moves : g.W.Sink.stalled l.writer ≡ false;
+  calls : OnlyWrites (g.W.Sink.calls l.fn.writer) (g.W.Sink.calls l.writer);
 }
 
 abbrev pub decreases-loop-out : goal.decreases-loop-out

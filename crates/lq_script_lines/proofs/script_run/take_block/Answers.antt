@@ -1,12 +1,19 @@
-use Rattle.std.proofs.Common.{◌≡◌, ◌∙◌, Err, ap, rules, refl, inl, inr}
+use Rattle.std.proofs.Common.{◌≡◌, ◌∙◌, Err, ap, rules, refl, sym, inl, inr}
 use Rattle.lq_script_lines.specs.declared.run_fault.RunFault.TheVariants.{Write}
+use Rattle.lq_script_lines.proofs.CallLemmas.{other_ends, other_writes, write_only, writes_before}
 use Rattle.lq_script_lines.proofs.ResultLemmas.{no_other}
 use Rattle.lq_script_lines.proofs.ProgressLemmas.{fronts_all, fronts_handed, halts_handed, stands_handed}
 use Rattle.lq_script_lines.proofs.script_run.take_block.Goals as goal
 
-pub returns-in-Err-Write-clause-cause : goal.returns-in-Err-Write-clause-cause
-returns-in-Err-Write-clause-cause g c =
-    λ _. c.in-Err-Write.ensures.taken.cause (ap Err c.in-Err-Write.field-0-is)
+pub returns-then-is_write-clause-cause : goal.returns-then-is_write-clause-cause
+returns-then-is_write-clause-cause g c =
+    let is = write_only c.in-Err.fault (sym c.is_write.ensures ∙ c.if-is_write.true) in
+    λ _. c.in-Err.ensures.taken.cause (ap Err is)
+
+pub returns-then-is_write-clause-calls_err : goal.returns-then-is_write-clause-calls_err
+returns-then-is_write-clause-calls_err g c =
+    let is = write_only c.in-Err.fault (sym c.is_write.ensures ∙ c.if-is_write.true) in
+    inl (rw is at c.in-Err.ensures.calls)
 
 pub returns-in_err-write_and_flush-in-Err : goal.returns-in_err-write_and_flush-in-Err
 returns-in_err-write_and_flush-in-Err g c =
@@ -24,6 +31,13 @@ returns-in_err-write_and_flush-in-Err g c =
       not_read = λ h. no_other h refl;
       not_thread = λ h. no_other h refl;
       cause = λ _. failed.cause;
+      calls = tt;
+      calls_err = inl (
+        failed.ends.0,
+        writes_before _ _ _
+            (other_writes _ _ c.in-Err.fault (sym c.is_write.ensures ∙ c.if-is_write.false)
+            c.in-Err.ensures.calls) _ failed.ends.1,
+      );
     })
 
 pub returns-in_ok-write_and_flush-in-Err : goal.returns-in_ok-write_and_flush-in-Err
@@ -47,4 +61,12 @@ returns-in_ok-write_and_flush-in-Err g c =
       not_read = says.not_read;
       not_thread = says.not_thread;
       cause = λ is. c.write_and_flush.ensures.stays (says.cause is);
+      calls = tt;
+      calls_err =
+          let other = sym c.is_write.ensures ∙ c.if-is_write.false in
+          other_ends _ _ c.in-Err.fault other (
+            wrote.flushes.0,
+            writes_before _ _ _
+                (other_writes _ _ c.in-Err.fault other c.in-Err.ensures.calls) _ wrote.flushes.1,
+          );
     }

@@ -1,4 +1,5 @@
-use Rattle.std.proofs.Common.{length, ◌∙◌, ap, arith, length-drop}
+use Rattle.std.proofs.Common.{length, ◌∙◌, ap, arith, false, length-drop, true}
+use Rattle.lq_script_lines.proofs.CallLemmas.{writes_end, writes_more}
 use Rattle.lq_script_lines.proofs.WritingLemmas.{appends_more, rest_is}
 use Rattle.lq_script_lines.proofs.writing.write_all.Goals as goal
 
@@ -14,4 +15,15 @@ loop-at-preserved g c = record {
       c.in-Ok.ensures.bytes;
   works = c.in-Ok.ensures.works ∙ c.loop-at.invariant.works;
   moves = c.in-Ok.ensures.some (omega arith) ∙ c.loop-at.invariant.moves;
+  calls = writes_more _ _ _ c.loop-at.invariant.calls c.in-Ok.ensures.call;
 }
+
+-- the writer took none of the rest
+pub returns-in-Ok-eq0-clause-ends : goal.returns-in-Ok-eq0-clause-ends
+returns-in-Ok-eq0-clause-ends g c =
+    (true, writes_end _ _ _ c.loop-at.invariant.calls _ c.in-Ok-eq0.ensures.call)
+
+-- the writer failed
+pub returns-in-Err-clause-ends : goal.returns-in-Err-clause-ends
+returns-in-Err-clause-ends g c =
+    (false, writes_end _ _ _ c.loop-at.invariant.calls _ c.in-Err.ensures.call)

@@ -1,5 +1,6 @@
 use Rattle.std.proofs.Common.{length, ◌-◌, ◌≡◌, ◌≤◌, take}
 use Rattle.std.specs.Io.KnownBytes.{Appends}
+use Rattle.lq_script_lines.specs.Calls.{OnlyWrites}
 use Rattle.lq_script_lines.proofs.writing.write_all.Given as goal
 
 abbrev pub invariant-loop-at : goal.invariant-loop-at
@@ -9,6 +10,7 @@ invariant-loop-at g l = record {
       Appends (g.W.Sink.written l.initial.writer) (g.W.Sink.written l.writer) (take l.at l.bytes);
   works : g.W.Sink.failed l.writer ≡ g.W.Sink.failed l.initial.writer;
   moves : g.W.Sink.stalled l.writer ≡ g.W.Sink.stalled l.initial.writer;
+  calls : OnlyWrites (g.W.Sink.calls l.initial.writer) (g.W.Sink.calls l.writer);
 }
 
 abbrev pub decreases-loop-at : goal.decreases-loop-at
