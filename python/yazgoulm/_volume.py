@@ -256,7 +256,7 @@ class Volume:
     def open(
         self,
         formula: Formula,
-        values: Optional[Iterable[Union[str, int]]] = (),
+        values: Optional[Iterable[Union[str, int]]] = None,
         *,
         backlog: int = 65_536,
         moved: bool = False,
@@ -279,12 +279,12 @@ class Volume:
                     found.append(it)
             return found
 
-    def fetch(self, formula: Formula, values: Optional[Iterable[Union[str, int]]] = ()) -> List[Entry]:
+    def fetch(self, formula: Formula, values: Optional[Iterable[Union[str, int]]] = None) -> List[Entry]:
         """The entries that match now, by rising node.
 
-        A literal of the formula that is just `$1` to `$256`, without quotes, stands for the value of that number. A str
-        is a text as it is, and no pattern; an int is a number. BadValues: a parameter has no value, or a value has no
-        parameter. With `values=None` a formula has no parameters, and `$1` is a text as any other."""
+        With `values`, a literal of the formula that is just `$1` to `$256`, without quotes, stands for the value of that
+        number. A str is a text as it is, and no pattern; an int is a number. BadValues: a parameter has no value, or a
+        value has no parameter. Without `values` a formula has no parameters, and `$1` is a text as any other."""
         return self._handle.fetch(*_arguments.asked(formula, values))
 
     def find(self, name: Name, dir: int = ROOT) -> int:

@@ -217,7 +217,7 @@ PARAMETERS = [
         ("[]", "BadValues", "has no item for $1"),
         ("()", "BadValues", "has no item for $1"),
     ]),
-    ("volume.fetch('name==$1')", "BadValues", "values has no item for $1"),
+    ("volume.fetch('name==$1', ())", "BadValues", "values has no item for $1"),
     ("volume.fetch('name==$2', ['x'])", "BadValues", "values has no item for $2"),
     ("volume.fetch('name==$1', ['x', 'y'])", "BadValues", "the formula has no $2, so values[1] isn't used"),
     ("volume.open('name==x', ['x'])", "BadValues", "the formula has no $1, so values[0] isn't used"),

@@ -1025,7 +1025,7 @@ class Values(Case):
         self.assertEqual(self.names("name==$1 || name==$2 || (name!=$1 && name==$2)", ["f1", "f2"]), ["f1", "f2"])
 
     def test_what_is_no_parameter(self):
-        """One in quotes, or with a `\\`; another number; an attribute; and any with `values=None`."""
+        """One in quotes, or with a `\\`; another number; an attribute; and any without values."""
         for name in "$1", "$0", "$01", "$257", "$1x", "x$1":
             self.volume.create(name, attributes={"$1": name})
         for literal, name in ('"$1"', "$1"), (r"\$1", "$1"), ("'$1'", "$1"):
@@ -1033,8 +1033,8 @@ class Values(Case):
         for name in "$0", "$01", "$257", "$1x", "x$1":
             self.assertEqual(self.names(f"name=={name}"), [name])
         self.assertEqual(self.names("$1==$1", ["$1x"]), ["$1x"])
-        self.assertEqual(self.names("name==$1", None), ["$1"])
-        with self.volume.open("name==$1", None) as query:
+        self.assertEqual(self.names("name==$1"), ["$1"])
+        with self.volume.open("name==$1") as query:
             self.assertEqual(([it.name for it in query.entries], query.reopen().created), (["$1"], []))
 
     def test_refusals_of_values(self):
