@@ -7,6 +7,7 @@
 #![tactic(auto)]
 
 mod attrs;
+mod bound_values;
 mod changes;
 mod folders;
 mod handle;
