@@ -19,9 +19,10 @@ _RANGES: Dict[str, Tuple[int, int]] = {
 
 def whole(argument: str, value: Any, least: int = -(1 << 63), most: int = (1 << 63) - 1) -> int:
     """A whole number from `least` to `most`."""
-    if not is_whole(value):
-        raise TypeError(f"{argument} must be a whole number, not {said(value)}")
-    number = operator.index(value)
+    try:
+        number = operator.index(value)
+    except TypeError:
+        raise TypeError(f"{argument} must be a whole number, not {said(value)}") from None
     if not least <= number <= most:
         raise ValueError(f"{argument} must be from {least} to {most}, not {said(number)}")
     return number
