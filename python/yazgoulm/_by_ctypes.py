@@ -195,7 +195,9 @@ class Handle:
 
     def _call(self, name: str, said: Tuple[Any, ...], call: Any, *given: Any) -> None:
         """Makes a call, under the lock. Where it is refused, the exception says the name and what the caller said."""
-        self._want(call(self._own(), *given), name, said)
+        status = call(self._own(), *given)
+        if status:
+            self._want(status, name, said)
 
     def _want(self, status: int, name: str, said: Tuple[Any, ...], has_values: bool = False) -> None:
         if status:
