@@ -1,5 +1,5 @@
 -- The result of each slot by what was read from it: one fold for each.
-use Rattle.std.specs.Prelude.{ℕ, ◌-◌, List, replicate, Option, Some, None, ◌==◌, slice_get, slice_set, if◌then◌else◌}
+use Rattle.std.specs.Prelude.{ℕ, ◌-◌, List, replicate, Bool, true, false, Option, Some, None, ◌==◌, slice_get, slice_set, if◌then◌else◌}
 use Rattle.std.specs.Option.{option_map, option_flatten}
 use Rattle.lq_value.specs.declared.refusal.Refusal.{Refusal}
 use Rattle.lq_value.specs.Refusal.{first_refusal}
@@ -42,6 +42,12 @@ folds_after slot (Took (Update m)) folds =
     with_fold folds slot (option_map (after_message m) (fold_at folds slot))
 folds_after slot Finished folds = with_fold folds slot None
 folds_after slot a folds = folds
+
+-- an answer that starts a fold or updates one, which may take memory
+abbrev pub is_folded : Answer → Bool
+is_folded (Opened slot at result) = true
+is_folded (Took (Update m)) = true
+is_folded a = false
 
 -- an opening's result rises by node, so a fold can start from it
 abbrev pub ResultRises : Answer → Type 0

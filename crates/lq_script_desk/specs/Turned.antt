@@ -1,5 +1,5 @@
 -- A turn: its answer, and the session after it. It comes without a line, or by one.
-use Rattle.std.specs.Prelude.{◌≡◌, ◌⊎◌, ℕ, Option, Some, None, Result, IsErr, OnOk}
+use Rattle.std.specs.Prelude.{◌≡◌, ◌⊎◌, ℕ, true, Option, Some, None, Result, IsErr, OnOk}
 use Rattle.lq_value.specs.declared.refusal.Refusal.{Refusal}
 use Rattle.lq_value.specs.declared.refusal.Refusal.TheVariants.{NoMemory}
 use Rattle.lq_desk_world.specs.declared.event.Event.{Event}
@@ -9,7 +9,7 @@ use Rattle.lq_desk.specs.Turn.{TurnRuns}
 use Rattle.lq_script_request.specs.declared.request.Request.{Request}
 use Rattle.lq_script_request.specs.declared.request.Request.TheVariants as request
 use Rattle.lq_script_desk.specs.SessionHistory.{KeepsHistory}
-use Rattle.lq_script_desk.specs.Folds.{Folds, folds_after, with_fold}
+use Rattle.lq_script_desk.specs.Folds.{Folds, folds_after, is_folded, with_fold}
 use Rattle.lq_script_desk.specs.Session.{Session}
 use Rattle.lq_script_desk.specs.Answered.{slot_named}
 
@@ -18,10 +18,11 @@ abbrev pub folded_slot : ℕ → Answer → ℕ
 folded_slot slot (Opened opened at result) = opened
 folded_slot slot a = slot
 
--- the folds are updated by the answer, or memory ran out for the slot's fold and it has none
+-- The folds are updated by the answer; or it starts or updates a fold, memory ran out for that, and
+-- the slot has none.
 abbrev pub Follow : ℕ → Answer → Folds → Folds → Type 0
-Follow slot a old new =
-    (new ≡ folds_after slot a old) ⊎ (new ≡ with_fold old (folded_slot slot a) None)
+Follow slot a old new = (new ≡ folds_after slot a old)
+    ⊎ ((is_folded a ≡ true) × (new ≡ with_fold old (folded_slot slot a) None))
 
 -- The answer and the world are those of the event's turn, as after a line that asks for it. Where
 -- memory ran out for the event, the rest of its turn stands: the turn is a run to the new world.

@@ -1,10 +1,10 @@
 //! The result of each slot, rebuilt from what was read from it.
-ghost use Rattle.std.specs.Prelude.{◌≡◌, ◌⊎◌, ◌<◌, ◌+◌, length, MatchOption, IfOk, IfErr, OnOk, OnErr};
+ghost use Rattle.std.specs.Prelude.{◌≡◌, ◌⊎◌, ◌<◌, ◌+◌, length, true, MatchOption, IfOk, IfErr, OnOk, OnErr};
 ghost use Rattle.std.specs.Option.{option_map};
 ghost use Rattle.lq_value.specs.declared.refusal.Refusal.TheVariants.{NoMemory};
 ghost use Rattle.lq_value.specs.Refusal.{FailsOnlyForMemory};
 ghost use Rattle.lq_desk.specs.Reply.{answer_of};
-ghost use Rattle.lq_script_desk.specs.Folds.{ResultRises, after_message, fold_at, folds_after, no_folds, with_fold};
+ghost use Rattle.lq_script_desk.specs.Folds.{ResultRises, after_message, fold_at, folds_after, is_folded, no_folds, with_fold};
 ghost use Rattle.lq_script_desk.specs.Turned.{Follow, folded_slot};
 
 use lq_desk::{Read, Reply, SLOTS};
@@ -27,7 +27,7 @@ pub fn no_rebuilds(alloc: Global) -> Result<Vec<Option<IndexedRebuild>>, Refusal
 /// Updates the results by the reply to an event of a slot: starts one for an opening, folds an
 /// update that was read into it, and drops it when the slot is freed.
 ///
-/// Refused: `NoMemory`; the results are then unchanged.
+/// Refused: `NoMemory`, for an opening or an update; the results are then unchanged.
 pub fn fold_reply(
     alloc: Global,
     rebuilds: &mut Vec<Option<IndexedRebuild>>,
@@ -39,6 +39,7 @@ pub fn fold_reply(
         ≡ folds_after slot (answer_of reply.now) rebuilds.old.items) }
     ensures err { OnErr result (rebuilds.new.items ≡ rebuilds.old.items) }
     ensures memory { IfErr result (λ e. e ≡ NoMemory) }
+    ensures folded { OnErr result (is_folded (answer_of reply.now) ≡ true) }
 {
     match reply {
         Reply::Opened {
