@@ -1,5 +1,6 @@
 //! A whole script over a volume with the root alone.
 ghost use Rattle.std.specs.Prelude.{◌≡◌, false};
+ghost use Rattle.lq_script_lines.specs.Calls.{CallsOf};
 ghost use Rattle.lq_script_lines.specs.Outcome.{IsRunOutcome, MayReadAfterReplies, reader_log, writer_log};
 ghost use Rattle.lq_script_desk.specs.Script.{script_session, world_rules};
 ghost use Rattle.lq_script_desk.specs.History.{TellsReaders};
@@ -16,12 +17,12 @@ use std::alloc::Global;
 ///
 /// At each read of the device the writer has exactly the replies to the lines that LF ended by
 /// then: a reader that may be read at just these moments will do (`waits`). The writer is flushed
-/// once at the end, also after `Read`, `Limit` and `Memory`. Refused with the first fault: `Read`
-/// and `Write` where that device failed, `Write` also where the writer took none of the bytes
-/// given, `Limit` where a byte follows 10,000,000 lines or 1,073,741,824 bytes, `Memory`, also
-/// where the run can't begin. After `Read` and `Limit` exactly the lines that LF ended are
-/// answered, after `Memory` the lines before one that isn't, or none where the run can't begin, and
-/// after `Write` a prefix of the replies is written. The formats and limits are our own.
+/// once, as the last call, also after `Read`, `Limit` and `Memory`. Refused: `Read` and `Write`
+/// where that device failed, `Write` also where the writer took none of the bytes given, `Limit`
+/// where a byte follows 10,000,000 lines or 1,073,741,824 bytes, `Memory`, also where the run can't
+/// begin. After `Read` and `Limit` exactly the lines that LF ended are answered, after `Memory` the
+/// lines before one that isn't, or none where the run can't begin, and after `Write` a prefix of
+/// the replies is written. The formats and limits are our own.
 pub fn run<R: Client, W: Sink>(
     alloc: Global,
     reader: &mut R,
@@ -36,6 +37,7 @@ pub fn run<R: Client, W: Sink>(
         (reader_log (R.left reader.old) (R.left reader.new) (R.failed reader.new))
         (writer_log (W.written writer.old) (W.written writer.new)
         (W.failed writer.new) (W.stalled writer.new) (W.flushed writer.new)) }
+    ensures calls { CallsOf result (W.calls writer.old) (W.calls writer.new) }
 
     // The headline, from bytes to bytes.
     ensures readers { TellsReaders result

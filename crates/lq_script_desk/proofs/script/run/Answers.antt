@@ -54,6 +54,7 @@ returns-in_default g c =
     c.out_of_memory.ensures.flushed c.requires.reader_works
     (c.out_of_memory.ensures.stalls ∙ c.requires.writer_moves) in record {
       outcome = outcome;
+      calls = rw (c.out_of_memory.ensures.fault) c.out_of_memory.ensures.flushes;
       readers = run-tells c.scripts_tell_readers.ensures _ _ _ outcome;
     }
 
@@ -64,6 +65,7 @@ returns-in_default-no_rebuilds g c =
     (ap Err says.fault) says.bytes says.flushed c.requires.reader_works
     (says.stalls ∙ c.requires.writer_moves) in record {
       outcome = outcome;
+      calls = rw (says.fault) says.flushes;
       readers = run-tells c.scripts_tell_readers.ensures _ _ _ outcome;
     }
 
@@ -89,5 +91,6 @@ returns g c =
     )
     at c.run_lines.ensures.outcome in record {
       outcome = outcome;
+      calls = c.run_lines.ensures.calls;
       readers = run-tells c.scripts_tell_readers.ensures _ _ _ outcome;
     }
