@@ -1,16 +1,15 @@
 -- One character more, and one byte more, of a text whose `\` are taken off.
-use Rattle.std.proofs.Common.{◌≡◌, ◌≤◌, ◌<◌, length, drop, get_or, ◌+◌, ℕ, Bool, true, false, List, [], ◌∷◌, ◌++◌, refl, sym, ap, ◌∙◌, arith, append_assoc, eq-eqb}
+use Rattle.std.proofs.Common.{◌≡◌, ◌<◌, length, ◌+◌, ℕ, Bool, true, false, List, [], ◌∷◌, ◌++◌, refl, sym, ap, ◌∙◌, arith, append_assoc}
 use Rattle.std.proofs.lemmas.Bool.{ne_eqb}
 use Rattle.std.proofs.lemmas.Str.{encode_ascii}
 use Rattle.std.proofs.Math.Dec.{lit<}
 use Rattle.std.proofs.Math.Utf8.{encode}
-use Rattle.std.specs.Prelude.{◌==◌, if◌then◌else◌, is_some, Some, None}
+use Rattle.std.specs.Prelude.{if◌then◌else◌, is_some, Some, None}
 use Rattle.lq_value.specs.declared.refusal.Refusal.TheVariants.{BadName}
 use Rattle.lq_value.specs.Name.{is_attr_name}
-use Rattle.lq_predicate_formula.specs.Literals.{has_no_nul, name_refusal, unescaped}
+use Rattle.lq_predicate_formula.specs.Literals.{name_refusal, unescaped}
 use Rattle.lq_predicate_formula.proofs.QuotingLemmas.{AreHigh, first_not, opened}
-use Rattle.lq_predicate_formula.proofs.CountLemmas.{at_byte}
-use Rattle.std.proofs.lemmas.List.{drop_all, nil_from_length}
+use Rattle.std.proofs.lemmas.List.{nil_from_length}
 
 -- a byte that is no `\` stays, and what follows is unescaped
 one_plain : (b : ℕ) (bs : List ℕ) → (b ≡ 92 → ⊥) → unescaped false (b ∷ bs) ≡ b ∷ unescaped false bs
@@ -50,71 +49,7 @@ pub one_more : (done bs whole : List ℕ) (c : ℕ) (all tail : List ℕ)
 one_more done bs whole c all tail e f g =
     ap (λ l. l ++ tail) f ∙ append_assoc done (encode c) tail ∙ ap (λ l. done ++ l) (sym g) ∙ e
 
--- ---- by bytes
-
--- a byte that is no `\`
-pub plain_byte : (bs : List ℕ) (n : ℕ) → n < length bs → (get_or bs n 0 == 92) ≡ false
-    → unescaped false (drop n bs) ≡ get_or bs n 0 ∷ unescaped false (drop (n + 1) bs)
-plain_byte bs n h e = rw (at_byte bs n h, e)
-
--- a `\` and the byte behind it
-pub escaped_byte : (bs : List ℕ) (n : ℕ) → n + 1 < length bs → (get_or bs n 0 == 92) ≡ true
-    → unescaped false (drop n bs) ≡ get_or bs (n + 1) 0 ∷ unescaped false (drop (n + 2) bs)
-escaped_byte bs n h e =
-    let two : n + 1 + 1 ≡ n + 2 = omega arith in
-    rw (at_byte bs n (omega arith), e, at_byte bs (n + 1) h, two)
-
--- a last `\`
-pub last_byte : (bs : List ℕ) (n : ℕ) → n < length bs → length bs ≤ n + 1
-    → (get_or bs n 0 == 92) ≡ true → unescaped false (drop n bs) ≡ []
-last_byte bs n h k e = rw (at_byte bs n h, e, drop_all (n + 1) bs k)
-
--- what is counted so far, and what is left
-pub record Counted (bs : List ℕ) (n count : ℕ) : Type 0 where
-  pub bound : n ≤ length bs
-  pub size : count + length (unescaped false (drop n bs)) ≡ length (unescaped false bs)
-  pub small : count ≤ n
-  pub clean : has_no_nul (unescaped false (drop n bs)) ≡ has_no_nul (unescaped false bs)
-
--- a byte that isn't NUL is counted, for so many bytes of the text
-counted_on : (bs : List ℕ) (n count b k : ℕ) → Counted bs n count → 1 ≤ k → n + k ≤ length bs
-    → unescaped false (drop n bs) ≡ b ∷ unescaped false (drop (n + k) bs) → (b ≡ 0 → ⊥)
-    → Counted bs (n + k) (count + 1)
-counted_on bs n count b k s some bound e z = record {
-  bound = bound;
-  size = omega (arith, ap length e, s.size);
-  small = omega (arith, s.small);
-  clean = sym (ap has_no_nul e ∙ rw (ne_eqb b 0 z)) ∙ s.clean;
-}
-
--- a byte that is no `\` is counted
-pub counted_plain : (bs : List ℕ) (n count : ℕ) → Counted bs n count → n < length bs
-    → (get_or bs n 0 ≡ 92 → ⊥) → (get_or bs n 0 ≡ 0 → ⊥) → Counted bs (n + 1) (count + 1)
-counted_plain bs n count s h p z = counted_on bs n count (get_or bs n 0) 1 s (omega arith)
-    (omega arith) (plain_byte bs n h (ne_eqb _ 92 p)) z
-
--- a `\` and the byte behind it are counted as one
-pub counted_escaped : (bs : List ℕ) (n count : ℕ) → Counted bs n count → n + 1 < length bs
-    → get_or bs n 0 ≡ 92 → (get_or bs (n + 1) 0 ≡ 0 → ⊥) → Counted bs (n + 2) (count + 1)
-counted_escaped bs n count s h p z = counted_on bs n count (get_or bs (n + 1) 0) 2 s
-    (omega arith) (omega arith) (escaped_byte bs n h (eq-eqb _ 92 p)) z
-
--- where nothing is left, the count is whole, and no byte was NUL
-pub counted_end : (bs : List ℕ) (n count : ℕ) → Counted bs n count
-    → unescaped false (drop n bs) ≡ []
-    → (count ≡ length (unescaped false bs)) × (has_no_nul (unescaped false bs) ≡ true)
-counted_end bs n count s e = (omega (arith, ap length e, s.size), sym s.clean ∙ ap has_no_nul e)
-
--- where a NUL is next, one byte is NUL
-pub counted_nul : (bs : List ℕ) (n count b : ℕ) (rest : List ℕ) → Counted bs n count
-    → unescaped false (drop n bs) ≡ b ∷ rest → b ≡ 0 → has_no_nul (unescaped false bs) ≡ false
-counted_nul bs n count b rest s e z = sym s.clean ∙ ap has_no_nul e ∙ rw z
-
--- nothing is left at the end
-pub none_left : (bs : List ℕ) (n : ℕ) → length bs ≤ n → unescaped false (drop n bs) ≡ []
-none_left bs n h = ap (unescaped false) (drop_all n bs h)
-
--- and no text is none, behind a `\` too
+-- no text stays none, behind a `\` too
 pub unescaped_none : (b : Bool) (bs : List ℕ) → length bs ≡ 0 → unescaped b bs ≡ []
 unescaped_none true bs h = ap (unescaped true) (nil_from_length bs h)
 unescaped_none false bs h = ap (unescaped false) (nil_from_length bs h)

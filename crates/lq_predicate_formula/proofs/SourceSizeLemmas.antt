@@ -1,5 +1,5 @@
 -- The lengths of canonical texts, and the size of a pattern while its source is read.
-use Rattle.std.proofs.Common.{◌≡◌, ◌+◌, ◌≤◌, ℕ, List, [], ◌∷◌, ◌++◌, length, ap, ◌∙◌, arith, ◌<◌, ◌-◌, ◌^◌, refl, sym, Bool, true, false, Option, Some, None, Bor}
+use Rattle.std.proofs.Common.{◌≡◌, ◌+◌, ◌≤◌, ℕ, List, [], ◌∷◌, ◌++◌, length, ap, ◌∙◌, arith, ◌<◌, ◌-◌, ◌^◌, refl, sym, Bool, true, false, Option, Some, None}
 use Rattle.std.proofs.lemmas.List.{length-append}
 use Rattle.std.specs.Str.{encode_utf8_all, IsUtf8}
 use Rattle.std.specs.Prelude.{Result, Ok, Err, if◌then◌else◌, encode_utf8}
@@ -11,9 +11,7 @@ use Rattle.lq_value.specs.Item.{Item}
 use Rattle.lq_value.specs.declared.literal.Literal.{Literal}
 use Rattle.lq_value.specs.declared.op.Op.{Op}
 use Rattle.lq_value.specs.Element.TheVariants.{Set}
-use Rattle.lq_value.specs.FirstItem.{FirstItem}
-use Rattle.lq_value.specs.FirstItem.TheVariants as items
-use Rattle.lq_value.specs.Reading.{first_item_of}
+use Rattle.lq_value.specs.Item.TheVariants.{One, Range}
 use Rattle.lq_value.specs.Laws.{AreWalked, SourcesAreWalked}
 use Rattle.lq_value.specs.Sign.{Signs, signs_of, signs_len}
 use Rattle.lq_value.specs.Source.{First, ends, has, faulty, Pieces, whole, stuck, begin, after_first, elements_or_place, element_at, item_at, pattern_of, pieces_of, set_with}
@@ -21,6 +19,7 @@ use Rattle.lq_predicate_formula.specs.Query.{Compare}
 use Rattle.lq_predicate_formula.specs.Canonical.{in_marks, attr_then, op_text, literal_text, pattern_text, element_then, item_then, items_then, canonical}
 use Rattle.lq_predicate_formula.specs.Capped.{capped}
 use Rattle.lq_predicate_formula.specs.Sizes.{HasSize, pattern_bytes, items_bytes, pattern_sized, items_sized}
+use Rattle.lq_predicate_formula.proofs.QuotingLemmas.{opened}
 use Rattle.lq_predicate_formula.proofs.WritingLemmas.{attr_then-append, items_step, list_step}
 
 -- a comparison's text has four bytes beside those of its three parts
@@ -59,7 +58,7 @@ step_by {first = first} w ss r e = w.step ss ∙ ap (λ x. after_first ss x (pie
 
 -- an item counted now is one counted with the items after it
 item_more : (n n' p : ℕ) (i : Item) (r : Pieces Item)
-    → p ≡ length (encode_utf8_all (item_then i [])) → n' ≡ capped (n + p)
+    → p ≡ capped (length (encode_utf8_all (item_then i []))) → n' ≡ capped (n + p)
     → items_sized n' r ≡ items_sized n (begin i r)
 item_more n n' p i (whole is rest) e new =
     let split = item_split i is in
@@ -69,7 +68,8 @@ item_more n n' p i (stuck rest) e new = refl
 -- while a set's source is read: one item more keeps what the whole will be
 pub items_on : SourcesAreWalked → (n n' p : ℕ) (ss rest : Signs) (i : Item)
     (all : Option (ℕ × Signs)) → items_sized n (pieces_of item_at ss) ≡ all
-    → item_at ss ≡ has i rest → p ≡ length (encode_utf8_all (item_then i [])) → n' ≡ capped (n + p)
+    → item_at ss ≡ has i rest → p ≡ capped (length (encode_utf8_all (item_then i [])))
+    → n' ≡ capped (n + p)
     → items_sized n' (pieces_of item_at rest) ≡ all
 items_on law n n' p ss rest i all so_far is e new =
     item_more n n' p i (pieces_of item_at rest) e new
@@ -104,38 +104,48 @@ items_whole (whole is behind) size rest e =
     (is, ap (whole is) same.1, omega (arith, same.0))
 items_whole (stuck behind) size rest e = absurd (none-some (size, rest) e)
 
--- nothing stands between the `[` and its `]`
-pub set_empty : SourcesAreWalked → (ss rest : Signs) (negated : Bool) → item_at ss ≡ ends rest
-    → set_with negated (pieces_of item_at ss) ≡ faulty
-set_empty law ss rest negated e = ap (set_with negated) (step_by law.items ss (ends rest) e)
-
 -- a set whose items are not whole is bad
 pub set_stuck : (r : Pieces Item) (negated : Bool) → items_sized 0 r ≡ None
     → set_with negated r ≡ faulty
 set_stuck (whole is rest) negated e = absurd (none-some _ (sym e))
 set_stuck (stuck rest) negated e = refl
 
--- a set that has begun with an item is not empty
-begun_some : (i : Item) (r : Pieces Item) (rest : Signs) → begin i r ≡ whole [] rest → ⊥
-begun_some i (whole is behind) rest e = cc
-begun_some i (stuck behind) rest e = cc
+-- either text has a byte if it has a character
+some_bytes : (b : Bool) (c d : ℕ) (cs ds : List ℕ)
+    → 1 ≤ length (encode_utf8_all (if b then c ∷ cs else d ∷ ds))
+some_bytes true c d cs ds =
+    let split = ap length (opened c).split in
+    let both = length-append (encode_utf8 c) (encode_utf8_all cs) in
+    omega (arith, split, both)
+some_bytes false c d cs ds =
+    let split = ap length (opened d).split in
+    let both = length-append (encode_utf8 d) (encode_utf8_all ds) in
+    omega (arith, split, both)
 
--- an item, or a fault
-pub not_ended : (r : FirstItem) → ((rest : Bor (List ℕ)) → r ≡ items.End rest → ⊥)
-    → (behind : Signs) → first_item_of r ≡ ends behind → ⊥
-not_ended (items.End rest) h behind e = h rest refl
-not_ended (items.Has item rest) h behind e = cc
-not_ended items.Faulty h behind e = cc
+-- an item has a byte at least
+item_some : (i : Item) → 1 ≤ length (encode_utf8_all (item_then i []))
+item_some (One c) = some_bytes _ _ _ _ _
+item_some (Range c d) = some_bytes _ _ _ _ _
 
--- a set whose source doesn't end at once has an item
-some_items : SourcesAreWalked → (ss rest : Signs) → (r : First Item) → item_at ss ≡ r
-    → ((behind : Signs) → r ≡ ends behind → ⊥) → pieces_of item_at ss ≡ whole [] rest → ⊥
-some_items law ss rest (ends behind) is some e = some behind refl
-some_items law ss rest (has i behind) is some e =
-    begun_some i (pieces_of item_at behind) rest (sym (step_by law.items ss (has i behind) is) ∙ e)
-some_items law ss rest faulty is some e =
-    let same = step_by law.items ss faulty is in
-    absurd (let no : ⊥ = cc in no)
+-- and the items of a set have their `]`
+items_some : (is : List Item) → 1 ≤ items_bytes is
+items_some [] = omega (arith, one_byte 93 (lit< tt))
+items_some (i ∷ is) = omega (arith, item_split i is, items_some is)
+
+-- a set's items have one byte just where there is none
+only_end : (is : List Item) → 1 < items_bytes is → is ≡ [] → ⊥
+only_end [] more e = omega (arith, more, one_byte 93 (lit< tt))
+only_end (i ∷ is) more e = cc
+
+-- a set of one byte has no item, and is bad
+pub set_empty : (r : Pieces Item) (negated : Bool) (n : ℕ) (rest : Signs)
+    → items_sized 0 r ≡ Some (n, rest) → n ≤ 1 → set_with negated r ≡ faulty
+set_empty (whole [] rest) negated n behind e h = refl
+set_empty (whole (i ∷ is) rest) negated n behind e h =
+    let same = (some_pair_parts _ n rest behind e).0 in
+    let no : ⊥ = omega (arith, same, h, item_split i is, item_some i, items_some is) in
+    absurd no
+set_empty (stuck rest) negated n behind e h = refl
 
 -- a set's text is its `[` or `[^`, and that of its items
 set_bytes : (negated : Bool) (is : List Item)
@@ -158,18 +168,15 @@ set_of negated [] rest some = absurd (some refl)
 set_of negated (i ∷ is) rest some = refl
 
 -- a set that was read whole has the size that was counted, and that of its opening
-pub set_sized : SourcesAreWalked → (text rest : List ℕ) (negated : Bool) (n m : ℕ) → IsUtf8 rest
-    → ((behind : Signs) → item_at (signs_of text) ≡ ends behind → ⊥)
-    → items_sized 0 (pieces_of item_at (signs_of text)) ≡ Some (n, signs_of rest)
-    → m ≡ capped (n + (if negated then 2 else 1))
-    → HasSize (set_with negated (pieces_of item_at (signs_of text))) m rest
-set_sized law text rest negated n m utf8 some e new =
-    let w = items_whole (pieces_of item_at (signs_of text)) n (signs_of rest) e in
-    let has_some : w.0 ≡ [] → ⊥ = λ none. some_items law (signs_of text) (signs_of rest)
-    (item_at (signs_of text)) refl some (w.1 ∙ ap (λ is. whole is (signs_of rest)) none) in
+pub set_sized : (r : Pieces Item) (rest : List ℕ) (negated : Bool) (n m : ℕ) → IsUtf8 rest
+    → items_sized 0 r ≡ Some (n, signs_of rest) → 1 < n
+    → m ≡ capped (n + (if negated then 2 else 1)) → HasSize (set_with negated r) m rest
+set_sized r rest negated n m utf8 e more new =
+    let w = items_whole r n (signs_of rest) e in
     record {
       element = Set negated w.0;
-      is = ap (set_with negated) w.1 ∙ set_of negated w.0 (signs_of rest) has_some;
+      is = ap (set_with negated) w.1
+          ∙ set_of negated w.0 (signs_of rest) (only_end w.0 (omega (arith, more, w.2)));
       size_is = omega (arith, new, set_bytes negated w.0, w.2);
       text = utf8;
     }

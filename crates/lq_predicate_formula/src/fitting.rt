@@ -4,6 +4,7 @@ ghost use Rattle.lq_predicate_formula.specs.Canonical.{comparisons};
 ghost use Rattle.lq_predicate_formula.specs.Query.{And, Not, Or, queries};
 ghost use Rattle.lq_predicate_formula.specs.PredicateLimits.{is_within};
 
+use crate::size::pair_size;
 use crate::tree::Tree;
 
 /// The greatest depth of a predicate.
@@ -34,6 +35,5 @@ pub fn fit_joined(lower: &Tree, upper: &Tree) -> bool
 {
     let shallow = lower.is_shallow(MAX_DEPTH - 1) && upper.is_shallow(MAX_DEPTH - 1);
     let few = lower.comparisons() + upper.comparisons() <= MAX_COMPARISONS;
-    let size = lower.size().saturating_add(upper.size()).saturating_add(4);
-    shallow && few && size <= MAX_CANONICAL
+    shallow && few && pair_size(lower.size(), upper.size()) <= MAX_CANONICAL
 }

@@ -35,7 +35,9 @@ pub use lexer::next_token;
 pub use raw::{is_name, read_literal, read_name};
 pub use raw_size::{joined_size, raw_literal_size, raw_name_size};
 pub use row::Row;
-pub use size::{characters_size, comparison_size, comparison_size_with, pattern_size, plain_size};
+pub use size::{
+    characters_size, comparison_size, comparison_size_with, pair_size, pattern_size, plain_size,
+};
 pub use span::Span;
 pub use token::{Cursor, Placed, Token};
 pub use tree::Tree;

@@ -1,5 +1,5 @@
 //! Names of attributes and literals, from their raw texts.
-ghost use Rattle.std.specs.Prelude.{◌≡◌, Some, IfOk, IfSome, IfNone, is_some, false, true, length};
+ghost use Rattle.std.specs.Prelude.{◌≡◌, ◌∷◌, ◌<◌, ◌≤◌, [], Some, IfOk, IfSome, IfNone, MatchOption, drop, is_some, false, true, length};
 ghost use Rattle.std.specs.String.{string_bytes};
 ghost use Rattle.lq_value.specs.Compare.{takes_pattern as patterned};
 ghost use Rattle.lq_value.specs.Refusal.{FailsOnlyForMemory, IsRefusedBy};
@@ -70,26 +70,35 @@ pub(crate) fn count_unescaped(bytes: &[u8]) -> Option<usize>
     ensures nul { IfSome result (λ n. has_no_nul (unescaped false bytes.now) ≡ true) }
 {
     let mut count = 0;
-    let mut n = 0;
-    while n < bytes.len() {
-        let b = bytes[n];
-        if b == b'\\' {
-            if bytes.len() - n < 2 {
-                return Some(count);
-            }
-            if bytes[n + 1] == 0 {
-                return None;
-            }
-            count += 1;
-            n += 2;
-        } else if b == 0 {
+    let mut at = 0;
+    while let Some((byte, next)) = next_unescaped(bytes, at) {
+        if byte == 0 {
             return None;
-        } else {
-            count += 1;
-            n += 1;
         }
+        count += 1;
+        at = next;
     }
     Some(count)
+}
+
+// The next byte that isn't a `\` before another byte, and the offset after it.
+pub(crate) fn next_unescaped(bytes: &[u8], at: usize) -> Option<(u8, usize)>
+    requires { at ≤ length bytes.now }
+    ensures value { MatchOption result (unescaped false (drop at bytes.now) ≡ [])
+        (λ r. unescaped false (drop at bytes.now) ≡ r.0 ∷ unescaped false (drop r.1 bytes.now)) }
+    ensures bound { IfSome result (λ r. (at < r.1) × (r.1 ≤ length bytes.now)) }
+{
+    if at == bytes.len() {
+        return None;
+    }
+    let byte = bytes[at];
+    if byte != b'\\' {
+        return Some((byte, at + 1));
+    }
+    if bytes.len() - at < 2 {
+        return None;
+    }
+    Some((bytes[at + 1], at + 2))
 }
 
 // The text without the `\` before each escaped character.

@@ -1,17 +1,17 @@
-//! The size in canonical text of names and literals, from their raw texts.
-ghost use Rattle.std.specs.Prelude.{◌≡◌, ◌∷◌, ◌<◌, ◌≤◌, ℕ, List, [], None, Some, IfErr, IfOk, IfSome, MatchOption, drop, false, length, option_map};
+//! The size in canonical text of names and literals, from their raw texts: a formula's size and
+//! faults are found before its query takes memory.
+ghost use Rattle.std.specs.Prelude.{◌≡◌, ◌∷◌, ℕ, List, [], None, Some, IfErr, IfOk, false, length, option_map};
 ghost use Rattle.std.specs.List.{list_all};
-ghost use Rattle.lq_predicate_formula.specs.Canonical.{attr_then, canonical, is_bare_byte, literal_text, quoted};
+ghost use Rattle.lq_predicate_formula.specs.Canonical.{canonical, is_bare_byte, quoted};
 ghost use Rattle.lq_predicate_formula.specs.Capped.{capped};
 ghost use Rattle.lq_predicate_formula.specs.Literals.{literal_fault, literal_of, name_of, unescaped};
 ghost use Rattle.lq_predicate_formula.specs.Query.{Compare};
 ghost use Rattle.lq_predicate_formula.specs.Sizes.{literal_bytes, name_bytes};
 ghost use Rattle.lq_value.specs.declared.literal.Literal.{Literal};
 
-use crate::raw::{count_unescaped, takes_pattern};
-use crate::size::op_size;
+use crate::raw::{count_unescaped, next_unescaped, takes_pattern};
 use crate::source_size::source_size;
-use crate::writing::is_bare_byte;
+use crate::writing::{is_bare_byte, op_text};
 use lq_value::{MAX_ATTR_NAME, Op};
 
 /// The number of bytes in canonical text of the attribute's name in a raw text; the greatest usize
@@ -50,12 +50,13 @@ pub fn raw_literal_size(op: Op, raw: &str) -> Result<usize, u64>
 }
 
 /// The size of a comparison, from the sizes of its attribute's name and of its literal as the calls
-/// above count them. It takes no memory.
+/// above count them: it adds the operator, the parentheses and the literal's marks. It takes no
+/// memory.
 pub fn joined_size(attr: usize, op: Op, literal: usize) -> usize
     ensures { (name : List ℕ) (l : Literal) → attr ≡ name_bytes name → literal ≡ literal_bytes l
         → result ≡ capped (length (canonical (Compare name op l))) }
 {
-    attr.saturating_add(op_size(op))
+    attr.saturating_add(op_text(op).len())
         .saturating_add(literal)
         .saturating_add(4)
 }
@@ -91,24 +92,4 @@ fn quoted_byte_size(byte: u8) -> usize
     ensures { result ≡ length (quoted (byte ∷ [])) }
 {
     if byte == b'\\' || byte == b'"' { 2 } else { 1 }
-}
-
-// The next byte that isn't a `\` before another byte, and the offset after it.
-fn next_unescaped(bytes: &[u8], at: usize) -> Option<(u8, usize)>
-    requires { at ≤ length bytes.now }
-    ensures value { MatchOption result (unescaped false (drop at bytes.now) ≡ [])
-        (λ r. unescaped false (drop at bytes.now) ≡ r.0 ∷ unescaped false (drop r.1 bytes.now)) }
-    ensures bound { IfSome result (λ r. (at < r.1) × (r.1 ≤ length bytes.now)) }
-{
-    if at == bytes.len() {
-        return None;
-    }
-    let byte = bytes[at];
-    if byte != b'\\' {
-        return Some((byte, at + 1));
-    }
-    if bytes.len() - at < 2 {
-        return None;
-    }
-    Some((bytes[at + 1], at + 2))
 }

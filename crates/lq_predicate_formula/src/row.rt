@@ -1,4 +1,4 @@
-//! What a query is asked of.
+//! What queries are evaluated on: an entry, an example, or anything else that has attributes.
 ghost use Rattle.std.specs.Prelude.{◌≡◌, ℕ, List, Option};
 ghost use Rattle.std.specs.Option.{option_map};
 ghost use Rattle.lq_value.specs.PlainValue.{plain_value_of};

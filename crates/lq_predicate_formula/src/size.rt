@@ -1,15 +1,17 @@
-//! The length of a comparison's canonical text, in bytes: the writer's, with a counter as its sink.
-ghost use Rattle.std.specs.Prelude.{◌≡◌, ◌≤◌, [], length};
+//! How many bytes canonical texts have: the writer writes them into a counter.
+ghost use Rattle.std.specs.Prelude.{◌≡◌, ◌+◌, [], length};
 ghost use Rattle.std.specs.Str.{chars, encode_utf8_all};
 ghost use Rattle.lq_value.specs.Pattern.{plain_elements};
-ghost use Rattle.lq_predicate_formula.specs.Canonical.{attr_then, canonical, in_set_then, item_then, literal_text, op_text, pattern_text, plain_then, quoted};
+ghost use Rattle.lq_predicate_formula.specs.Canonical.{attr_then, canonical, element_then, item_then, literal_text, pattern_text, quoted};
 ghost use Rattle.lq_predicate_formula.specs.Query.{Compare};
 ghost use Rattle.lq_predicate_formula.specs.Capped.{capped};
 
 use crate::raw_size::joined_size;
 use crate::sink::Counter;
-use crate::writing::{put_attr, put_comparison, put_elements, put_plain_text, put_quoted};
-use lq_value::{AttrName, Item, Literal, Op, Pattern};
+use crate::writing::{
+    put_attr, put_comparison, put_element, put_elements, put_item, put_plain_text, put_quoted,
+};
+use lq_value::{AttrName, Element, Item, Literal, Op, Pattern};
 
 /// The number of bytes in the canonical text of a comparison; the greatest usize stands for more.
 /// It takes no memory.
@@ -30,13 +32,12 @@ pub fn comparison_size_with(attr: &AttrName, op: Op, literal: usize) -> usize
     joined_size(attr_size(attr), op, literal)
 }
 
-pub(crate) fn op_size(op: Op) -> usize
-    ensures { result ≡ length (op_text op) }
+/// The size of an `And` or an `Or` of two queries, from the sizes of both: it adds the parentheses
+/// and the operator between them. It takes no memory.
+pub fn pair_size(lower: usize, upper: usize) -> usize
+    ensures { result ≡ capped (capped (lower + upper) + 4) }
 {
-    match op {
-        Op::Lt | Op::Gt => 1,
-        Op::Eq | Op::Ne | Op::Le | Op::Ge => 2,
-    }
+    lower.saturating_add(upper).saturating_add(4)
 }
 
 fn attr_size(attr: &AttrName) -> usize
@@ -78,34 +79,20 @@ pub fn characters_size(text: &str) -> usize
     counter.size
 }
 
-// A plain character, with `\` before one of `*`, `?`, `[`, `\` and `"`.
-pub(crate) fn character_size(c: char) -> usize
-    ensures { result ≡ length (encode_utf8_all (plain_then c [])) }
+// The size of an element of a pattern.
+pub(crate) fn element_size(element: &Element) -> usize
+    ensures { result ≡ capped (length (encode_utf8_all (element_then element.now []))) }
 {
-    if c == '*' || c == '?' || c == '[' || c == '\\' || c == '"' {
-        c.len_utf8() + 1
-    } else {
-        c.len_utf8()
-    }
+    let mut counter = Counter { size: 0 };
+    let Ok(()) = put_element(element, &mut counter);
+    counter.size
 }
 
+// The size of an item of a set.
 pub(crate) fn item_size(item: Item) -> usize
-    ensures { result ≡ length (encode_utf8_all (item_then item [])) }
+    ensures { result ≡ capped (length (encode_utf8_all (item_then item []))) }
 {
-    match item {
-        Item::One(c) => in_set_size(c),
-        Item::Range(first, last) => in_set_size(first) + 1 + in_set_size(last),
-    }
-}
-
-// A character in a set, with `\` before one of `]`, `[`, `\`, `^`, `-` and `"`.
-fn in_set_size(c: char) -> usize
-    ensures value { result ≡ length (encode_utf8_all (in_set_then c [])) }
-    ensures bound { result ≤ 5 }
-{
-    if c == ']' || c == '[' || c == '\\' || c == '^' || c == '-' || c == '"' {
-        c.len_utf8() + 1
-    } else {
-        c.len_utf8()
-    }
+    let mut counter = Counter { size: 0 };
+    let Ok(()) = put_item(item, &mut counter);
+    counter.size
 }

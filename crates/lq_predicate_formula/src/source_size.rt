@@ -1,12 +1,13 @@
-//! The size of a pattern's canonical text, from its source.
-ghost use Rattle.std.specs.Prelude.{◌≡◌, ◌≤◌, ◌-◌, ◌^◌, if◌then◌else◌, None, Some, MatchOption, IfSome};
+//! The size of a pattern's canonical text from its source, one element at a time, so that the
+//! pattern itself need not be made.
+ghost use Rattle.std.specs.Prelude.{◌≡◌, ◌-◌, ◌^◌, if◌then◌else◌, None, Some, MatchOption, IfSome};
 ghost use Rattle.std.specs.Str.{IsUtf8};
 ghost use Rattle.lq_predicate_formula.specs.Sizes.{IsSized, items_sized, pattern_sized};
 ghost use Rattle.lq_value.specs.Sign.{signs_of};
 ghost use Rattle.lq_value.specs.Source.{element_at, item_at, pattern_of, pieces_of, set_with};
 
-use crate::size::{character_size, item_size};
-use lq_value::{FirstItem, FirstPiece, first_item, first_piece, sources_are_walked};
+use crate::size::{element_size, item_size};
+use lq_value::{Element, FirstItem, FirstPiece, first_item, first_piece, sources_are_walked};
 
 // The element at the start of a text: its number of bytes in canonical text, and the source after
 // it.
@@ -40,25 +41,27 @@ fn first_size<'a>(source: &'a str) -> FirstSize<'a>
 {
     match first_piece(source) {
         FirstPiece::End => FirstSize::End,
-        FirstPiece::Star(rest) => FirstSize::Has(1, rest),
-        FirstPiece::Any(rest) => FirstSize::Has(1, rest),
-        FirstPiece::Plain(c, rest) => FirstSize::Has(character_size(c), rest),
+        FirstPiece::Star(rest) => FirstSize::Has(element_size(&Element::Star), rest),
+        FirstPiece::Any(rest) => FirstSize::Has(element_size(&Element::Any), rest),
+        FirstPiece::Plain(c, rest) => FirstSize::Has(element_size(&Element::Plain(c)), rest),
         FirstPiece::Opens { negated, items } => set_size(negated, items),
         FirstPiece::Faulty => FirstSize::Faulty,
     }
 }
 
-// The set whose items are at the start of the text: it has at least one item.
+// The set whose items are at the start of the text: it has at least one item, which is more than
+// its `]`.
 fn set_size<'a>(negated: bool, text: &'a str) -> FirstSize<'a>
     ensures { IsSized (set_with negated (pieces_of item_at (signs_of text.entry.now))) result }
 {
-    sources_are_walked();
-    if let FirstItem::End(_) = first_item(text) {
-        return FirstSize::Faulty;
-    }
     match set_rest_size(text) {
         None => FirstSize::Faulty,
-        Some((size, rest)) => { FirstSize::Has(size.saturating_add(begin_size(negated)), rest) }
+        Some((size, rest)) => {
+            if size <= 1 {
+                return FirstSize::Faulty;
+            }
+            FirstSize::Has(size.saturating_add(begin_size(negated)), rest)
+        }
     }
 }
 

@@ -1,4 +1,5 @@
-//! The span of some numbers.
+//! The least and the greatest number that a query compares an attribute with: a change of the
+//! attribute that stays beside both leaves the query's truth as it was.
 ghost use Rattle.std.specs.Prelude.{◌≡◌, ◌∷◌, []};
 ghost use Rattle.lq_predicate_formula.specs.Span.{is_beside, no_span, widened};
 

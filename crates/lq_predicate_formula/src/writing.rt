@@ -29,7 +29,7 @@ pub(crate) fn put_comparison<S: Sink>(
     Ok(())
 }
 
-fn op_text(op: Op) -> &'static str
+pub(crate) fn op_text(op: Op) -> &'static str
     ensures { result.now ≡ op_text op }
 {
     match op {
@@ -143,7 +143,7 @@ fn put_list<S: Sink>(elements: &[Element], out: &mut S) -> Result<(), S::Error>
     Ok(())
 }
 
-fn put_element<S: Sink>(element: &Element, out: &mut S) -> Result<(), S::Error>
+pub(crate) fn put_element<S: Sink>(element: &Element, out: &mut S) -> Result<(), S::Error>
     ensures { IfOk result (λ _. S.seen out.new
         ≡ S.after (S.seen out.old) (encode_utf8_all (element_then element.now []))) }
 {
@@ -186,7 +186,7 @@ fn put_items<S: Sink>(items: &[Item], out: &mut S) -> Result<(), S::Error>
     Ok(())
 }
 
-fn put_item<S: Sink>(item: Item, out: &mut S) -> Result<(), S::Error>
+pub(crate) fn put_item<S: Sink>(item: Item, out: &mut S) -> Result<(), S::Error>
     ensures { IfOk result (λ _. S.seen out.new
         ≡ S.after (S.seen out.old) (encode_utf8_all (item_then item []))) }
 {
