@@ -1,10 +1,8 @@
 -- Pushes on a stack.
-use Rattle.std.proofs.Common.{◌≡◌, ℕ, ◌+◌, ◌-◌, ◌<◌, ◌≤◌, ◌^◌, List, [], ◌∷◌, ◌++◌, length, map, take, drop, reverse, length-drop, refl, sym, subst, ap, ◌∙◌, arith, Option, Some}
+use Rattle.std.proofs.Common.{◌≡◌, ℕ, ◌+◌, ◌-◌, ◌<◌, ◌≤◌, ◌^◌, List, [], ◌∷◌, ◌++◌, length, take, drop, reverse, length-drop, refl, sym, subst, ap, ◌∙◌, arith, Option, Some}
 use Rattle.std.specs.Prelude.{option_and_then, Result, Ok}
 use Rattle.std.proofs.lemmas.Bool.Decides.{nat_tests}
 use Rattle.std.proofs.lemmas.List.{reverse-append, length-reverse, drop_at, take-append-drop}
-use Rattle.lq_value.specs.Pattern.{plain_elements}
-use Rattle.lq_value.specs.Element.TheVariants.{Plain}
 use Rattle.lq_value.specs.declared.refusal.Refusal.{Refusal}
 use Rattle.lq_predicate_formula.specs.Query.{Query}
 use Rattle.lq_predicate.specs.declared.stack_item.StackItem.{StackItem}
@@ -67,14 +65,3 @@ put_down stack made q count new after is made_of done =
     let here : after ≡ Some (Part q ∷ drop count stack.items) =
     subst (λ m. IsMade m count stack.items after) is made_of in
     ap (option_and_then (pushed stack)) here ∙ done
-
--- the characters of two lists as plain ones
-pub plain_elements-push : (cs : List ℕ) (c : ℕ)
-    → plain_elements (cs ++ c ∷ []) ≡ plain_elements cs ++ Plain c ∷ []
-plain_elements-push [] c = refl
-plain_elements-push (d ∷ cs) c = ap (λ es. Plain d ∷ es) (plain_elements-push cs c)
-
--- a list whose members stay is the same list
-pub map-same : (cs : List ℕ) → map (λ c. c) cs ≡ cs
-map-same [] = refl
-map-same (c ∷ cs) = ap (λ ds. c ∷ ds) (map-same cs)

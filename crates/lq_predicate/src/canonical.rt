@@ -1,4 +1,4 @@
-//! Writing predicates.
+//! Writes a predicate as its canonical text, which reads as the same predicate.
 ghost use Rattle.std.specs.Prelude.{◌≡◌, IfOk, IsTrue};
 ghost use Rattle.std.specs.String.{string_bytes};
 ghost use Rattle.lq_value.specs.Refusal.{FailsOnlyForMemory};

@@ -1,4 +1,4 @@
-//! A text on the stack.
+//! A text on the stack, read as a pattern once, before an operator needs it.
 ghost use Rattle.std.specs.Prelude.{◌≡◌, IfOk, IfSome};
 ghost use Rattle.std.specs.Option.{option_copied};
 ghost use Rattle.lq_value.specs.Refusal.{FailsOnlyForMemory};

@@ -1,4 +1,4 @@
-//! The predicate.
+//! Predicates: queries that keep the limits of a formula, so that each has a text that reads as it.
 ghost use Rattle.std.specs.Prelude.{◌≡◌, ◌≤◌, ◌↔◌, ◌∷◌, [], IfOk, IfSome, IsSome, OnErr, IsTrue};
 ghost use Rattle.lq_value.specs.Refusal.{FailsOnlyForMemory};
 ghost use Rattle.lq_value.specs.Compare.{suits};
@@ -21,7 +21,6 @@ pub struct Predicate {
     alloc: Global,
 }
 
-// Dropping one is a single call, instead of code at each place.
 impl Drop for Predicate {
     fn drop(self) {
         let Predicate { tree: _, alloc: _ } = self;

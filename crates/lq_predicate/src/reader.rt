@@ -1,4 +1,4 @@
-//! Reads a formula.
+//! Reads a formula twice: its faults and its size without memory, then its query's tree.
 ghost use Rattle.std.specs.Prelude.{◌≤◌, List, IfOk, IfErr, IsTrue, OnOk, length};
 ghost use Rattle.std.specs.Str.{IsUtf8};
 ghost use Rattle.lq_predicate_formula.specs.Faults.{Reads};

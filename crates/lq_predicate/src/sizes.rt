@@ -6,7 +6,9 @@ ghost use Rattle.lq_predicate.specs.QuerySize.{parts_of, query_size};
 
 use crate::builder::Builder;
 use crate::stop::Stop;
-use lq_predicate_formula::{joined_size, joined_texts_add, raw_literal_size, raw_name_size};
+use lq_predicate_formula::{
+    joined_size, joined_texts_add, pair_size, raw_literal_size, raw_name_size,
+};
 use lq_value::Op;
 use std::convert::Infallible;
 
@@ -98,7 +100,7 @@ fn with_part(parts: SizeParts, part: QuerySize) -> SizeParts
         SizeParts::Empty => SizeParts::One(part),
         SizeParts::One(only) => SizeParts::More(QuerySize {
             depth: only.depth.max(part.depth).saturating_add(1),
-            bytes: only.bytes.saturating_add(part.bytes).saturating_add(4),
+            bytes: pair_size(only.bytes, part.bytes),
         }),
         SizeParts::More(whole) => SizeParts::More(QuerySize {
             depth: whole.depth.max(part.depth.saturating_add(1)),

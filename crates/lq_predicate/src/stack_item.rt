@@ -1,4 +1,4 @@
-//! The items of a stack.
+//! What a stack holds between two pushes: attributes, texts and finished predicates.
 use crate::operand::Operand;
 use crate::predicate::Predicate;
 use lq_value::AttrName;

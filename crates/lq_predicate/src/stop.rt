@@ -1,4 +1,4 @@
-//! Why a reading stops.
+//! Why a reading stops: at a fault of the text, or where what it builds fails.
 
 // The text has a fault, or what builds from it failed.
 #[derive(Drop)]

@@ -1,4 +1,4 @@
-//! When a predicate holds.
+//! Evaluates a predicate on a row.
 ghost use Rattle.std.specs.Prelude.{◌≡◌};
 ghost use Rattle.lq_predicate_formula.specs.Truth.{truth};
 

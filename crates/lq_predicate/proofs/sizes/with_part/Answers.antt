@@ -8,7 +8,7 @@ returns-in-One c = λ qs q h new.
     two_parts c.joined_texts_add.ensures c.args.parts c.in-One.only c.args.part _ _ qs q
     c.in-One.is h new
     (c.saturating_add.ensures ∙ ap (λ n. capped (n + 1)) c.max.ensures)
-    (c.saturating_add-in-One-2.ensures ∙ ap (λ n. capped (n + 4)) c.saturating_add-in-One.ensures)
+    c.pair_size.ensures
 
 pub returns-in-More : goal.returns-in-More
 returns-in-More c = λ qs q h new.
