@@ -40,7 +40,6 @@ struct FieldName {
     field: Field,
 }
 
-// Dropping one is a single call, instead of code at each place.
 impl Drop for AttrName {
     fn drop(self) {
         let AttrName { shared: _ } = self;

@@ -1,4 +1,4 @@
-//! An entry of a query's result.
+//! What a query's result holds for each match: the entry's folder, its name and its node.
 use crate::name::Name;
 
 /// An entry of a result: its folder, its name and its node.

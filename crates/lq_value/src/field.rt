@@ -1,4 +1,4 @@
-//! The fields that a name may stand for.
+//! Which field an attribute's name means, found once, so that no look-up compares texts for it.
 
 /// What a name stands for: an attribute, or one of the three fields that each entry has.
 #[derive(Clone, Copy)]

@@ -35,7 +35,6 @@ pub struct Name {
     text: NameText,
 }
 
-// Dropping one is a single call, instead of code at each place.
 impl Drop for Name {
     fn drop(self) {
         let Name { text: _ } = self;

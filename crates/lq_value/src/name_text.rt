@@ -1,4 +1,4 @@
-//! The text of an entry's name.
+//! How an entry's name is stored: inline where it is short, else shared by its copies.
 use crate::short_text::ShortText;
 use crate::small_text::SmallText;
 use std::sync::Arc;

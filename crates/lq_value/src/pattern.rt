@@ -27,7 +27,6 @@ pub struct Pattern {
     form: Form,
 }
 
-// Dropping one is a single call, instead of code at each place.
 impl Drop for Pattern {
     fn drop(self) {
         let Pattern { form: _ } = self;

@@ -1,4 +1,4 @@
-//! A short text.
+//! A text stored inline with its length, so that it takes no memory of its own.
 ghost use Rattle.std.specs.Prelude.{◌≡◌, ◌≤◌, ◌↔◌, IfSome, IsSome, length};
 
 use std::marker::Model;

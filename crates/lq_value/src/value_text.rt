@@ -1,4 +1,4 @@
-//! The text of a value.
+//! The text of an attribute's value, which has at most 4,096 bytes.
 ghost use Rattle.std.specs.Prelude.{◌≡◌, ◌≤◌, IfOk, length};
 ghost use Rattle.lq_value.specs.Refusal.{FailsOnlyForMemory, IsRefusedBy};
 ghost use Rattle.lq_value.specs.Value.{text_refusal};
@@ -19,7 +19,6 @@ pub struct ValueText {
     text: SmallText,
 }
 
-// Dropping one is a single call, instead of code at each place.
 impl Drop for ValueText {
     fn drop(self) {
         let ValueText { text: _ } = self;

@@ -1,4 +1,4 @@
-//! The borrowed value of an attribute.
+//! An attribute's value as a row shows it: its text isn't copied.
 
 /// The borrowed value of an attribute: a text, or a whole number of one of four types.
 ///
