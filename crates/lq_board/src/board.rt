@@ -24,6 +24,18 @@ const WORDS: usize = 65;
 ///
 /// Its calls take `&self`, so threads can share it. Contracts see which board it is, and whether
 /// each seat may make changes, or just those that its leading seat enlists.
+///
+/// ```rattle
+/// use lq_board::{Board, Keeper};
+/// use lq_volume::Volume;
+///
+/// let volume = Volume::new(alloc, 1000);
+/// let (board, mut keeper): (Board<u64>, Keeper<u64>) = Board::new(alloc, &volume)?;
+/// let mut reader = board.slot_seat(&mut keeper, 1);
+/// assert!(rt; board.latest(&mut reader) == 0);
+/// board.ask(&mut reader);
+/// assert!(rt; board.asks(&mut keeper, 1) == 1);
+/// ```
 #[derive(Drop)]
 pub struct Board<M> {
     pub(crate) table: Table<u8, TokenView<M>, Volume, Law, Global>,

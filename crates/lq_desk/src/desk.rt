@@ -29,6 +29,22 @@ use std::marker::Model;
 ///
 /// Contracts see it as a world of lq_desk_world: a book of changes, and the subscriptions over it.
 /// No code holds that world. What a desk keeps is what it would keep for that world (`Shows`).
+///
+/// ```rattle
+/// use lq_desk::{Desk, Event, Read, Reply};
+/// use lq_predicate::read;
+/// use lq_volume::Volume;
+///
+/// let mut desk = Desk::new(alloc, Volume::new(alloc, 1000))?;
+/// let open = Event::Open {
+///     predicate: read(alloc, "size>100")?,
+///     port: 4,
+///     backlog: 16,
+///     moved: false,
+/// };
+/// assert!(rt; matches!(desk.turn(&open), Reply::Opened { slot: 1, .. }));
+/// assert!(rt; matches!(desk.turn(&Event::Take(1)), Reply::Took(Read::Empty)));
+/// ```
 pub struct Desk {
     alloc: Global,
     engine: Engine,

@@ -21,6 +21,24 @@ pub const MAX_PLACES: u64 = 1_024;
 /// It knows all that was put, and a prefix of what was taken. It keeps a receiving end itself, so a
 /// port whose `PortOut` was dropped fills up and is then full, as tests show. After 2^61 puts every
 /// further put waits for ever, as the code says.
+///
+/// ```rattle
+/// use lq_port::{Follows, make};
+///
+/// #[derive(Drop)]
+/// struct Item(u64);
+///
+/// impl Follows for Item {
+///     type Floor = ();
+///     ghost follows = { λ before floor item. Unit {0} };
+///     ghost no_floor = { tt };
+/// }
+///
+/// let (mut input, mut output) = make::<Item>(alloc, 1, &())?;
+/// assert!(rt; input.put(&rt, Item(7)).is_ok());
+/// assert!(rt; matches!(input.put(&rt, Item(8)), Err(Item(8))));
+/// assert!(rt; matches!(output.take(&rt), Some(Item(7))));
+/// ```
 #[derive(Drop)]
 pub struct PortIn<T: Follows + Drop> {
     sender: PortSender<T>,
@@ -31,7 +49,7 @@ pub struct PortIn<T: Follows + Drop> {
 
 /// The end of a port for takes.
 ///
-/// It knows all that was taken, and a prefix of what was put.
+/// It knows all that was taken, and a prefix of what was put. The example of `PortIn` has both ends.
 #[derive(Drop)]
 pub struct PortOut<T: Follows + Drop> {
     receiver: PortReceiver<T>,

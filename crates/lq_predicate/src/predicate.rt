@@ -16,6 +16,17 @@ use std::marker::Model;
 /// any other predicate 1 more than its deepest part; the depth is at most 64. A predicate has at
 /// most 256 comparisons. Its canonical text has at most 4,096 bytes and reads as this predicate.
 /// Contracts see it as a `Query`.
+///
+/// ```rattle
+/// use lq_predicate::{read, write};
+///
+/// let large = read(alloc, "size > 100")?;
+/// let text = read(alloc, "name = *.txt")?;
+/// let Some(both) = large.both(&text)? else {
+///     return Err(Fail::from("more than a predicate's limits"));
+/// };
+/// assert!(rt; write(alloc, &both)?.as_str() == r#"((size>"100")&&(name=="*.txt"))"#);
+/// ```
 pub struct Predicate {
     tree: Tree,
     alloc: Global,

@@ -23,6 +23,17 @@ const MAX_TEXT: usize = 4096;
 ///
 /// Contracts see it as its items, the top first, and the number of pushes accepted since it was
 /// new.
+///
+/// ```rattle
+/// use lq_predicate::{Stack, StackOp, write};
+///
+/// let mut stack = Stack::new(alloc);
+/// stack.push_attr("size")?;
+/// stack.push_uint32(100)?;
+/// stack.push_op(StackOp::Gt)?;
+/// let predicate = stack.finish()?;
+/// assert!(rt; write(alloc, &predicate)?.as_str() == r#"(size>"100")"#);
+/// ```
 #[derive(Drop)]
 pub struct Stack {
     items: Vec<StackItem>,

@@ -23,6 +23,17 @@ use std::alloc::Global;
 /// begin. After `Read` and `Limit` exactly the lines that LF ended are answered, after `Memory` the
 /// lines before one that isn't, or none where the run can't begin, and after `Write` a prefix of
 /// the replies is written. The formats and limits are our own.
+///
+/// ```rattle
+/// use lq_script::{Host, run};
+///
+/// let script = "{\"do\":\"create\",\"name\":\"a\",\"size\":200}\n";
+/// let mut reader = Host::new(script.as_bytes());
+/// let mut writer = Host::new(Vec::new(alloc));
+/// assert!(rt; run(alloc, &mut reader, &mut writer) == Ok(()));
+/// let output = writer.into_device();
+/// assert!(rt; output.as_slice() == "{\"change\":1,\"node\":2}\n".as_bytes());
+/// ```
 pub fn run<R: Client, W: Sink>(
     alloc: Global,
     reader: &mut R,

@@ -24,6 +24,29 @@ use std::marker::Model;
 use std::sync::Wait;
 
 /// The reading end of a subscription, with the seat of its slot.
+///
+/// ```rattle
+/// use lq_predicate::{Predicate, read};
+/// use lq_server::{Base, Named, Read, Server};
+/// use lq_value::Refusal;
+/// use lq_volume::Volume;
+/// use std::marker::Brand;
+/// use std::sync::Wait;
+///
+/// fn read_once<N: Named, R: Wait>(rt: &R, base: Base, query: &Predicate) -> Result<Read, Refusal>
+///     requires { (base.board ≡ N.board) × (base.volume ≡ N.start) }
+/// {
+///     let server: Server<N> = Server::new(base);
+///     let mut seat = server.seat(rt)?;
+///     let mut reader = server.open(rt, &mut seat, query, 4, 16, false)?;
+///     reader.hang_up(&server);
+///     reader.read_waiting(rt, &server)
+/// }
+///
+/// let base = Base::new(alloc, Volume::new(alloc, 1000))?;
+/// let query = read(alloc, "size>100")?;
+/// assert!(rt; matches!(read_once::<Brand, _>(&rt, base, &query)?, Read::Fin(_)));
+/// ```
 #[derive(Drop)]
 pub struct Reader {
     pub(crate) reading: Reading,

@@ -48,6 +48,28 @@ pub struct Retired {
 /// A volume and its subscriptions under a lock, with the board beside it.
 ///
 /// Threads share it by reference. Contracts see which board it has: the one that N names.
+///
+/// ```rattle
+/// use lq_server::{Base, Named, Server};
+/// use lq_value::{Kind, Name, Refusal};
+/// use lq_volume::{Change, Volume};
+/// use std::marker::Brand;
+/// use std::sync::Wait;
+///
+/// fn serve<N: Named, R: Wait>(rt: &R, base: Base, change: &Change) -> Result<u64, Refusal>
+///     requires { (base.board ≡ N.board) × (base.volume ≡ N.start) }
+/// {
+///     let server: Server<N> = Server::new(base);
+///     let mut seat = server.seat(rt)?;
+///     server.apply(rt, &mut seat, change)?;
+///     Ok(server.retire(rt, seat).changes)
+/// }
+///
+/// let name = Name::read(alloc, "notes.txt")?;
+/// let create = Change::Create { dir: 1, name, kind: Kind::File, size: 200, time: 0 };
+/// let base = Base::new(alloc, Volume::new(alloc, 1000))?;
+/// assert!(rt; serve::<Brand, _>(&rt, base, &create)? == 1);
+/// ```
 pub struct Server<N: Named> {
     pub(crate) state: Mutex<ServerState<N>>,
     pub(crate) board: Board<Identity>,

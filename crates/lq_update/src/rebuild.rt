@@ -14,6 +14,18 @@ use std::marker::Model;
 ///
 /// Contracts see it as a `Folding`: how many messages it has taken, whether the latest one was the
 /// last of its change, the number of that change, and the entries by rising node.
+///
+/// ```rattle
+/// use lq_update::{Message, Opcode, Rebuild};
+/// use lq_value::Name;
+///
+/// let mut rebuild = Rebuild::new(alloc, 0, Vec::new(alloc));
+/// let name = Name::read(alloc, "notes.txt")?;
+/// let op = Opcode::Created;
+/// rebuild.apply(&Message { seq: 1, change: 5, last: true, op, dir: 1, name, node: 2 })?;
+/// assert!(rt; rebuild.is_settled() && rebuild.last_change() == 5);
+/// assert!(rt; rebuild.result().len() == 1);
+/// ```
 #[derive(Drop)]
 pub struct Rebuild {
     latest: FoldProgress,

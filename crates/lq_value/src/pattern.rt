@@ -23,6 +23,14 @@ use std::marker::Model;
 /// A pattern: a list of elements, read from the left, that fits a whole text or doesn't.
 ///
 /// A contract sees it as its list of elements. The patterns are our own.
+///
+/// ```rattle
+/// use lq_value::Pattern;
+///
+/// let pattern = Pattern::read(alloc, "*.[jp][pn]g")?;
+/// assert!(rt; pattern.matches("beach.jpg") && pattern.matches("map.png"));
+/// assert!(rt; !pattern.matches("beach.jpg.bak"));
+/// ```
 pub struct Pattern {
     form: Form,
 }

@@ -2,6 +2,20 @@
 use lq_value::{AttrName, Kind, Name, Value};
 
 /// One act on a volume. Nodes count from 1, the root; times are seconds since 1970.
+///
+/// ```rattle
+/// use lq_value::{AttrName, Kind, Name, Refusal, Value};
+/// use lq_volume::{Change, Volume};
+///
+/// let mut volume = Volume::new(alloc, 1000);
+/// let name = Name::read(alloc, "letter")?;
+/// let create = Change::Create { dir: 1, name, kind: Kind::File, size: 200, time: 0 };
+/// let attr = AttrName::read(alloc, "MAIL:priority")?;
+/// let set = Change::SetAttr { node: 2, attr, value: Value::Int32(3) };
+/// assert!(rt; volume.check(&set).err() == Some(Refusal::NoNode));
+/// volume.apply(&create)?;
+/// assert!(rt; volume.apply(&set)?.change == 2);
+/// ```
 #[derive(Drop)]
 pub enum Change {
     /// Creates an entry in the folder `dir`, under the next node; `size` is in bytes.

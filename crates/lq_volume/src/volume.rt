@@ -19,6 +19,18 @@ pub const MAX_CHANGES: u64 = 1_000_000_000_000;
 ///
 /// It accepts at most `limit` changes. The nodes of entries count from 2 and are never used again.
 /// Contracts see a volume as a `State`, and every volume is a tree.
+///
+/// ```rattle
+/// use lq_value::{Kind, Name, Refusal};
+/// use lq_volume::{Change, Volume};
+///
+/// let mut volume = Volume::new(alloc, 1000);
+/// let name = Name::read(alloc, "notes.txt")?;
+/// let create = Change::Create { dir: 1, name, kind: Kind::File, size: 200, time: 0 };
+/// assert!(rt; volume.apply(&create)?.node == 2);
+/// assert!(rt; volume.apply(&create).err() == Some(Refusal::Exists));
+/// assert!(rt; volume.changes() == 1);
+/// ```
 pub struct Volume {
     limit: u64,
     changes: u64,
