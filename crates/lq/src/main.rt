@@ -1,4 +1,5 @@
-//! The program `lq`: its arguments, carried out at the standard streams.
+//! The program `lq`: it hands its arguments and the standard streams to lq_script, takes its stack
+//! first, and answers the exit status. Tests: `scenarios`.
 #![tactic(auto)]
 
 use lq_script::{Host, Sink, program};

@@ -1,4 +1,5 @@
-//! The board.
+//! Makes a board and its tokens, and reads its words: a thread learns the number of changes, or
+//! asks for an end, without the lock.
 ghost use Rattle.std.specs.Prelude.{◌≡◌, ◌+◌, ◌<◌, ◌≤◌, [], ◌∷◌, length, IfOk, true, false, Some, None};
 ghost use Rattle.lq_value.specs.Refusal.{FailsOnlyForMemory};
 ghost use Rattle.lq_volume.specs.Book.{Extends};

@@ -4,7 +4,7 @@
 //! `KeeperToken` or a `SeatToken` (`specs/Token`), each with a lawful book. Each change has an
 //! author, the seat that made it (`specs/Author`). Where a seat leads, just those that it enlists
 //! make changes, and it gathers their numbers. `specs/Rule` has the rule that relates the tokens.
-//! Nothing here waits. Begin with `tokens`, then `board`.
+//! Nothing here waits. Tests: `boards` of lq_core_tests. Begin with `tokens`, then `board`.
 #![tactic(auto)]
 
 mod board;

@@ -1,4 +1,5 @@
-//! Steps on a board's words that a call chooses.
+//! Steps on a board's words that a call chooses, each a split or a join of tokens: the calls of
+//! `board` and `meet_calls` are made of them.
 ghost use Rattle.std.specs.Prelude.{◌≡◌, ◌<◌, [], ◌∷◌, length, true, false, Some};
 ghost use Rattle.lq_volume.specs.Book.{grown, state_of};
 ghost use Rattle.lq_volume.specs.Change.{after, IsLawful};

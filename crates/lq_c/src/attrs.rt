@@ -1,4 +1,4 @@
-//! The attributes of an entry.
+//! Attributes of an entry for C: the one at an index, or of a name.
 ghost use Rattle.lq_embed.specs.Attrs.{ShowsAttr, ShowsNamed, attr_by_name, attr_by_index};
 ghost use Rattle.lq_embed.specs.SessionState.{volume_in};
 ghost use Rattle.lq_c.specs.Held.{held_state};

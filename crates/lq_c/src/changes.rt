@@ -1,4 +1,4 @@
-//! Changes of the volume.
+//! Each change of the volume as a call of C, with one for each type of an attribute's value.
 ghost use Rattle.lq_value.specs.declared.value.Value.TheVariants.{Int32, Int64, UInt32, UInt64};
 ghost use Rattle.lq_script_request.specs.Asked.{given};
 ghost use Rattle.lq_script_request.specs.Request.{asks_remove, asks_write, given_number, request_for};

@@ -1,4 +1,4 @@
-//! A folder's entries, and paths.
+//! A folder's entries and the path of a node, for C.
 ghost use Rattle.std.specs.Prelude.{◌≡◌};
 ghost use Rattle.lq_embed.specs.Folders.{Lists, Paths};
 ghost use Rattle.lq_c.specs.Held.{held_state};

@@ -1,4 +1,4 @@
-//! What a handle points to.
+//! What a handle points to: an embedded session on the heap, at an address that stays.
 ghost use Rattle.std.specs.Prelude.{◌≡◌, IfOk};
 ghost use Rattle.lq_value.specs.Refusal.{FailsOnlyForMemory};
 ghost use Rattle.lq_embed.specs.SessionState.{first_state, holds};

@@ -1,4 +1,4 @@
-//! Handles and lines.
+//! Makes and frees handles, answers a script's lines, and copies the text that is kept.
 ghost use Rattle.std.specs.Prelude.{◌≡◌, ◌⊎◌, length};
 ghost use Rattle.lq_script_lines.specs.Lines.{line_of, reply_to, state_after};
 ghost use Rattle.lq_script_desk.specs.Script.{world_rules};

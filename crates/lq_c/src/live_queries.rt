@@ -1,4 +1,4 @@
-//! Live queries.
+//! Opens, reads and ends live queries for C; each opening counts as a new result.
 ghost use Rattle.std.specs.Prelude.{◌≡◌};
 ghost use Rattle.lq_desk_world.specs.declared.event.Event.TheVariants.{Close, Finish, HangUp, Take};
 ghost use Rattle.lq_embed.specs.Calls.{Acts, Ends, ReadsSlot, TellsSlots};

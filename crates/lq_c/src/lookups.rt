@@ -1,4 +1,4 @@
-//! Looks at the volume.
+//! Looks at the volume for C: a fetch, an entry, a node by its place or path, and a rebuilt result.
 ghost use Rattle.std.specs.Prelude.{◌≡◌, Ok};
 ghost use Rattle.lq_script_request.specs.declared.request.Request.TheVariants.{Look};
 ghost use Rattle.lq_script_request.specs.declared.request.Look.TheVariants as look;

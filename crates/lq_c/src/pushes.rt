@@ -1,4 +1,5 @@
-//! Queries by pushes in postfix order.
+//! Queries by pushes in postfix order, for callers that build no formula; C's count of pushes is
+//! limited here.
 ghost use Rattle.std.specs.Prelude.{◌≡◌, Ok};
 ghost use Rattle.lq_predicate.specs.Stack.{attr_pushed, only_part, text_pushed};
 ghost use Rattle.lq_predicate.specs.Stacked.{new_stack};

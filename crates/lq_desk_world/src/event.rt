@@ -1,4 +1,5 @@
-//! The events of a world.
+//! The events of a world: all that a caller may ask of the core, as one type that runs and laws
+//! speak of.
 ghost use Rattle.std.specs.Prelude.{◌≡◌};
 
 use lq_predicate::Predicate;

@@ -3,7 +3,8 @@
 //! A world is a book of changes and the subscriptions over it (`specs/World`). `specs/Events` gives
 //! the answer to each event and the world after it, `specs/Runs` a run of events, and
 //! `specs/Headline` what a subscription reads in a run. The code declares the events and the laws:
-//! functions that do nothing, whose contracts are the laws. Begin with `specs/World`.
+//! functions that do nothing, whose contracts are the laws. Tests: `events` of lq_tests. Begin with
+//! `specs/World`.
 #![tactic(auto)]
 
 mod event;

@@ -1,4 +1,4 @@
-//! The attributes of an entry.
+//! Writes the attributes of an entry for the caller, by index or by name.
 ghost use Rattle.std.specs.Prelude.{◌≡◌};
 ghost use Rattle.lq_value.specs.Value.{shown_by};
 ghost use Rattle.lq_embed.specs.Attrs.{ShowsAttr, ShowsNamed, attr_by_name, attr_by_index, attr_out, attr_with_name};

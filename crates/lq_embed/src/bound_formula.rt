@@ -1,4 +1,5 @@
-//! A formula with its values in place.
+//! Puts bound values in place of a formula's parameters, so that no value changes how the rest
+//! reads.
 ghost use Rattle.std.specs.Prelude.{◌≡◌, ◌++◌, ◌+◌, ◌≤◌, ◌^◌, ◌<◌, IfErr, IfOk, OnOk, Ok, Err, length};
 ghost use Rattle.lq_value.specs.Refusal.{FailsOnlyForMemory};
 ghost use Rattle.lq_embed.specs.BoundFormula.{Binds, between, first_missing, first_unused, is_named, literal_at, replaced_from};

@@ -1,4 +1,4 @@
-//! Values that are bound, and queries of formulas with them.
+//! Binds values, one after another, and opens or fetches by a formula with them.
 ghost use Rattle.std.specs.Prelude.{◌≡◌, [], IfErr, IfOk, Ok, Err};
 ghost use Rattle.lq_value.specs.declared.value.Value.TheVariants as value;
 ghost use Rattle.lq_embed.specs.Bound.{BindsValue, FetchesBound, OpensBound, bound_text, state_after_unbound, taken_off, unbound_status};

@@ -1,4 +1,4 @@
-//! Changes of the volume.
+//! Each change of the volume as a typed call, which makes the request of a script's line.
 ghost use Rattle.std.specs.Prelude.{◌≡◌};
 ghost use Rattle.lq_desk.specs.Reply.{answer_of};
 ghost use Rattle.lq_script_request.specs.Asked.{given};

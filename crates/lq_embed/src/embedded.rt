@@ -1,4 +1,5 @@
-//! An embedded session.
+//! The embedded session: a script's session, with what its calls gave kept until the caller takes
+//! it.
 ghost use Rattle.std.specs.Prelude.{◌≡◌, IfOk};
 ghost use Rattle.lq_value.specs.Refusal.{FailsOnlyForMemory};
 ghost use Rattle.lq_desk.specs.Reply.{answer_of};
@@ -35,7 +36,6 @@ pub struct Embedded {
     pub(crate) fault: u64,
 }
 
-// Dropping one is a single call, instead of code at each place.
 impl Drop for Embedded {
     fn drop(self) {
         let Embedded {

@@ -1,4 +1,4 @@
-//! The entry at the end of a path.
+//! Finds the entry at the end of a path, one name after another.
 ghost use Rattle.std.specs.Prelude.{◌≡◌, ◌+◌, ◌≤◌, drop, length};
 ghost use Rattle.lq_embed.specs.Calls.{FindsNode};
 ghost use Rattle.lq_embed.specs.PathNames.{FindsPath, name_length, named_request};

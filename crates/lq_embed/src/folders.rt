@@ -1,4 +1,4 @@
-//! A folder's entries, and paths.
+//! Lists a folder's entries, and makes a node's path the text.
 ghost use Rattle.std.specs.Prelude.{◌≡◌, ◌++◌, ◌∷◌, IfOk, OnOk};
 ghost use Rattle.lq_value.specs.Refusal.{FailsOnlyForMemory};
 ghost use Rattle.lq_embed.specs.Folders.{Lists, Paths, path_text};

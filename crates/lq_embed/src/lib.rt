@@ -4,7 +4,8 @@
 //! Contracts see what an embedded session holds as a `SessionState` (`specs/SessionState`). Each
 //! call makes the request that a line with the same fields makes (`specs/Requests`), and
 //! `specs/Calls` ties a call's status and what it writes to the answer. The structs have C's
-//! layout. Nothing here waits. Begin with `embedded`, then `changes`, then `live_queries`.
+//! layout. Nothing here waits. Tests: `tests/c` and `tests/python`, through lq_c. Begin with
+//! `embedded`, then `changes`, then `live_queries`.
 #![tactic(auto)]
 
 mod attrs;

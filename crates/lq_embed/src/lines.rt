@@ -1,4 +1,5 @@
-//! A script's lines.
+//! Answers a script's lines, for a caller who mixes them with typed calls; the reply is the text
+//! that is kept.
 ghost use Rattle.std.specs.Prelude.{◌≡◌, IfErr, OnOk};
 ghost use Rattle.lq_value.specs.declared.refusal.Refusal.TheVariants.{NoMemory};
 ghost use Rattle.lq_script_lines.specs.Lines.{line_of, reply_to, state_after};

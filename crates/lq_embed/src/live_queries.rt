@@ -1,4 +1,4 @@
-//! Live queries.
+//! Opens, reads and ends live queries by typed calls, and writes messages in C's layout.
 ghost use Rattle.std.specs.Prelude.{◌≡◌, [], length};
 ghost use Rattle.lq_value.specs.Refusal.{code_of};
 ghost use Rattle.lq_desk.specs.Reply.{answer_of};

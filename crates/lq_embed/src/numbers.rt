@@ -1,4 +1,4 @@
-//! The numbers of kinds and operators.
+//! The numbers that stand for kinds of entries and for operators in typed calls.
 ghost use Rattle.std.specs.Prelude.{◌≡◌};
 ghost use Rattle.lq_embed.specs.Numbers.{kind_numbered, number_of_kind, op_numbered};
 

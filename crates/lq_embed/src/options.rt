@@ -1,4 +1,4 @@
-//! How a live query is opened.
+//! Opens a live query with options; a backlog of 0 means the default.
 ghost use Rattle.std.specs.Prelude.{◌≡◌};
 ghost use Rattle.lq_predicate.specs.Stack.{only_part};
 ghost use Rattle.lq_embed.specs.Opening.{OpensBy, backlog_of, kept_by};

@@ -1,4 +1,4 @@
-//! A text in a caller's memory.
+//! Copies a text into the caller's memory with a NUL after it, as C expects.
 ghost use Rattle.std.specs.Prelude.{◌≡◌, length};
 ghost use Rattle.lq_embed.specs.Outs.{ended, text_put};
 

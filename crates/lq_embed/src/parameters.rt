@@ -1,4 +1,5 @@
-//! The parameters of a formula.
+//! Finds the parameters of a formula, `$1` to `$256`, each with the operator before it: a value's
+//! literal depends on that.
 ghost use Rattle.std.specs.Prelude.{◌≡◌, ◌≤◌, IfErr, IfOk, length};
 ghost use Rattle.lq_predicate_formula.specs.TokenView.{placed_of, token_of};
 ghost use Rattle.lq_embed.specs.Parameters.{fault_of, number_named, operator_of, parameter_at};

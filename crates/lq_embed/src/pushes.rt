@@ -1,4 +1,4 @@
-//! Queries by pushes in postfix order.
+//! Builds queries by pushes in postfix order, for a caller without formulas.
 ghost use Rattle.std.specs.Prelude.{◌≡◌};
 ghost use Rattle.lq_predicate.specs.Stack.{only_part};
 ghost use Rattle.lq_predicate.specs.Stacked.{new_stack};

@@ -1,4 +1,4 @@
-//! Values as literals of a formula.
+//! Writes values as literals of a formula that mean just these values.
 ghost use Rattle.std.specs.Prelude.{◌≡◌, ◌≤◌, ◌++◌, OnOk, length};
 ghost use Rattle.lq_value.specs.Refusal.{FailsOnlyForMemory};
 ghost use Rattle.lq_value.specs.declared.op.Op.TheVariants.{Eq};

@@ -1,4 +1,4 @@
-//! Several reads of a slot in one call.
+//! Makes several reads of a slot in one call, which saves the caller a call for each message.
 ghost use Rattle.std.specs.Prelude.{◌≡◌};
 ghost use Rattle.lq_desk.specs.Reply.{answer_of};
 ghost use Rattle.lq_embed.specs.Outs.{read_after};

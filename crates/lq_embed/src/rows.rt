@@ -1,4 +1,4 @@
-//! The entries of a result, several at once.
+//! Hands out several entries of a result in one call.
 ghost use Rattle.lq_embed.specs.Rows.{TakesRows};
 ghost use Rattle.lq_embed.specs.SessionState.{holds};
 

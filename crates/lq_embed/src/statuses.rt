@@ -1,4 +1,4 @@
-//! The numbers of statuses.
+//! The numbers of statuses: a refusal's code, and those from 40 on that only typed calls have.
 ghost use Rattle.std.specs.Prelude.{◌≡◌};
 ghost use Rattle.lq_value.specs.Refusal.{code_of};
 

@@ -1,4 +1,4 @@
-//! The steps on a port's channel, with the passes of its ends.
+//! The steps on a port's channel, with the passes that hold what each end knows, for contracts.
 ghost use Rattle.crossbeam_channel.specs.Claims.{IsSeatAt};
 ghost use Rattle.crossbeam_channel.specs.Ends.{sends_on};
 ghost use Rattle.lq_port.specs.End.{known_of, IsPutter, IsTaker};

@@ -1,4 +1,4 @@
-//! The two ends of a port.
+//! The two ends of a port, for two threads: one puts items, the other takes them in order.
 ghost use Rattle.std.specs.Prelude.{◌≡◌, ◌≤◌, ℕ, [], length, IfOk, IfErr, OnOk, OnErr};
 ghost use Rattle.lq_value.specs.Refusal.{IsRefusedBy};
 ghost use Rattle.lq_port.specs.End.{all_put, IsSamePort, Gains, IsTake, AreBeside};

@@ -1,4 +1,5 @@
-//! The law for the items of a port.
+//! The law for the items of a port, by which the end that takes an item knows that it may come
+//! next.
 ghost use Rattle.std.specs.Prelude.{List};
 
 /// An item that may be put into a port.

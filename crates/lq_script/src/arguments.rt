@@ -1,4 +1,4 @@
-//! What the program does with its arguments.
+//! Carries out what the program's arguments ask for, and answers the exit status.
 ghost use Rattle.std.specs.Prelude.{◌≡◌, false};
 ghost use Rattle.lq_script_lines.specs.Outcome.{reader_log, writer_log};
 ghost use Rattle.lq_script.specs.Outcome.{IsOutcome, transcript};

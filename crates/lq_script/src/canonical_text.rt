@@ -1,4 +1,4 @@
-//! The canonical text of a formula.
+//! The canonical text of a formula, for `lq check` and for callers of the library.
 ghost use Rattle.std.specs.Prelude.{IfOk, IfErr};
 ghost use Rattle.std.specs.String.{string_bytes};
 ghost use Rattle.lq_predicate.specs.Refusals.{IsRefusalOf};

@@ -1,4 +1,4 @@
-//! What each read of a batch passes.
+//! What each read of a batch passes: tests put a gate here that shows which reads go side by side.
 use std::sync::Wait;
 
 /// What each read passes before it is carried out, in the thread of its slot. It is our own.

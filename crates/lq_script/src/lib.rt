@@ -7,8 +7,9 @@
 //! calls, a line at a time, and does a run of `read` lines as a batch, with a thread for each slot.
 //! Contracts say that each of these calls is safe, and that the server made no change but those
 //! that the replies tell (`specs/Changes`). Tests show that its output is that of `run`. It may
-//! wait. `thiserror` derives the display texts of `RunFault`. Begin with `arguments`, then
-//! `threads`, `runner`, `server_session`, `batch` and `workers`.
+//! wait. `thiserror` derives the display texts of `RunFault`. Tests: lq_thread_tests, and the
+//! scenarios. Begin with `arguments`, then `threads`, `runner`, `server_session`, `batch` and
+//! `workers`.
 #![tactic(auto)]
 
 mod arguments;

@@ -1,4 +1,4 @@
-//! A whole script by threads, over the root alone.
+//! Carries out a whole script by threads: it makes the server and its threads, and ends both.
 ghost use Rattle.std.specs.Prelude.{◌≡◌, ◌⊎◌, [], ◌∷◌, IfErr, false, true};
 ghost use Rattle.lq_board.specs.Author.{leader, with_roll};
 ghost use Rattle.lq_board.specs.Token.{counted_board};

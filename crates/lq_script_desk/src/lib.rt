@@ -6,7 +6,8 @@
 //! desk's world and the result read from each slot (`specs/Folds`), and a script's output as the
 //! texts of that world's answers to its lines (`specs/Script`). `specs/History` ties the lines to
 //! the headline. `output` holds replies until they are written (`specs/Writes`). Nothing here
-//! waits. Begin with `response` and `reply`, then `session` and `script`.
+//! waits. Tests: `plain` and `replies` of lq_core_tests, and the scenarios. Begin with `response`
+//! and `reply`, then `session` and `script`.
 #![tactic(auto)]
 
 mod laws;

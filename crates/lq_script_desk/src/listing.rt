@@ -1,4 +1,4 @@
-//! The text of a whole entry.
+//! Writes the text of a whole entry, with its attributes, as `entry` of a script answers it.
 #![tactic(auto, unfolding(json::specs::Print::escape_byte))]
 
 ghost use Rattle.std.specs.Prelude.{◌≡◌, ◌++◌, codes, OnOk, map, true, false};

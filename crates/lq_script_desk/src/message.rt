@@ -1,4 +1,4 @@
-//! The text of a read from a subscription.
+//! Writes the text of a read from a subscription: a message, the mark, or that there is none.
 #![tactic(auto, unfolding(json::specs::Print::escape_byte))]
 
 ghost use Rattle.std.specs.Prelude.{◌≡◌, ℕ, ◌++◌, codes, OnOk, true};

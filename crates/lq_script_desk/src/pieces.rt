@@ -1,4 +1,4 @@
-//! The text of bytes, numbers and truth values.
+//! Appends bytes, numbers and truth values to a buffer: the pieces that all texts of replies have.
 ghost use Rattle.std.specs.Prelude.{◌≡◌, ◌++◌, OnErr, OnOk};
 ghost use Rattle.serde_json.specs.Data.{number, unsigned, boolean};
 ghost use Rattle.serde_json.specs.Find.{of_integer};

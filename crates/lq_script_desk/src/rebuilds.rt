@@ -1,4 +1,5 @@
-//! The result of each slot, rebuilt from what was read from it.
+//! Keeps the result of each slot, rebuilt from what was read from it, so that a script can compare
+//! it with a fetch.
 ghost use Rattle.std.specs.Prelude.{◌≡◌, ◌⊎◌, ◌<◌, ◌+◌, length, true, MatchOption, IfOk, IfErr, OnOk, OnErr};
 ghost use Rattle.std.specs.Option.{option_map};
 ghost use Rattle.lq_value.specs.declared.refusal.Refusal.TheVariants.{NoMemory};

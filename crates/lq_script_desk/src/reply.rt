@@ -1,4 +1,4 @@
-//! The text of a reply.
+//! Writes the text of a reply by pieces, as serde_json would write its value.
 #![tactic(auto, unfolding(json::specs::Print::escape_byte))]
 
 ghost use Rattle.std.specs.Prelude.{◌≡◌, ◌++◌, codes, OnOk, OnErr, map, false};

@@ -1,4 +1,4 @@
-//! The responses of a session to lines.
+//! What a session answers to a line, before it is text.
 use lq_desk::Reply;
 use lq_value::{Entry, Refusal};
 use lq_volume::Listing;

@@ -1,4 +1,4 @@
-//! A whole script over a volume with the root alone.
+//! Carries out a whole script by one thread, over a volume with the root alone.
 ghost use Rattle.std.specs.Prelude.{◌≡◌, false};
 ghost use Rattle.lq_script_lines.specs.Calls.{CallsOf};
 ghost use Rattle.lq_script_lines.specs.Outcome.{IsRunOutcome, MayReadAfterReplies, reader_log, writer_log};

@@ -33,7 +33,6 @@ pub struct Session {
     scratch: Scratch,
 }
 
-// Dropping one is a single call, instead of code at each place.
 impl Drop for Session {
     fn drop(self) {
         let Session {

@@ -1,4 +1,4 @@
-//! Quoted texts.
+//! Writes quoted texts with JSON's escapes, a run of plain bytes at a time.
 ghost use Rattle.std.specs.Prelude.{◌≡◌, ◌++◌, ◌<◌, ◌≤◌, false, OnOk, length};
 ghost use Rattle.std.specs.List.{prefix_len};
 ghost use Rattle.std.specs.Char.{digit_char};

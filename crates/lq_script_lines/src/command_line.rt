@@ -1,4 +1,5 @@
-//! The command line, read with clap.
+//! Reads the program's arguments with clap, and refuses what clap would take beyond the documented
+//! forms.
 ghost use Rattle.std.specs.Prelude.{◌≡◌, false, IfOk, IsErrOf};
 ghost use Rattle.clap.specs.Simple.{app_of};
 ghost use Rattle.clap.specs.declared.builder.command.Command.TheViews.{out-Command as fields_of};

@@ -1,4 +1,5 @@
-//! The part of an input that has come so far: the line in progress and the counts.
+//! The part of an input that has come so far: the line in progress, and the counts that the limits
+//! are on.
 ghost use Rattle.std.specs.Prelude.{◌≡◌, ◌+◌, ◌++◌, ◌≤◌, ℕ, List, [], length, false, true, IfErr, IsOk, OnOk, OnErr};
 ghost use Rattle.lq_script_lines.specs.Lines.{given_line, line_of, reply_to, state_after, without_cr};
 ghost use Rattle.lq_script_lines.specs.Progress.{IsKeptLine};

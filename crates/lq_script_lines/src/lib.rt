@@ -4,7 +4,8 @@
 //! Contracts see the arguments as texts (`specs/Words`), a device as the bytes that it has left or
 //! has taken, an input as its list of lines (`specs/Lines`), and the responder to lines as rules on
 //! a state. `specs/Output` says what a run has read and written when it answers. Nothing here
-//! waits. Begin with `devices`, then `responder`, then `script_run`; `command_line` stands alone.
+//! waits. Tests: `lines` of lq_core_tests, `faults` of lq_thread_tests. Begin with `devices`, then
+//! `responder`, then `script_run`; `command_line` stands alone.
 #![tactic(auto)]
 
 mod command_line;

@@ -1,4 +1,5 @@
-//! The responder to a script's lines.
+//! The responder to a script's lines, as a trait: this crate reads lines, and what answers them is
+//! above.
 ghost use Rattle.std.specs.Prelude.{◌≡◌, ◌++◌, IfErr, OnOk, OnErr};
 ghost use mathlib.Core.List.{IsPrefix};
 ghost use Rattle.lq_script_lines.specs.Lines.{Rules};

@@ -1,4 +1,4 @@
-//! The reasons why a run over a script stops.
+//! The reasons why a run over a script stops early, with their texts for standard error.
 use std::fmt;
 use thiserror::Error;
 

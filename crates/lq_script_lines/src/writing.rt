@@ -1,4 +1,4 @@
-//! Writes all waiting bytes to a sink.
+//! Writes all waiting bytes to a sink, which may take a part of them at each call.
 ghost use Rattle.std.specs.Prelude.{◌≡◌, ◌⊎◌, ℕ, [], take, true, IfErr, OnOk, OnErr};
 ghost use Rattle.std.specs.Io.KnownBytes.{Appends, Keeps};
 ghost use Rattle.lq_script_lines.specs.Calls.{EndsInFlush, EndsInWrite, OnlyWrites};

@@ -1,4 +1,5 @@
-//! The value of a member, as far as a line's fields go.
+//! The value of a member, as far as a line's fields go: of an array or an object only the kind is
+//! kept.
 ghost use Rattle.std.specs.Prelude.{◌≡◌, Some, is_none, option_and_then, option_map};
 ghost use Rattle.serde_json.specs.Find.{as_bool, as_i64, as_number, as_str, as_u64};
 ghost use Rattle.serde_json.specs.View.{view};

@@ -1,4 +1,4 @@
-//! The fields of a line.
+//! Finds the fields of a line: by its bytes if it is plain, else by serde_json.
 ghost use Rattle.std.specs.Prelude.{◌≡◌, ◌⊎◌, ◌≤◌, IfErr, IfOk, IfSome, IsTrue, None, Some, length};
 ghost use Rattle.lq_value.specs.declared.refusal.Refusal.TheVariants.{NoMemory, NotJson};
 ghost use Rattle.serde_json.specs.Find.{get};

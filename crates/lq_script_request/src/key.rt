@@ -1,4 +1,4 @@
-//! The keys of a script's lines.
+//! The keys that a script's lines use: `fields` finds a field for each.
 
 /// A key that lines use.
 #[derive(Clone, Copy)]

@@ -5,7 +5,8 @@
 //! with a number beyond the doubles is no value. A plain line is read by its bytes, without memory;
 //! any other line by `serde_json::Value`. `fields` says which lines are plain. Both readers find
 //! the same fields (`specs/Fields`). Of an array or an object within them only the kind is kept
-//! (`specs/Shown`). Nothing waits. Begin with `request`, then `parse_line`, `fields` and `member`.
+//! (`specs/Shown`). Nothing here waits. Tests: `json_values` of lq_core_tests. Begin with
+//! `request`, then `parse_line`, `fields` and `member`.
 #![tactic(auto)]
 
 mod field;

@@ -1,4 +1,4 @@
-//! From the bytes of a line to its request.
+//! Parses a line's bytes to its request, or the refusal that comes first.
 ghost use Rattle.std.specs.Prelude.{◌≡◌, ◌⊎◌, IfOk, IfErr, Ok, Err};
 ghost use Rattle.lq_value.specs.declared.refusal.Refusal.TheVariants.{NoMemory};
 ghost use Rattle.lq_script_request.specs.Asked.{asked, given};

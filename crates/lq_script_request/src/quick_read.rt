@@ -1,4 +1,4 @@
-//! The line that asks for a read of a slot, recognised by its bytes.
+//! Recognises by its bytes the line that asks for a read of a slot, since programs send it most.
 ghost use Rattle.std.specs.Prelude.{◌≡◌, ◌<◌, ◌+◌, IfSome};
 ghost use Rattle.lq_script_request.specs.Plain.{read_line};
 

@@ -1,4 +1,4 @@
-//! The requests of lines to a session.
+//! What a line asks: an event of the core, or a look at the volume or at a rebuilt result.
 use lq_desk_world::Event;
 use lq_predicate::Predicate;
 use lq_value::Name;

@@ -1,4 +1,4 @@
-//! What the reader of lines keeps from line to line.
+//! What the reader of lines keeps from line to line, to save memory and time.
 ghost use Rattle.std.specs.Prelude.{◌≡◌, Some, None, IfOk, IfSome, IsTrue, if◌then◌else◌};
 ghost use Rattle.lq_value.specs.declared.refusal.Refusal.TheVariants.{BadName};
 ghost use Rattle.lq_value.specs.Name.{is_attr_name};

@@ -1,4 +1,4 @@
-//! The model at work.
+//! Runs lq_model's server with a reader beside it, and compares what both leave.
 use crate::acts::{Row, are_entries, file};
 use crate::scenario::base;
 use lq_model::{Followed, follow};

@@ -1,4 +1,4 @@
-//! The scenarios, played.
+//! Plays the scenarios of the tables, and the worked examples among them, at new servers.
 ghost use Rattle.std.specs.Prelude.{◌≡◌, ◌≤◌};
 
 use crate::fills::{COUNTED, ENDS, REFUSED, ROOM};

@@ -1,4 +1,4 @@
-//! A reader's seat in the calls on the volume.
+//! Tests that a reader's seat may make each call on the volume, and how seats are counted.
 ghost use Rattle.std.specs.Prelude.{◌≡◌, [], true, IfOk};
 ghost use Rattle.lq_board.specs.Token.{counted_board};
 ghost use Rattle.lq_server.specs.Own.{IsOwn, StaysOwn};

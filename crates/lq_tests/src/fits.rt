@@ -1,4 +1,4 @@
-//! Patterns, and the order of texts by their bytes.
+//! Tests which texts a pattern fits, and the order of texts by their bytes.
 use crate::act::Act;
 use lq_predicate::read;
 use lq_value::{Pattern, Refusal};

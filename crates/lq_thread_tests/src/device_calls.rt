@@ -1,4 +1,4 @@
-//! Of lq_script: devices of one's own.
+//! Devices as a caller of lq_script writes them: a `Source` and a `Sink` over a text.
 ghost use Rattle.std.specs.Prelude.{◌≡◌, false, true, None};
 
 use lq_script::{Failed, Sink, Source};

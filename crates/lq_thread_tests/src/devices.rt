@@ -1,4 +1,4 @@
-//! Devices of the tests' own.
+//! Devices that move few bytes a call, fail or stall, for the tests of runs.
 ghost use Rattle.std.specs.Prelude.{◌≡◌, ◌<◌, false, true, None};
 
 use lq_script::{Failed, Sink, Source};

@@ -1,4 +1,4 @@
-//! What the program does with words.
+//! Tests what the program does with its arguments, and what it writes on each stream.
 use lq_script::{Host, program};
 use std::alloc::{AllocError, Global};
 use std::sync::Wait;

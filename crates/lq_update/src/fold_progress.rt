@@ -1,4 +1,4 @@
-//! The progress of a fold of messages.
+//! How far a fold of messages has come, which decides whether a message may be next.
 ghost use Rattle.std.specs.Prelude.{◌≡◌, true};
 ghost use Rattle.lq_update.specs.FoldProgress.{may_follow};
 

@@ -1,4 +1,5 @@
-//! A result that is kept by folding messages into a map by node.
+//! A result that is kept by folding messages into a map by node: for large results, where `Rebuild`
+//! would move entries at each message.
 ghost use Rattle.std.specs.Prelude.{◌≡◌, IfOk, OnOk, OnErr};
 ghost use Rattle.lq_value.specs.Refusal.{FailsOnlyForMemory, IsRefusedBy, first_refusal};
 ghost use Rattle.lq_update.specs.Fold.{EntriesRise, fold_refusals, folding_after, opened_at};

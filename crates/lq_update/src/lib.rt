@@ -2,7 +2,8 @@
 //!
 //! Contracts see the messages of a query over a book of changes as a list (`specs/Updates`). This
 //! list depends only on the results before and after each change (`specs/Diff`). Nothing here
-//! waits. Begin with `message`, then `step`.
+//! waits. Tests: `bodies`, `folds`, `creates` and `skipped_writes` of lq_tests. Begin with
+//! `message`, then `stepping`, then `rebuild`.
 #![tactic(auto)]
 
 mod difference;

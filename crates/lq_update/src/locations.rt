@@ -1,4 +1,4 @@
-//! Folds one message into the locations of a result's nodes.
+//! Folds one message into the locations of a result's nodes, for an indexed rebuild.
 ghost use Rattle.std.specs.Prelude.{◌≡◌, None, Some, IfOk, IsSome, OnOk, OnErr, not, if◌then◌else◌};
 ghost use Rattle.std.specs.BTreeMap.{get, insert_entry};
 ghost use Rattle.std.specs.Ordering.{nat_cmp};

@@ -1,4 +1,4 @@
-//! The closing mark of a subscription.
+//! The closing mark of a subscription: why it ended, and which changes its messages cover.
 
 /// Why a subscription ended.
 #[derive(Clone, Copy, Debug, PartialEq, Eq)]

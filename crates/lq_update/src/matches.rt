@@ -1,4 +1,4 @@
-//! A query that was asked of a planned change.
+//! Asks a query of a planned change's own entry before and after it, so that no caller asks twice.
 ghost use Rattle.std.specs.Prelude.{◌≡◌};
 ghost use Rattle.lq_volume.specs.State.{record_at};
 ghost use Rattle.lq_volume.specs.Change.{after, node_of};

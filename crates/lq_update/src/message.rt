@@ -1,4 +1,4 @@
-//! The messages of a live query.
+//! The messages of a live query, with the opcodes of B_QUERY_UPDATE.
 use lq_value::Name;
 
 /// What a message says about an entry, by the opcodes of B_QUERY_UPDATE.

@@ -1,4 +1,5 @@
-//! The messages of the entries that left and of one that came or moved.
+//! Puts together the messages of one change: for the entries that left, and for one that came or
+//! moved.
 ghost use Rattle.std.specs.Prelude.{◌≡◌, ◌+◌, ◌<◌, ◌≤◌, ◌^◌, ◌++◌, map, true, false};
 ghost use Rattle.std.specs.Option.{option_to_list};
 ghost use Rattle.std.specs.VecDeque.{deque_len, deque_capacity};

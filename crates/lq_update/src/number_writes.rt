@@ -1,4 +1,5 @@
-//! Writes that stay on one side of all numbers of a query.
+//! Finds writes that stay on one side of all numbers of a query: they have no message, and the
+//! query isn't asked.
 ghost use Rattle.std.specs.Prelude.{◌≡◌, ℕ, Bool, true, []};
 ghost use Rattle.lq_predicate.specs.Query.{Query};
 ghost use Rattle.lq_predicate.specs.Spans.{spans_of};

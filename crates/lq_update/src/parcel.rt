@@ -1,4 +1,4 @@
-//! The items in a subscription's port.
+//! The items in a subscription's port: messages, and the mark after the last of them.
 use crate::mark::Mark;
 use crate::message::Message;
 

@@ -1,4 +1,4 @@
-//! A result that is kept by folding messages into it.
+//! A result that is kept by folding messages into it, as a reader of a live query does.
 ghost use Rattle.std.specs.Prelude.{◌≡◌, OnOk, OnErr};
 ghost use Rattle.lq_value.specs.Refusal.{IsRefusedBy, first_refusal};
 ghost use Rattle.lq_update.specs.Fold.{EntriesRise, fold_refusals, folding_after, opened_at};

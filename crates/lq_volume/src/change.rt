@@ -1,4 +1,4 @@
-//! The changes of a volume.
+//! The changes of a volume: the only way to alter it, each accepted whole or refused.
 use lq_value::{AttrName, Kind, Name, Value};
 
 /// One act on a volume. Nodes count from 1, the root; times are seconds since 1970.

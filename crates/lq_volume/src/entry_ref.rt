@@ -1,4 +1,4 @@
-//! One entry of a volume, as a look-up gives it.
+//! One entry of a volume, borrowed, as a look-up gives it, and its copy for a caller who keeps it.
 ghost use Rattle.std.specs.Prelude.{◌≡◌, IfOk, length, slice_get};
 ghost use Rattle.std.specs.Option.{option_map};
 ghost use Rattle.lq_value.specs.Refusal.{FailsOnlyForMemory};

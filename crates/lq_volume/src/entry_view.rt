@@ -1,4 +1,4 @@
-//! An entry as a predicate sees it.
+//! An entry as a predicate sees it, before a change or after it, without a copy of the entry.
 ghost use Rattle.std.specs.Prelude.{◌≡◌, ◌<◌, ◌^◌, Some, IfOk, IsSome};
 ghost use Rattle.std.specs.Option.{option_copied};
 ghost use Rattle.lq_value.specs.Refusal.{FailsOnlyForMemory};

@@ -3,7 +3,8 @@
 //! Contracts see a volume as a `State` (`specs/State`), which is always a tree. `specs/Change` says
 //! when a change is refused and what the state is after an accepted one; `specs/Lookup` says when a
 //! look-up is refused; `specs/Result` gives the result of a query. The entries are kept by
-//! lq_volume_entries. Nothing here waits. Begin with `change`, then `volume`, then `lookup`.
+//! lq_volume_entries. Nothing here waits. Tests: lq_tests. Begin with `change`, then `volume`, then
+//! `lookup`.
 #![tactic(auto)]
 
 mod change;

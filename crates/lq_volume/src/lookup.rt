@@ -1,4 +1,4 @@
-//! What a volume answers about its entries.
+//! What a volume answers about its entries: by place, by node, by folder and by path.
 ghost use Rattle.std.specs.Prelude.{◌≡◌, Some, None, IfOk, IfErr, OnOk};
 
 use crate::checks::check_folder;

@@ -1,4 +1,5 @@
-//! A change that a volume accepts, with what it touches.
+//! A change that a volume accepts, with the entries that it touches: subscriptions are asked before
+//! it is made.
 ghost use Rattle.std.specs.Prelude.{◌≡◌, ◌+◌, Some, None, IfErr, IfOk, IfSome, MatchOption, OnOk};
 ghost use Rattle.std.specs.Option.{option_copied, option_map};
 ghost use Rattle.lq_volume.specs.State.{record_at, IsVolume};

@@ -1,4 +1,4 @@
-//! The volume.
+//! The volume: it checks and makes changes, and numbers those that it accepts.
 ghost use Rattle.std.specs.Prelude.{◌≡◌, ◌≤◌, ◌+◌, Some, None, IfOk, IfErr, OnErr, OnOk};
 
 use crate::change::{Applied, Change};
@@ -49,7 +49,6 @@ impl fmt::Debug for Volume {
     }
 }
 
-// Dropping one is a single call, instead of code at each place.
 impl Drop for Volume {
     fn drop(self) {
         let Volume {

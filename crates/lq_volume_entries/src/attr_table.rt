@@ -1,4 +1,4 @@
-//! The attributes of an entry that has at least one.
+//! The attributes of an entry that has at least one: a short list, or a map once there are many.
 ghost use Rattle.std.specs.Prelude.{◌≡◌, [], length, slice_get, Some, None, IfOk, IfSome, IfNone, OnOk, OnErr};
 ghost use Rattle.std.specs.Map.Iter.{deref_pair};
 ghost use Rattle.std.specs.Option.{option_copied, option_map};
@@ -23,7 +23,6 @@ pub struct AttrTable {
     many: Option<Box<IndexMap<AttrName, Value>>>,
 }
 
-// Dropping one is a single call, instead of code at each place.
 impl Drop for AttrTable {
     fn drop(self) {
         let AttrTable {

@@ -1,4 +1,4 @@
-//! The attributes of an entry.
+//! The attributes of an entry, which take 8 bytes if there are none.
 ghost use Rattle.std.specs.Prelude.{◌≡◌, [], length, slice_get, IfOk, OnOk, OnErr};
 ghost use Rattle.std.specs.Map.Iter.{deref_pair};
 ghost use Rattle.std.specs.Option.{option_copied, option_map};

@@ -1,4 +1,4 @@
-//! The entries of a volume.
+//! The entries of a volume: the records by node, and an index by place that is kept with them.
 ghost use Rattle.std.specs.Prelude.{◌≡◌, ◌==◌, ◌<◌, ◌^◌, [], ◌∷◌, ◌++◌, length, map, filter, nat_eq, not, None, IfOk, OnErr, OnOk};
 ghost use Rattle.std.specs.List.{list_any, AllByRecursion};
 ghost use Rattle.std.specs.Map.{lookup, values_of};
@@ -24,7 +24,6 @@ pub struct Entries {
     places: Places,
 }
 
-// Dropping one is a single call, instead of code at each place.
 impl Drop for Entries {
     fn drop(self) {
         let Entries {

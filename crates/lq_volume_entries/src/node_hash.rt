@@ -1,4 +1,4 @@
-//! The hash of a node, by which the map of records finds it.
+//! The hash of a node, by which the map of records puts nodes in a row close together.
 ghost use Rattle.std.specs.Prelude.{◌≡◌};
 ghost use Rattle.lq_volume_entries.specs.NodeHash.{hashed, node_hash, hashed_number};
 

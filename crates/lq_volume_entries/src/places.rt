@@ -1,4 +1,4 @@
-//! The node at each place of a volume.
+//! The index of places: which node a folder has under a name, found by the name's hash.
 ghost use Rattle.std.specs.Prelude.{◌≡◌, ◌↔◌, ℕ, List, ◌==◌, ◌||◌, ◌++◌, not, length, false, OnOk, OnErr, IfOk, IsSome, Some, None};
 ghost use Rattle.std.specs.List.{Contains};
 ghost use Rattle.std.specs.Map.{values_of};

@@ -1,4 +1,4 @@
-//! An entry as a volume stores it.
+//! An entry as a volume stores it under its node: its place, kind, size, time and attributes.
 ghost use Rattle.std.specs.Prelude.{◌≡◌, ◌==◌, ◌&&◌, ◌<◌, ◌^◌, [], IfOk, OnOk, OnErr};
 ghost use Rattle.std.specs.Str.{bytes_eq};
 ghost use Rattle.lq_value.specs.Refusal.{FailsOnlyForMemory};
@@ -18,7 +18,6 @@ pub struct StoredRecord {
     attrs: Attributes,
 }
 
-// Dropping one is a single call, instead of code at each place.
 impl Drop for StoredRecord {
     fn drop(self) {
         let StoredRecord {

@@ -1,4 +1,5 @@
-//! A test of records.
+//! A test of records, as a trait: a fetch asks it of each record, and the query is above this
+//! crate.
 ghost use Rattle.std.specs.Prelude.{◌≡◌, Bool};
 ghost use Rattle.lq_volume_entries.specs.Record.{Record};
 

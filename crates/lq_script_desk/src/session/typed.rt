@@ -1,4 +1,5 @@
-//! A session's calls for a caller without lines.
+//! A session's calls for a caller without lines: they take requests and answer responses, not
+//! texts.
 ghost use Rattle.std.specs.Prelude.{◌≡◌, ◌⊎◌, IfOk, Ok};
 ghost use Rattle.std.specs.Option.{option_map};
 ghost use Rattle.lq_value.specs.declared.refusal.Refusal.TheVariants.{NoMemory};
