@@ -28,14 +28,17 @@ const WORDS: usize = 65;
 ///
 /// ```rattle
 /// use lq_board::{Board, Keeper};
-/// use lq_volume::Volume;
+/// use lq_value::{Kind, Name};
+/// use lq_volume::{Change, Volume};
 ///
 /// let volume = Volume::new(alloc, 1000);
 /// let (board, mut keeper): (Board<u64>, Keeper<u64>) = Board::new(alloc, &volume)?;
-/// let mut reader = board.slot_seat(&mut keeper, 1);
-/// assert!(rt; board.latest(&mut reader) == 0);
-/// board.ask(&mut reader);
-/// assert!(rt; board.asks(&mut keeper, 1) == 1);
+/// let mut seat = board.seat(&mut keeper);
+/// let name = Name::read(alloc, "notes.txt")?;
+/// let create = Change::Create { dir: 1, name, kind: Kind::File, size: 200, time: 0 };
+/// volume.check(&create)?;
+/// assert!(rt; board.add(&mut keeper, &create) == 1);
+/// assert!(rt; board.latest(&mut seat) == 1);
 /// ```
 #[derive(Drop)]
 pub struct Board<M> {
