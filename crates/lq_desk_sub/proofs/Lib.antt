@@ -5,3 +5,4 @@ pub mod PassingLemmas
 pub mod WatchLemmas
 pub mod SlotSetLemmas
 pub mod VisitLemmas
+pub mod SlotTableLemmas

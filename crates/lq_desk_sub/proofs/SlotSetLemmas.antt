@@ -105,10 +105,10 @@ above-less_one (suc t) n set low (suc i) lt =
     ∙ sym (bit_at-suc n i)
 
 -- the lowest bit is cleared
-pub has-take_one : (w : ℕ) → 0 < w → w < 2 ^ 64
+pub has-pop_lowest : (w : ℕ) → 0 < w → w < 2 ^ 64
     → IsTakenOut w (trailing_zeros w64 w) (bit_and w (w - 1))
 unfolding has
-has-take_one w pos fits =
+has-pop_lowest w pos fits =
     let z = bit_at-trailing_zeros w64 w pos fits in
     let p = trailing_zeros w64 w in
     let gone : bit_at (bit_and w (w - 1)) p ≡ 0 =

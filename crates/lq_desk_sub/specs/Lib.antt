@@ -5,3 +5,5 @@ pub mod Watch
 pub mod Laws
 pub mod SlotSet
 pub mod Visits
+pub mod SlotTable
+pub mod Lends

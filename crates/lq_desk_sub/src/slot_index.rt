@@ -1,38 +1,45 @@
-//! The index of a slot, tested once.
+//! A slot by its index, which is one less than its number; the number is tested once.
 ghost use Rattle.std.specs.Prelude.{◌≡◌, ◌⊎◌, ◌<◌, ◌+◌, MatchOption};
 
-/// The index of one of 64 slots: that of slot 1 is 0.
+/// One of 64 slots, by its index: that of slot 1 is 0.
 #[derive(Clone, Copy, Drop)]
 pub struct SlotIndex {
-    place: usize,
-    ghost within: { place < 64 },
+    index: usize,
+    ghost within: { index < 64 },
 }
 
 impl SlotIndex {
-    /// The index of the slot with this number. `None`: it is none of 1 to 64.
-    pub fn of(slot: u64) -> Option<SlotIndex>
-        ensures { MatchOption result ((slot ≡ 0) ⊎ (64 < slot))
-            (λ index. index.place + 1 ≡ slot) }
+    /// The slot with this number. `None`: it is none of 1 to 64.
+    pub fn of(number: u64) -> Option<SlotIndex>
+        ensures { MatchOption result ((number ≡ 0) ⊎ (64 < number))
+            (λ slot. slot.index + 1 ≡ number) }
     {
-        if slot == 0 || slot > 64 {
+        if number == 0 || number > 64 {
             return None;
         }
-        Some(SlotIndex::at((slot - 1) as usize))
+        Some(SlotIndex::at((number - 1) as usize))
     }
 
-    /// An index below 64.
-    pub fn at(place: usize) -> SlotIndex
-        requires { place < 64 }
-        ensures { result.place ≡ place }
+    /// The slot with this index.
+    pub fn at(index: usize) -> SlotIndex
+        requires { index < 64 }
+        ensures { result.index ≡ index }
     {
-        SlotIndex { place }
+        SlotIndex { index }
     }
 
-    /// As a number, 0 to 63.
-    pub fn place(self) -> usize
-        ensures value { result ≡ self.place }
+    /// Its number, 1 to 64.
+    pub fn number(self) -> u64
+        ensures { result ≡ self.index + 1 }
+    {
+        self.index as u64 + 1
+    }
+
+    /// Its index, 0 to 63.
+    pub fn index(self) -> usize
+        ensures value { result ≡ self.index }
         ensures within { result < 64 }
     {
-        self.place
+        self.index
     }
 }

@@ -7,7 +7,7 @@ use crate::slot_index::SlotIndex;
 
 /// A set of slots, as a word with a bit for each.
 ///
-/// Contracts see which places it has (`specs/SlotSet`).
+/// Contracts see which indexes it has (`specs/SlotSet`).
 #[derive(Clone, Copy, Drop)]
 pub struct SlotSet {
     word: u64,
@@ -15,7 +15,7 @@ pub struct SlotSet {
 
 impl SlotSet {
     /// The set without slots.
-    pub fn empty() -> SlotSet
+    pub fn new() -> SlotSet
         ensures { IsEmpty (has result.word) }
     {
         SlotSet { word: 0 }
@@ -29,7 +29,7 @@ impl SlotSet {
         self.word == 0
     }
 
-    /// The slots whose bits are set in a word, for the slot at a place the bit with this index.
+    /// The slots whose bits are set in a word, for each slot the bit with its index.
     pub fn from_word(word: u64) -> SlotSet
         ensures { (i : ℕ) → i < 64 → has result.word i ≡ (bit_at word i == 1) }
     {
@@ -38,9 +38,9 @@ impl SlotSet {
 
     /// Whether a slot is in the set.
     pub fn contains(self, slot: SlotIndex) -> bool
-        ensures { result ≡ has self.word slot.place }
+        ensures { result ≡ has self.word slot.index }
     {
-        (self.word >> slot.place()) & 1 == 1
+        (self.word >> slot.index()) & 1 == 1
     }
 
     /// Both sets together.
@@ -52,23 +52,39 @@ impl SlotSet {
         }
     }
 
-    /// Adds a slot if `is_in`, else removes it.
+    /// Adds a slot.
+    pub fn insert(&mut self, slot: SlotIndex)
+        ensures here { has self.new.word slot.index ≡ true }
+        ensures others { (i : ℕ) → i ≢ slot.index → has self.new.word i ≡ has self.old.word i }
+    {
+        self.word |= 1 << slot.index();
+    }
+
+    /// Takes a slot out.
+    pub fn remove(&mut self, slot: SlotIndex)
+        ensures here { has self.new.word slot.index ≡ false }
+        ensures others { (i : ℕ) → i ≢ slot.index → has self.new.word i ≡ has self.old.word i }
+    {
+        self.word &= !(1 << slot.index());
+    }
+
+    /// Adds a slot if `is_in`, else takes it out.
     pub fn put(&mut self, slot: SlotIndex, is_in: bool)
-        ensures here { has self.new.word slot.place ≡ is_in }
-        ensures others { (i : ℕ) → i ≢ slot.place → has self.new.word i ≡ has self.old.word i }
+        ensures here { has self.new.word slot.index ≡ is_in }
+        ensures others { (i : ℕ) → i ≢ slot.index → has self.new.word i ≡ has self.old.word i }
     {
         if is_in {
-            self.word |= 1 << slot.place();
+            self.insert(slot);
         } else {
-            self.word &= !(1 << slot.place());
+            self.remove(slot);
         }
     }
 
     /// The lowest slot that is not in the set. `None`: each of the 64 is.
     pub fn lowest_outside(self) -> Option<SlotIndex>
-        ensures outside { IfSome result (λ slot. has self.word slot.place ≡ false) }
+        ensures outside { IfSome result (λ slot. has self.word slot.index ≡ false) }
         ensures lowest { IfSome result (λ slot.
-            (i : ℕ) → i < slot.place → has self.word i ≡ true) }
+            (i : ℕ) → i < slot.index → has self.word i ≡ true) }
         ensures full { IfNone result ((i : ℕ) → i < 64 → has self.word i ≡ true) }
     {
         if self.word == u64::MAX {
@@ -77,16 +93,16 @@ impl SlotSet {
         Some(SlotIndex::at(self.word.trailing_ones() as usize))
     }
 
-    /// Takes a slot out of the set. `None`: the set is empty.
-    pub fn take_one(&mut self) -> Option<SlotIndex>
+    /// Takes the lowest slot out of the set. `None`: the set is empty.
+    pub fn pop_lowest(&mut self) -> Option<SlotIndex>
         ensures { MatchOption result (IsEmpty (has self.old.word))
-            (λ slot. IsTakenOut self.old.word slot.place self.new.word) }
+            (λ slot. IsTakenOut self.old.word slot.index self.new.word) }
     {
         if self.word == 0 {
             return None;
         }
-        let place = self.word.trailing_zeros() as usize;
+        let index = self.word.trailing_zeros() as usize;
         self.word &= self.word - 1;
-        Some(SlotIndex::at(place))
+        Some(SlotIndex::at(index))
     }
 }

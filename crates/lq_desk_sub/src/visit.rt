@@ -8,24 +8,24 @@ use crate::slot_set::SlotSet;
 
 /// What is done in a taken slot, with a state that all visits share.
 pub trait Visit<T, S> {
-    /// Whether a slot with these contents may be visited in a state.
+    /// Whether a slot with this item may be visited in a state.
     ghost allows: { Self → S → ℕ → T → Type 0 };
 
-    /// What a visit did, by the state, the slot's place, and its contents before and after.
+    /// What a visit did, by the state, the slot's index, and its item before and after.
     ghost did: { Self → S → ℕ → T → T → Type 0 };
 
     /// Visits a slot. Another that may be visited still may, and what was done there stands.
     fn visit(&self, state: &mut S, slot: SlotIndex, item: &mut T)
-        requires { allows self.now state.old slot.place item.old }
-        ensures did { did self.now state.new slot.place item.old item.new }
-        ensures apart { (i : ℕ) (x : T) → i ≢ slot.place → allows self.now state.old i x
+        requires { allows self.now state.old slot.index item.old }
+        ensures did { did self.now state.new slot.index item.old item.new }
+        ensures apart { (i : ℕ) (x : T) → i ≢ slot.index → allows self.now state.old i x
             → allows self.now state.new i x }
-        ensures stands { (i : ℕ) (x y : T) → i ≢ slot.place → did self.now state.old i x y
+        ensures stands { (i : ℕ) (x y : T) → i ≢ slot.index → did self.now state.old i x y
             → did self.now state.new i x y };
 }
 
 /// Visits the taken slots of a set.
-pub fn visit_in<T, S, V: Visit<T, S>>(
+pub(crate) fn visit_in<T, S, V: Visit<T, S>>(
     slots: &mut Vec<Option<T>>,
     set: SlotSet,
     visitor: &V,
@@ -39,8 +39,8 @@ pub fn visit_in<T, S, V: Visit<T, S>>(
     ensures wide { length slots.new.items ≡ 64 }
 {
     let mut rest = set;
-    while let Some(slot) = rest.take_one() {
-        if let Some(item) = &mut slots[slot.place()] {
+    while let Some(slot) = rest.pop_lowest() {
+        if let Some(item) = &mut slots[slot.index()] {
             visitor.visit(state, slot, item);
         }
     }

@@ -9,15 +9,15 @@ pub loop-slot-preserved-in-Some-index_mut : goal.loop-slot-preserved-in-Some-ind
 loop-slot-preserved-in-Some-index_mut g c =
     let l = c.loop-slot in
     let xs = l.slots.items in
-    rw c.place.ensures.value record {
-      wide = length-set xs c.in-Some.slot.place _ ∙ l.invariant.wide;
+    rw c.index.ensures.value record {
+      wide = length-set xs c.in-Some.slot.index _ ∙ l.invariant.wide;
       all = visited-more (g.V.Visit.allows c.args.visitor.now) (g.V.Visit.did c.args.visitor.now)
           c.args.set.word c.args.slots.now.items c.args.state.now l.rest.word
-          c.take_one.new.self.word c.in-Some.slot.place xs l.state c.in-Some.ensures
+          c.pop_lowest.new.self.word c.in-Some.slot.index xs l.state c.in-Some.ensures
           l.invariant.all c.in-Some-index_mut.item c.visit.new.item c.visit.new.state
-          (ap (slice_get xs) (sym c.place.ensures.value)
-          ∙ (slice_get-get_or xs c.place.result c.index_mut.result.now
-          (omega (arith, l.invariant.wide, c.place.ensures.within))
+          (ap (slice_get xs) (sym c.index.ensures.value)
+          ∙ (slice_get-get_or xs c.index.result c.index_mut.result.now
+          (omega (arith, l.invariant.wide, c.index.ensures.within))
           ∙ ap (λ (o : Option _). Some o) (sym c.index_mut.ensures.value ∙ c.in-Some-index_mut.is)))
           c.visit.ensures.did c.visit.ensures.apart c.visit.ensures.stands;
     }
@@ -26,17 +26,17 @@ pub loop-slot-preserved : goal.loop-slot-preserved
 loop-slot-preserved g c =
     let l = c.loop-slot in
     let xs = l.slots.items in
-    let there = ap (slice_get xs) (sym c.place.ensures.value)
-    ∙ (slice_get-get_or xs c.place.result c.index_mut.result.now
-    (omega (arith, l.invariant.wide, c.place.ensures.within))
+    let there = ap (slice_get xs) (sym c.index.ensures.value)
+    ∙ (slice_get-get_or xs c.index.result c.index_mut.result.now
+    (omega (arith, l.invariant.wide, c.index.ensures.within))
     ∙ ap (λ (o : Option _). Some o) (sym c.index_mut.ensures.value)) in
     rw (
-      c.place.ensures.value,
-      set-same xs c.in-Some.slot.place c.index_mut.result.now there,
+      c.index.ensures.value,
+      set-same xs c.in-Some.slot.index c.index_mut.result.now there,
     ) record {
       wide = l.invariant.wide;
       all = visited-free (g.V.Visit.allows c.args.visitor.now) (g.V.Visit.did c.args.visitor.now)
           c.args.set.word c.args.slots.now.items c.args.state.now l.rest.word
-          c.take_one.new.self.word c.in-Some.slot.place xs l.state c.in-Some.ensures
+          c.pop_lowest.new.self.word c.in-Some.slot.index xs l.state c.in-Some.ensures
           l.invariant.all (there ∙ ap (λ (o : Option _). Some o) c.in_default-index_mut.is);
     }

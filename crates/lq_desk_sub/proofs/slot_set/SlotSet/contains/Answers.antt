@@ -6,6 +6,6 @@ use Rattle.lq_desk_sub.proofs.slot_set.SlotSet.contains.Goals as goal
 
 pub returns : goal.returns
 returns c =
-    ap (λ p. bit_and (c.args.self.word / 2 ^ p) 1 == 1) c.place.ensures.value
-    ∙ (ap (λ n. n == 1) (shr_and_one c.args.self.word c.args.slot.place)
-    ∙ sym (has-is c.args.self.word c.args.slot.place c.args.slot.within))
+    ap (λ p. bit_and (c.args.self.word / 2 ^ p) 1 == 1) c.index.ensures.value
+    ∙ (ap (λ n. n == 1) (shr_and_one c.args.self.word c.args.slot.index)
+    ∙ sym (has-is c.args.self.word c.args.slot.index c.args.slot.within))
