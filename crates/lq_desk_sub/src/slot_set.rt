@@ -36,6 +36,13 @@ impl SlotSet {
         SlotSet { word }
     }
 
+    /// A word with the bits of the slots in the set, for each slot the one with its index.
+    pub fn word(self) -> u64
+        ensures { (i : ℕ) → has self.word i ≡ (bit_at result i == 1) }
+    {
+        self.word
+    }
+
     /// Whether a slot is in the set.
     pub fn contains(self, slot: SlotIndex) -> bool
         ensures { result ≡ has self.word slot.index }
