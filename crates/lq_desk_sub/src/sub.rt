@@ -27,7 +27,6 @@ pub struct Sub {
     mark_out: bool,
 }
 
-// Dropping one is a single call, instead of code at each place.
 impl Drop for Sub {
     fn drop(self) {
         let Sub {

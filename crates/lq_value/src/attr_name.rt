@@ -1,4 +1,4 @@
-//! The name of an attribute.
+//! Names of attributes, each with the field that it means.
 ghost use Rattle.std.specs.Prelude.{◌≡◌, ◌==◌, not, Some, None, IfOk, IsTrue, nat_eq, if◌then◌else◌};
 ghost use Rattle.std.proofs.Common.{rules};
 ghost use Rattle.std.specs.Cmp.{partial_equiv_from_equiv};

@@ -2,7 +2,8 @@
 //!
 //! A contract sees a name or a text as its bytes, and a pattern as its list of elements. What a
 //! pattern fits and how a source writes it is said by lq_value_pattern. Nothing here waits, and
-//! comparing takes no memory. Begin with `refusal`, then `value`, `name`, `pattern` and `literal`.
+//! comparing takes no memory. Tests: `patterns` and `displays` of lq_core_tests, `values` of
+//! lq_tests. Begin with `refusal`, then `value`, `name`, `pattern` and `literal`.
 #![tactic(auto)]
 
 mod attr_name;

@@ -1,4 +1,4 @@
-//! The name of an entry.
+//! Names of entries, compared by bytes and hashed for the index of folders.
 ghost use Rattle.std.specs.Prelude.{◌≡◌, refl, Some, None, IfOk, IsTrue, nat_eq, if◌then◌else◌};
 ghost use Rattle.std.specs.Cmp.Lexicographic.{pointwise, slice_cmp, nat_list_eq_equiv, nat_list_cmp_total, texts_po, texts_ties};
 ghost use Rattle.std.specs.Cmp.{partial_equiv_from_equiv};

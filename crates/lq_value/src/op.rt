@@ -1,4 +1,4 @@
-//! The operators of a comparison.
+//! The six operators between an attribute and a literal.
 ghost use Rattle.std.specs.Prelude.{◌≡◌};
 
 use std::cmp::Ordering;

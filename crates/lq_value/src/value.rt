@@ -1,4 +1,4 @@
-//! The typed value of an attribute.
+//! What an attribute holds: a text or a number, with its type.
 ghost use Rattle.std.specs.Prelude.{◌≡◌, IfOk};
 ghost use Rattle.lq_value.specs.Refusal.{FailsOnlyForMemory, IsRefusedBy};
 ghost use Rattle.lq_value.specs.PlainValue.{held_in, plain_value_of};

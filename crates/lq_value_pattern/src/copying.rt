@@ -1,4 +1,4 @@
-//! Copies of elements.
+//! Copies the elements of a pattern, so that a literal can be copied.
 ghost use Rattle.std.specs.Prelude.{◌≡◌, IfOk};
 
 use crate::element::Element;

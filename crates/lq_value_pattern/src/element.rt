@@ -1,4 +1,4 @@
-//! The elements of a pattern.
+//! What a pattern is made of: plain characters, any one character, any run, and sets.
 ghost use Rattle.std.specs.Prelude.{◌≡◌, ◌++◌, ◌∷◌, [], IfOk};
 ghost use Rattle.lq_value_pattern.specs.Element.{is_list_empty};
 

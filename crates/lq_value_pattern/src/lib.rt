@@ -4,8 +4,8 @@
 //! them, `specs/Source` how it is read, and `specs/Pattern` what they fit. Plain elements are
 //! compared as text (`plain`), those with a star at an end are searched for as text (`starred`),
 //! others are matched from star to star (`matching`), in a long text at many places at once
-//! (`long`). Nothing here waits, and matching takes no memory. Begin with `element`, then `source`
-//! and `matching`.
+//! (`long`). Nothing here waits, and matching takes no memory. Tests: `patterns` of lq_core_tests.
+//! Begin with `element`, then `source` and `matching`.
 #![tactic(auto)]
 
 mod build_masks;

@@ -1,4 +1,4 @@
-//! The signs of a pattern's source.
+//! Splits a pattern's source into characters, each with the `\` that takes its meaning away.
 ghost use Rattle.std.specs.Prelude.{◌≡◌, ◌∷◌, [], MatchOption};
 ghost use Rattle.lq_value_pattern.specs.Sign.{signs_of};
 
