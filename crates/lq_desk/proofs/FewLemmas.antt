@@ -1,9 +1,8 @@
 -- How many messages a slot has made.
-use Rattle.std.proofs.Common.{◌≡◌, ℕ, ◌+◌, ◌-◌, ◌*◌, ◌≤◌, ◌<◌, ◌^◌, List, [], ◌∷◌, refl, ap, map, get_or, length, ◌∙◌, arith, Some, None, Option}
+use Rattle.std.proofs.Common.{◌≡◌, ℕ, ◌+◌, ◌-◌, ◌*◌, ◌≤◌, ◌<◌, ◌^◌, List, [], ◌∷◌, refl, map, arith, Some, None, Option}
 use Rattle.std.specs.Prelude.{slice_get}
 use Rattle.std.specs.Option.{option_map, option_flatten}
 use Rattle.std.specs.List.{AllByRecursion}
-use Rattle.std.proofs.lemmas.Option.{slice_get_read}
 use Rattle.lq_volume.specs.declared.change.Change.{Change as Change_}
 use Rattle.lq_volume.specs.State.{State, IsVolume}
 use Rattle.lq_volume.specs.Change.{IsLawful}
@@ -14,7 +13,7 @@ use Rattle.lq_desk.specs.Act.{outcome_at}
 use Rattle.lq_desk.specs.DeskState.{IsFew}
 use Rattle.lq_desk.proofs.ListLemmas.{all-get}
 use Rattle.lq_desk.proofs.PutLemmas.{KeepsSub}
-use Rattle.lq_desk.proofs.SlotsLemmas.{kept-there, kept_slot}
+use Rattle.lq_desk.proofs.SlotsLemmas.{kept-there, kept_slot, taken-there}
 
 -- what makes few messages in a slot makes few in all
 pub few-map : (m n : ℕ) (f : KeptSlot → KeptSlot)
@@ -63,9 +62,8 @@ few-there xs i p few found =
     all-get (IsFew (2 ^ 63 - 1)) _ i _ few (kept-there xs i p found) in
     omega (arith, one)
 
--- so has one that was read at a place
-pub sent-there : (xs : List (Option PreparedSlot)) (i : ℕ) (p : PreparedSlot)
-    (d : Option PreparedSlot) → i < length xs → d ≡ get_or xs i d → d ≡ Some p
-    → AllByRecursion (IsFew (2 ^ 63 - 1)) (map kept_slot xs) → p.sub.held.sent < 2 ^ 63
-sent-there xs i p d lt at is few = few-there xs i p few
-    (slice_get_read xs (length xs) i d refl lt at ∙ ap (λ (o : Option PreparedSlot). Some o) is)
+-- so has one that is read as taken
+pub few-at : (xs zs : List (Option PreparedSlot)) (i : ℕ) (p : PreparedSlot) → xs ≡ zs
+    → Some p ≡ option_flatten (slice_get xs i)
+    → AllByRecursion (IsFew (2 ^ 63 - 1)) (map kept_slot zs) → p.sub.held.sent < 2 ^ 63
+few-at xs zs i p view is few = few-there xs i p (rw view few) (taken-there xs i p is)

@@ -1,5 +1,5 @@
 -- Read in this order. Lists and update lists: ListLemmas, UpdateLemmas. One slot: PutLemmas. All
--- slots: SlotsLemmas, FewLemmas, PassLemmas, ReadyLemmas, WatchLemmas, MarkLemmas. A desk shows a
+-- slots: SlotsLemmas, FewLemmas, PassLemmas, CommitLemmas, WatchLemmas, MarkLemmas. A desk shows a
 -- world: SlotLemmas and EndLemmas (one subscription), Shown (each event). Turns: RunLemmas,
 -- EventLemmas, SlotTurnLemmas, TurnLemmas, ParcelLemmas. What a desk keeps stays as it has to be:
 -- Desks.
@@ -12,7 +12,7 @@ pub mod Shown
 pub mod SlotsLemmas
 pub mod FewLemmas
 pub mod PassLemmas
-pub mod ReadyLemmas
+pub mod CommitLemmas
 pub mod WatchLemmas
 pub mod MarkLemmas
 pub mod RunLemmas

@@ -1,9 +1,9 @@
 -- The places of the slots, and the sets that mark them, stay as they have to be.
-use Rattle.std.proofs.Common.{◌≡◌, ◌≢◌, ◌∙◌, ℕ, zero, suc, ◌<◌, List, length, map, replicate, Bool, true, false, Option, Some, None, refl, sym, ap, inl, inr, arith}
+use Rattle.std.proofs.Common.{◌≡◌, ◌≢◌, ◌∙◌, ℕ, zero, suc, List, length, map, replicate, Bool, true, false, Option, Some, None, refl, sym, ap, inl, inr, arith}
 use Rattle.std.specs.Prelude.{slice_get, slice_set, ◌||◌, ◌⊎◌}
 use Rattle.std.specs.Option.{option_map, option_flatten}
 use Rattle.std.proofs.lemmas.Bool.{both_ways, false_from_ne_true}
-use Rattle.std.proofs.lemmas.List.{length-map, length-set}
+use Rattle.std.proofs.lemmas.List.{length-map, length-set, map-set}
 use Rattle.std.proofs.lemmas.Option.{slice_get-map}
 use Rattle.lq_update.specs.declared.mark.Cause.TheVariants.{Closed}
 use Rattle.lq_update.specs.declared.parcel.Parcel.{Parcel}
@@ -13,13 +13,13 @@ use Rattle.lq_desk_sub.specs.Held.{is_live, ended_by}
 use Rattle.lq_desk_sub.specs.SlotSet.{has}
 use Rattle.lq_desk_sub.specs.Visits.{Visits}
 use Rattle.lq_desk.specs.Slot.{KeptSlot, PreparedSlot, slot_of, can_move, close_if, filled, has_work, is_ending, noticed, passes, read_if}
-use Rattle.lq_desk.specs.Act.{close_turn, outcome_at, outcome_in, read_turn}
+use Rattle.lq_desk.specs.Act.{close_turn, read_turn}
 use Rattle.lq_desk.specs.Words.{ArePlaces, AreWatched, IsMarked}
-use Rattle.lq_desk.proofs.ListLemmas.{get-put, get-set}
+use Rattle.lq_desk.proofs.ListLemmas.{get-put}
 use Rattle.lq_desk.proofs.PassLemmas.{visits-from}
 use Rattle.lq_desk.proofs.PutLemmas.{KeepsSub, filled-ends, filled-still, noticed-still}
-use Rattle.lq_desk.proofs.SlotsLemmas.{kept-there, kept_slot}
-use Rattle.lq_desk.proofs.WatchLemmas.{watched-acted, watched-from}
+use Rattle.lq_desk.proofs.SlotsLemmas.{kept-there, kept_slot, taken-there}
+use Rattle.lq_desk.proofs.WatchLemmas.{watched-from, watched-left}
 
 -- a slot that isn't in the set fails the test
 pub unmarked : (test : KeptSlot → Bool) (set : ℕ) (xs : List (Option PreparedSlot)) (i : ℕ)
@@ -142,36 +142,34 @@ places-set ends moves ends' moves' w w' ks place o others here others' here' wat
   watched = watched;
 }
 
--- something was done at a place, and the sets have it again just if it is needed
-pub places-acted : (does : KeptSlot → Answer × Option KeptSlot) → KeepsSub does
-    → (ends moves ends' moves' : ℕ) (w : Watch) (ks js : List (Option KeptSlot)) (r : Answer)
-    (index place : ℕ) → (r, js) ≡ outcome_in does ks index → index ≡ place → place < 64
-    → ((i : ℕ) → i ≢ place → has ends' i ≡ has ends i)
-    → (passes is_ending (option_flatten (slice_get js place)) ≡ true
-    → passes is_ending (outcome_at does (option_flatten (slice_get ks place))).1 ≡ true
-    → has ends' place ≡ true)
-    → ((i : ℕ) → i ≢ place → has moves' i ≡ has moves i)
-    → (passes can_move (option_flatten (slice_get js place)) ≡ true
-    → passes can_move (outcome_at does (option_flatten (slice_get ks place))).1 ≡ true
-    → has moves' place ≡ true)
-    → ArePlaces ends moves w ks → ArePlaces ends' moves' w js
-places-acted does keeps ends moves ends' moves' w ks js r index place did at lt others here others'
-    here' all =
-    let o = (outcome_at does (option_flatten (slice_get ks place))).1 in
-    let is : js ≡ slice_set ks place o =
-    ap (λ (p : Answer × List (Option KeptSlot)). p.1) (rw at at did) in
-    let left : option_flatten (slice_get js place) ≡ o =
-    rw is (ap option_flatten (get-set ks place o (omega (arith, lt, all.wide)))) in
-    rw is (places-set ends moves ends' moves' w w ks place o
-    others (λ e. here (ap (passes is_ending) left ∙ e) e)
-    others' (λ e. here' (ap (passes can_move) left ∙ e) e)
-    (rw is at (watched-acted w does keeps ks js place is all.watched)) all)
+-- something was done at a taken slot, and each set has the slot again if it is needed
+pub places-done : (does : KeptSlot → Answer × Option KeptSlot) → KeepsSub does
+    → (ends moves ends' moves' : ℕ) (w : Watch) (xs : List (Option PreparedSlot)) (i : ℕ)
+    (x : PreparedSlot) (o : Option PreparedSlot) (r : Answer)
+    → Some x ≡ option_flatten (slice_get xs i) → (r, kept_slot o) ≡ does (slot_of x)
+    → ((n : ℕ) → n ≢ i → has ends' n ≡ has ends n)
+    → (passes is_ending (kept_slot o) ≡ true → passes is_ending (does (slot_of x)).1 ≡ true
+    → has ends' i ≡ true)
+    → ((n : ℕ) → n ≢ i → has moves' n ≡ has moves n)
+    → (passes can_move (kept_slot o) ≡ true → passes can_move (does (slot_of x)).1 ≡ true
+    → has moves' i ≡ true)
+    → ArePlaces ends moves w (map kept_slot xs)
+    → ArePlaces ends' moves' w (map kept_slot (slice_set xs i o))
+places-done does keeps ends moves ends' moves' w xs i x o r there did others here others' here'
+    all =
+    let ks = map kept_slot xs in
+    let same : (does (slot_of x)).1 ≡ kept_slot o =
+    sym (ap (λ (p : Answer × Option KeptSlot). p.1) did) in
+    rw (map-set kept_slot xs i o)
+    (places-set ends moves ends' moves' w w ks i (kept_slot o)
+    others (λ is. here is (ap (passes is_ending) same ∙ is))
+    others' (λ is. here' is (ap (passes can_move) same ∙ is))
+    (watched-left w ks i (slot_of x) (kept_slot o) (kept-there xs i x (taken-there xs i x there))
+    (λ j is. (keeps (slot_of x) j (same ∙ is)).0) all.watched) all)
 
--- after a read with its turn no slot is ending
-pub read-ends : (number : ℕ) (o : Option KeptSlot)
-    → passes is_ending (outcome_at (read_turn number) o).1 ≡ false
-read-ends number None = refl
-read-ends number (Some k) =
+-- after a read with its turn a slot isn't ending
+pub read-ends : (number : ℕ) (k : KeptSlot) → passes is_ending (read_turn number k).1 ≡ false
+read-ends number k =
     let t : KeptSlot = filled (noticed number k) in
     let still : is_ending t ≡ false = filled-ends (noticed number k) ∙ noticed-still number k in
     elim (slice_get t.queue 0) as
@@ -181,11 +179,10 @@ read-ends number (Some k) =
     ]
 
 -- after a close with its turn a slot isn't ending, and nothing can move into its port
-pub close-rests : (number : ℕ) (o : Option KeptSlot)
-    → (passes is_ending (outcome_at (close_turn number) o).1 ≡ false)
-    × (passes can_move (outcome_at (close_turn number) o).1 ≡ false)
-close-rests number None = (refl, refl)
-close-rests number (Some k) = by (is_live u.held)
+pub close-rests : (number : ℕ) (k : KeptSlot)
+    → (passes is_ending (close_turn number k).1 ≡ false)
+    × (passes can_move (close_turn number k).1 ≡ false)
+close-rests number k = by (is_live u.held)
   where
     u : KeptSlot
     u = noticed number k
@@ -198,15 +195,8 @@ close-rests number (Some k) = by (is_live u.held)
     by false = (filled-ends u ∙ noticed-still number k, filled-still u)
 
 -- a slot with work is in one of the sets
-pub work-marked : (ends moves : ℕ) (w : Watch) (ks : List (Option KeptSlot)) (place : ℕ)
-    → ArePlaces ends moves w ks → passes has_work (option_flatten (slice_get ks place)) ≡ true
-    → (has ends place || has moves place) ≡ true
-work-marked ends moves w ks place all is = by (slice_get ks place) refl is
-  where
-    by : (o : Option (Option KeptSlot)) → slice_get ks place ≡ o
-        → passes has_work (option_flatten o) ≡ true
-        → (has ends place || has moves place) ≡ true
-    by None found works = cc
-    by (Some None) found works = cc
-    by (Some (Some k)) found works =
-        grind (arith, all.ends place k found, all.moves place k found)
+pub work-marked : (ends moves : ℕ) (w : Watch) (ks : List (Option KeptSlot)) (i : ℕ)
+    (k : KeptSlot) → ArePlaces ends moves w ks → slice_get ks i ≡ Some (Some k)
+    → has_work k ≡ true → (has ends i || has moves i) ≡ true
+work-marked ends moves w ks i k all found works =
+    grind (arith, all.ends i k found, all.moves i k found)

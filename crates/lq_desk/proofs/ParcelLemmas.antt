@@ -1,22 +1,24 @@
 -- Which slots have a parcel for the turn of a read.
-use Rattle.std.proofs.Common.{◌≡◌, ℕ, suc, ◌+◌, ◌-◌, ◌≤◌, ◌<◌, List, refl, ap, length, ◌∙◌, arith, Some, None, Option, Bool, true, false, inl, inr}
+use Rattle.std.proofs.Common.{◌≡◌, ◌≢◌, ℕ, suc, ◌-◌, ◌≤◌, ◌<◌, List, refl, ap, sym, map, length, ◌∙◌, arith, Some, None, Option, true, false, inl, inr}
 use Rattle.std.specs.Prelude.{◌&&◌, ◌||◌, ◌==◌, not, nat_lt, is_some, slice_get}
 use Rattle.std.specs.Int.{bit_at}
 use Rattle.std.specs.Option.{option_flatten}
-use Rattle.std.proofs.lemmas.Bool.{cases_Bool}
+use Rattle.std.proofs.lemmas.Bool.{cases_Bool, cases_eq}
 use Rattle.std.proofs.lemmas.Bool.Decides.{nat_tests}
-use Rattle.std.proofs.lemmas.Option.{slice_get_cases, slice_get_past}
+use Rattle.std.proofs.lemmas.Option.{slice_get-map, slice_get_cases}
 use Rattle.lq_desk_world.specs.declared.event.Event.TheVariants.{Take}
 use Rattle.lq_desk_world.specs.Events.{Answer}
 use Rattle.lq_desk_sub.specs.Held.{next_parcel}
-use Rattle.lq_desk.specs.Slot.{KeptSlot, after_put, after_puts, can_move, filled, is_ending, noticed, passes, read_slot}
+use Rattle.lq_desk_sub.specs.SlotSet.{has, IsEmpty, IsTakenOut}
+use Rattle.lq_desk_sub.specs.SlotTable.{HasTaken}
+use Rattle.lq_desk.specs.Slot.{KeptSlot, PreparedSlot, after_put, after_puts, can_move, filled, is_ending, noticed, passes, read_slot}
 use Rattle.lq_desk.specs.Act.{read_turn}
 use Rattle.lq_desk.specs.DeskState.{DeskState, at_index, kept_at}
 use Rattle.lq_desk.specs.Ready.{MarksParcels, has_parcel, is_parcel}
 use Rattle.lq_desk.specs.KeptTurn.{kept_turn_outcome}
-use Rattle.lq_desk.specs.Words.{SetsBit}
 use Rattle.lq_desk.proofs.PutLemmas.{filled-quiet, noticed-keeps, put-longer, puts-longer}
 use Rattle.lq_desk.proofs.SlotTurnLemmas.{read-events}
+use Rattle.lq_desk.proofs.SlotsLemmas.{kept_slot}
 
 -- ---- a read
 
@@ -70,33 +72,45 @@ ready-tells k slot word some marks =
     let number : (slot == 0) ≡ false = grind (arith, nat_tests) in
     rw (turn-tells k slot, number) (marks (slot - 1))
 
--- ---- a word of them
+-- ---- the set of them
 
--- the first bits of a word are set for the slots that have a parcel, and the others are clear
-pub record MarksFirst (ks : List (Option KeptSlot)) (n word : ℕ) : Type 0 where
-  pub done : (i : ℕ) → i < n
-      → (bit_at word i == 1) ≡ passes has_parcel (option_flatten (slice_get ks i))
-  pub clear : (i : ℕ) → n ≤ i → bit_at word i ≡ 0
+-- each slot that isn't in the rest is in the set if it has a parcel
+abbrev pub AreAsked : List (Option KeptSlot) → ℕ → ℕ → Type 0
+AreAsked ks rest set = (i : ℕ) → has set i
+    ≡ (not (has rest i) && passes has_parcel (option_flatten (slice_get ks i)))
 
--- one slot more is marked
-pub marks-more : (ks : List (Option KeptSlot)) (n old new : ℕ) (x : Option KeptSlot) (has : Bool)
-    → slice_get ks n ≡ Some x → has ≡ passes has_parcel x → SetsBit old n has new
-    → MarksFirst ks n old → MarksFirst ks (n + 1) new
-marks-more ks n old new x has at is sets marks = record {
-  done = λ i lt. grind (
-    arith,
-    nat_tests,
-    marks.done i,
-    marks.clear n,
-    sets.same i,
-    sets.here,
-    sets.none,
-  );
-  clear = λ i le. grind (arith, sets.same i, marks.clear i);
-}
+-- at first the rest has the taken slots
+pub asked-none : (xs : List (Option PreparedSlot)) (taken set : ℕ) → HasTaken taken xs
+    → IsEmpty (has set) → AreAsked (map kept_slot xs) taken set
+asked-none xs taken set has_taken empty i = empty i ∙ by (slice_get xs i) refl
+  where
+    by : (o : Option (Option PreparedSlot)) → slice_get xs i ≡ o
+        → false ≡ (not (has taken i)
+        && passes has_parcel (option_flatten (slice_get (map kept_slot xs) i)))
+    by None at = rw (slice_get-map kept_slot xs i, at) (grind arith)
+    by (Some None) at = rw (slice_get-map kept_slot xs i, at) (grind arith)
+    by (Some (Some x)) at = rw (has_taken i (Some x) at) refl
 
--- once all were marked, each bit tells
-pub marks-all : (ks : List (Option KeptSlot)) (n word : ℕ) → length ks ≤ n
-    → MarksFirst ks n word → MarksParcels ks word
-marks-all ks n word all marks i =
-    grind (arith, nat_tests, marks.done i, marks.clear i, slice_get_past ks i)
+-- a slot of the rest is asked
+pub asked-more : (ks : List (Option KeptSlot)) (rest new old set index : ℕ)
+    → IsTakenOut rest index new
+    → has set index ≡ passes has_parcel (option_flatten (slice_get ks index))
+    → ((i : ℕ) → i ≢ index → has set i ≡ has old i) → AreAsked ks rest old
+    → AreAsked ks new set
+asked-more ks rest new old set index out here others all i = elim (cases_eq i index) [
+  | inl same ↦ rw (same, out.gone) here
+  | inr other ↦ rw (out.others i other) (others i other ∙ all i)
+]
+
+-- a free one isn't
+pub asked-free : (xs : List (Option PreparedSlot)) (rest new set index : ℕ)
+    → IsTakenOut rest index new → slice_get xs index ≡ Some None
+    → AreAsked (map kept_slot xs) rest set → AreAsked (map kept_slot xs) new set
+asked-free xs rest new set index out free all =
+    asked-more (map kept_slot xs) rest new set set index out
+    (all index ∙ rw (out.was, slice_get-map kept_slot xs index, free) refl) (λ i ne. refl) all
+
+-- once all were asked, the bits of the set tell
+pub asked-all : (ks : List (Option KeptSlot)) (rest set word : ℕ) → IsEmpty (has rest)
+    → ((i : ℕ) → has set i ≡ (bit_at word i == 1)) → AreAsked ks rest set → MarksParcels ks word
+asked-all ks rest set word empty bits all i = sym (bits i) ∙ rw (empty i) at (all i)

@@ -4,7 +4,7 @@ use Rattle.std.specs.Option.{option_flatten, option_map}
 use Rattle.lq_value.specs.declared.refusal.Refusal.TheVariants.{NotOpen}
 use Rattle.lq_desk_world.specs.declared.event.Act.{Act}
 use Rattle.lq_desk_world.specs.declared.event.Act.TheVariants as act
-use Rattle.lq_desk_world.specs.Events.{Answer, Refused}
+use Rattle.lq_desk_world.specs.Events.{Answer, Finished, Refused}
 use Rattle.lq_desk.specs.Slot.{KeptSlot, put_slot, read_slot, ask_slot, notice_slot, close_slot, finish_slot, filled, noticed}
 
 -- an act at a taken slot: its answer, and the slot afterwards
@@ -15,6 +15,11 @@ act_of number act.HangUp = ask_slot
 act_of number act.Notice = notice_slot number
 act_of number act.Close = close_slot number
 act_of number act.Finish = finish_slot
+
+-- what an answer leaves in its slot: one that was finished is free
+abbrev pub left_by : Answer → KeptSlot → Option KeptSlot
+left_by Finished k = None
+left_by a k = Some k
 
 -- a read with its turn: before it comes a notice, and then the port is filled
 abbrev pub read_turn : ℕ → KeptSlot → Answer × Option KeptSlot

@@ -1,5 +1,5 @@
--- Sets of slots: a slot whose place isn't in a set has no work to do.
-use Rattle.std.specs.Prelude.{◌≡◌, ◌≢◌, ◌<◌, ◌^◌, ℕ, List, [], Bool, true, false, Option, Some, length, slice_get}
+-- Sets of slots: a slot that isn't in a set has no work to do.
+use Rattle.std.specs.Prelude.{◌≡◌, ◌<◌, ◌^◌, ℕ, List, [], Bool, true, false, Option, Some, length, slice_get}
 use Rattle.std.specs.Int.{bit_at}
 use Rattle.lq_volume.specs.declared.change.Change.{Change}
 use Rattle.lq_volume.specs.State.{State}
@@ -8,7 +8,7 @@ use Rattle.lq_desk_sub.specs.Held.{is_live, messages_due}
 use Rattle.lq_desk_sub.specs.Passing.{TellsNothing}
 use Rattle.lq_desk_sub.specs.SlotSet.{has}
 use Rattle.lq_desk_sub.specs.Watch.{slots_for}
-use Rattle.lq_desk.specs.declared.visitors.Told.{Told}
+use Rattle.lq_desk.specs.declared.slots.Preparation.{Preparation}
 use Rattle.lq_desk.specs.Slot.{KeptSlot, PreparedSlot, can_move, is_ending, slot_of}
 
 -- a set has the place of each slot that passes a test
@@ -33,12 +33,6 @@ pub record ArePlaces (ending movable : ℕ) (w : Watch) (ks : List (Option KeptS
   pub moves : IsMarked can_move movable ks
   pub watched : AreWatched w ks
 
--- the bit at an index is also set, if `is_set`; the bits set before stay set, and the others clear
-pub record SetsBit (old : ℕ) (place : ℕ) (is_set : Bool) (new : ℕ) : Type 0 where
-  pub here : is_set ≡ true → bit_at new place ≡ 1
-  pub none : is_set ≡ false → new ≡ old
-  pub same : (i : ℕ) → i ≢ place → bit_at new i ≡ bit_at old i
-
 -- ---- the messages of a change
 
 -- they are made in the slot
@@ -46,24 +40,25 @@ pub record AreMadeIn (s : State) (c : Change) (p : PreparedSlot) : Type 0 where
   pub ready : p.sub.ready ≡ messages_due s c p.sub.held
   pub before : p.sub.before ≡ s.number
 
--- they are made in a slot that is told of, and the change has none for one that isn't
-pub record IsReadyBy (s : State) (c : Change) (told : Bool) (p : PreparedSlot) : Type 0 where
-  pub some : told ≡ true → AreMadeIn s c p
-  pub none : told ≡ false → messages_due s c p.sub.held ≡ []
+-- they are made in a slot of the set, and the change has none for another
+pub record IsPreparedBy (s : State) (c : Change) (is_in : Bool) (p : PreparedSlot) : Type 0 where
+  pub some : is_in ≡ true → AreMadeIn s c p
+  pub none : is_in ≡ false → messages_due s c p.sub.held ≡ []
 
 -- that of each live slot
-abbrev pub AreReady : State → Change → ℕ → List (Option PreparedSlot) → Type 0
-AreReady s c told slots = (i : ℕ) (p : PreparedSlot) → slice_get slots i ≡ Some (Some p)
-    → is_live p.sub.held ≡ true → IsReadyBy s c (has told i) p
+abbrev pub ArePrepared : State → Change → ℕ → List (Option PreparedSlot) → Type 0
+ArePrepared s c set slots = (i : ℕ) (p : PreparedSlot) → slice_get slots i ≡ Some (Some p)
+    → is_live p.sub.held ≡ true → IsPreparedBy s c (has set i) p
 
--- a slot that messages may be made in: it has made few, and isn't told of yet
-pub record MayReady (s : Told) (place : ℕ) (p : PreparedSlot) : Type 0 where
+-- a slot that messages may be made in: it has made few, and isn't in the set yet
+pub record MayPrepare (s : Preparation) (index : ℕ) (p : PreparedSlot) : Type 0 where
   pub few : p.sub.held.sent < 2 ^ 63
-  pub untold : has s.told.word place ≡ false
+  pub outside : has s.prepared.word index ≡ false
 
 -- what is kept of the slot stays; if memory didn't run out and the slot is live, they are made
 -- there
-pub record Readies (s : State) (c : Change) (t : Told) (place : ℕ) (p q : PreparedSlot)
+pub record Prepares (s : State) (c : Change) (t : Preparation) (index : ℕ) (p q : PreparedSlot)
     : Type 0 where
   pub kept : slot_of q ≡ slot_of p
-  pub made : t.full ≡ false → is_live q.sub.held ≡ true → IsReadyBy s c (has t.told.word place) q
+  pub made : t.full ≡ false → is_live q.sub.held ≡ true
+      → IsPreparedBy s c (has t.prepared.word index) q

@@ -1,4 +1,7 @@
-//! The desk.
+//! The desk that a caller has: an engine, with the world that contracts speak of.
+//!
+//! The engine does the work. The world is a book of changes and the subscriptions over it, which no
+//! code holds; each call here says which world comes next, and that the engine keeps what it shows.
 ghost use Rattle.std.specs.Prelude.{◌≡◌, ◌⊎◌, [], IfOk, OnErr, map};
 ghost use Rattle.lq_value.specs.Refusal.{FailsOnlyForMemory};
 ghost use Rattle.lq_value.specs.declared.refusal.Refusal.{Refusal};
@@ -51,7 +54,6 @@ pub struct Desk {
     witness: Witness,
 }
 
-// Dropping one is a single call, instead of code at each place.
 impl Drop for Desk {
     fn drop(self) {
         let Desk {
@@ -169,6 +171,6 @@ impl Desk {
         ensures { TellsReady self.now result }
     {
         kept_shows_worlds();
-        self.engine.ready()
+        self.engine.readable_slots()
     }
 }

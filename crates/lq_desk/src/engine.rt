@@ -1,17 +1,17 @@
-//! What a desk keeps, and what it does: events, and turns of them.
+//! The code of a desk: the volume with the 64 slots, and what each event and each turn does to them.
+//!
+//! An engine knows no book and no world: `desk` ties it to the world that contracts speak of.
 ghost use Rattle.std.specs.Prelude.{◌≡◌, ◌+◌, None, IfOk, OnOk, OnErr, replicate};
 ghost use Rattle.lq_value.specs.Refusal.{FailsOnlyForMemory, IsRefusedBy};
 ghost use Rattle.lq_volume.specs.Change.{refused, node_of};
 
-mod turn;
-
 use crate::reply::Reply;
 use crate::slot::Slot;
-use crate::slots::{SLOTS, Slots};
+use crate::slots::Slots;
 use lq_desk_sub::MAX_BACKLOG;
 use lq_desk_world::{Act, Event};
 use lq_predicate::Predicate;
-use lq_update::steps_are_few;
+use lq_update::{OpenOptions, steps_are_few};
 use lq_value::Refusal;
 use lq_volume::{Applied, Change, Volume, changes_are_counted};
 use std::alloc::Global;
@@ -20,7 +20,7 @@ use std::marker::Model;
 /// The most places of a port.
 const MAX_PORT: u64 = 1024;
 
-/// The volume and its live queries with their ports; it takes one event at a time.
+/// The volume, the slots, and the number of openings so far.
 ///
 /// Contracts see it as the state that it keeps (`DeskState`).
 pub struct Engine {
@@ -30,7 +30,6 @@ pub struct Engine {
     slots: Slots,
 }
 
-// Dropping one is a single call, instead of code at each place.
 impl Drop for Engine {
     fn drop(self) {
         let Engine {
@@ -74,6 +73,8 @@ impl Engine {
     ghost use Rattle.lq_desk.specs.DeskState.{KeptStep, changed, opened, opening_refusal, kept_act};
     ghost use Rattle.lq_desk_world.specs.World.{taken_before_free};
     ghost use Rattle.lq_desk.specs.Reply.{answer_of};
+    ghost use Rattle.lq_desk.specs.KeptTurn.{TurnStep};
+    ghost use Rattle.lq_desk.specs.Ready.{TellsParcels};
 
     /// One over a volume, with 64 free slots. Refused: `NoMemory`.
     pub fn new(alloc: Global, volume: Volume) -> Result<Engine, Refusal>
@@ -110,10 +111,17 @@ impl Engine {
                 port,
                 backlog,
                 moved,
-            } => match self.open(predicate, *port, *backlog, *moved) {
-                Ok(reply) => reply,
-                Err(refusal) => Reply::Refused(refusal),
-            },
+            } => {
+                let options = OpenOptions {
+                    port: *port,
+                    backlog: *backlog,
+                    moved: *moved,
+                };
+                match self.open(predicate, &options) {
+                    Ok(reply) => reply,
+                    Err(refusal) => Reply::Refused(refusal),
+                }
+            }
             Event::Put(slot) => self.act(*slot, Act::Put),
             Event::Take(slot) => self.act(*slot, Act::Take),
             Event::HangUp(slot) => self.act(*slot, Act::HangUp),
@@ -138,48 +146,43 @@ impl Engine {
         changes_are_counted();
         let _ = self.volume.changes();
         let planned = self.volume.plan(change)?;
-        let told = self.slots.ready(&planned)?;
+        let prepared = self.slots.prepare(&planned)?;
         let applied = self.volume.make(change)?;
-        self.slots.commit(told);
+        self.slots.commit(prepared);
         Ok(applied)
     }
 
     // Opens a live query in the lowest free slot.
-    fn open(
-        &mut self,
-        predicate: &Predicate,
-        port: u64,
-        backlog: u64,
-        moved: bool,
-    ) -> Result<Reply, Refusal>
-        ensures refused { IsRefusedBy result (opening_refusal self.old port backlog) }
+    fn open(&mut self, predicate: &Predicate, options: &OpenOptions) -> Result<Reply, Refusal>
+        ensures refused { IsRefusedBy result
+            (opening_refusal self.old options.now.port options.now.backlog) }
         ensures reply { IfOk result (λ reply. answer_of reply ≡
             Opened (taken_before_free self.old.slots + 1) self.old.volume.number
             (result_of predicate.now self.old.volume)) }
         ensures ok { OnOk result (self.new ≡ opened self.old
-            (fresh_slot predicate.now moved self.old.volume.number port backlog)) }
+            (fresh_slot predicate.now options.now.moved self.old.volume.number options.now.port
+            options.now.backlog)) }
         ensures err { OnErr result (self.new ≡ self.old) }
     {
-        if port < 1 || port > MAX_PORT {
+        if options.port < 1 || options.port > MAX_PORT {
             return Err(Refusal::BadPort);
         }
-        if backlog > MAX_BACKLOG {
+        if options.backlog > MAX_BACKLOG {
             return Err(Refusal::BadBacklog);
         }
-        let place = self.slots.first_free();
-        if place >= SLOTS {
+        let Some(index) = self.slots.lowest_free() else {
             return Err(Refusal::NoSlot);
-        }
+        };
         if self.volume.limit() <= self.openings {
             return Err(Refusal::Exhausted);
         }
         let at = self.volume.changes();
         let result = self.volume.fetch(predicate)?;
-        let slot = Slot::new(self.alloc, predicate, at, port, backlog, moved)?;
-        self.slots.open(place, slot);
+        let slot = Slot::new(self.alloc, predicate, at, options)?;
+        self.slots.open(index, slot);
         self.openings += 1;
         Ok(Reply::Opened {
-            slot: place as u64 + 1,
+            slot: index.number(),
             at,
             result,
         })
@@ -191,5 +194,35 @@ impl Engine {
     {
         let number = self.volume.changes();
         self.slots.act(slot, act, number)
+    }
+
+    /// Carries out a turn and answers its event.
+    #[inline(always)]
+    pub fn carry_out_turn(&mut self, event: &Event) -> Reply
+        ensures { TurnStep self.old event.now (answer_of result) self.new }
+    {
+        let number = self.volume.changes();
+        match event {
+            Event::Change(_) => {
+                self.slots.notice_all(number);
+                let reply = self.answer_event(event);
+                self.slots.fill_all();
+                reply
+            }
+            Event::Take(slot) => self.slots.read(*slot, number),
+            Event::Close(slot) => self.slots.close(*slot, number),
+            Event::Open { .. }
+            | Event::Put(_)
+            | Event::HangUp(_)
+            | Event::Notice(_)
+            | Event::Finish(_) => self.answer_event(event),
+        }
+    }
+
+    /// Which slots have something to read, as a word with a bit for each slot.
+    pub fn readable_slots(&self) -> u64
+        ensures { TellsParcels self.now result }
+    {
+        self.slots.readable_slots()
     }
 }

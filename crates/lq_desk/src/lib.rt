@@ -7,20 +7,16 @@
 //! `event` of lq_desk_world, then `desk`.
 #![tactic(auto)]
 
-mod bits;
 mod desk;
 mod engine;
 mod laws;
 mod reply;
 mod slot;
-mod slot_list;
 mod slots;
-mod visitors;
 mod witness;
 
 pub use desk::Desk;
 pub use laws::desks_may_be_sent;
-pub use lq_desk_sub::{Read, Sub};
+pub use lq_desk_sub::{Read, SLOTS, Sub};
 pub use lq_desk_world::Event;
 pub use reply::Reply;
-pub use slots::SLOTS;

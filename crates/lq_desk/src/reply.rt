@@ -1,4 +1,4 @@
-//! The desk's replies.
+//! What a desk answers to each event, in the code's own values.
 use lq_desk_sub::Read;
 use lq_value::{Entry, Refusal};
 use lq_volume::Applied;

@@ -1,18 +1,16 @@
-//! A taken slot: a subscription with its port.
+//! A taken slot: a subscription with its port, what is done there, and the visits of several.
 ghost use Rattle.std.specs.Prelude.{◌≡◌, ◌<◌, ◌≤◌, ◌^◌, ◌-◌, true, Some, IfOk};
 ghost use Rattle.lq_value.specs.Refusal.{FailsOnlyForMemory};
-ghost use Rattle.std.specs.Option.{option_map};
-ghost use Rattle.lq_desk.specs.Slot.{slot_of, committed_slot, can_move, close_slot, filled, is_ending, noticed};
-ghost use Rattle.lq_desk.specs.DeskState.{IsFew};
-ghost use Rattle.lq_desk.specs.Act.{act_of, outcome_at};
+ghost use Rattle.lq_desk.specs.Slot.{slot_of, can_move, close_slot, filled, is_ending, noticed};
+ghost use Rattle.lq_desk.specs.Act.{act_of, left_by};
 ghost use Rattle.lq_desk.specs.Ready.{has_parcel};
 ghost use Rattle.lq_desk.specs.Reply.{answer_of};
 
 use crate::reply::Reply;
-use lq_desk_sub::{Read, Sub};
+use lq_desk_sub::{Read, SlotIndex, Sub, Visit};
 use lq_desk_world::Act;
 use lq_predicate::Predicate;
-use lq_update::{Cause, Parcel};
+use lq_update::{Cause, OpenOptions, Parcel};
 use lq_value::Refusal;
 use std::alloc::Global;
 use std::collections::VecDeque;
@@ -53,34 +51,47 @@ impl Slot {
     ghost use Rattle.lq_desk.specs.Slot.{PreparedSlot, fresh_slot, put_slot, read_slot, notice_slot, is_read};
     ghost use Rattle.lq_desk.specs.Reply.{answer_of_read};
 
-    /// A new subscription, with an empty port of `port` places.
+    /// A new subscription after `at` changes, with an empty port. Refused: `NoMemory`.
     pub fn new(
         alloc: Global,
         predicate: &Predicate,
         at: u64,
-        port: u64,
-        backlog: u64,
-        moved: bool,
+        options: &OpenOptions,
     ) -> Result<Slot, Refusal>
         ensures refused { FailsOnlyForMemory result }
-        ensures value { IfOk result (λ s.
-            slot_of s ≡ fresh_slot predicate.now moved at port backlog) }
+        ensures value { IfOk result (λ s. slot_of s ≡ fresh_slot predicate.now options.now.moved at
+            options.now.port options.now.backlog) }
     {
         Ok(Slot {
-            sub: Sub::new(alloc, predicate, at, backlog, moved)?,
-            port,
-            queue: VecDeque::with_capacity(alloc, port as usize)?,
+            sub: Sub::new(alloc, predicate, at, options.backlog, options.moved)?,
+            port: options.port,
+            queue: VecDeque::with_capacity(alloc, options.port as usize)?,
             hang_up_asked: false,
         })
     }
 
-    /// Commits the messages that were made, if the subscription is live.
-    pub fn commit(&mut self)
+    /// Carries out an act. At `Finished` the caller frees the slot.
+    pub fn act(&mut self, act: Act, number: u64) -> Reply
         requires { self.old.sub.held.sent < 2 ^ 63 }
-        ensures { self.new ≡ committed_slot self.old }
+        ensures { (answer_of result, left_by (answer_of result) (slot_of self.new))
+            ≡ act_of number act (slot_of self.old) }
     {
-        if self.sub.is_live() {
-            self.sub.commit();
+        match act {
+            Act::Put => Reply::Moved(self.put()),
+            Act::Take => Reply::Took(self.read()),
+            Act::HangUp => {
+                self.hang_up_asked = true;
+                Reply::Asked
+            }
+            Act::Notice => Reply::Noticed(self.notice(number)),
+            Act::Close => self.close(number),
+            Act::Finish => {
+                if self.is_read() {
+                    Reply::Finished
+                } else {
+                    Reply::Refused(Refusal::StillOpen)
+                }
+            }
         }
     }
 
@@ -135,13 +146,6 @@ impl Slot {
         }
     }
 
-    /// Notes that the subscription's end is asked for.
-    pub fn hang_up(&mut self)
-        ensures { slot_of self.new ≡ record (slot_of self.old) { hang_up_asked = true } }
-    {
-        self.hang_up_asked = true;
-    }
-
     /// Whether the subscription is live and its end was asked for.
     pub fn is_ending(&self) -> bool
         ensures { result ≡ is_ending (slot_of self.now) }
@@ -192,31 +196,57 @@ impl Slot {
     }
 }
 
-/// Carries out an act at a slot that may be free.
-pub fn act_at(slot: &mut Option<Slot>, act: Act, number: u64) -> Reply
-    requires { IsFew (2 ^ 63 - 1) (option_map slot_of slot.old) }
-    ensures { (answer_of result, option_map slot_of slot.new)
-        ≡ outcome_at (act_of number act) (option_map slot_of slot.old) }
-{
-    let Some(there) = slot else {
-        return Reply::Refused(Refusal::NotOpen);
-    };
-    match act {
-        Act::Put => Reply::Moved(there.put()),
-        Act::Take => Reply::Took(there.read()),
-        Act::HangUp => {
-            there.hang_up();
-            Reply::Asked
-        }
-        Act::Notice => Reply::Noticed(there.notice(number)),
-        Act::Close => there.close(number),
-        Act::Finish => {
-            if there.is_read() {
-                *slot = None;
-                Reply::Finished
-            } else {
-                Reply::Refused(Refusal::StillOpen)
-            }
+/// Ends a live subscription whose end was asked for.
+#[derive(Drop)]
+pub struct Notice {
+    pub number: u64,
+}
+
+impl Visit<Slot, ()> for Notice {
+    ghost use Rattle.std.specs.Prelude.{◌≡◌, ◌<◌, ◌^◌};
+    ghost use Rattle.lq_desk.specs.Slot.{noticed, slot_of};
+
+    ghost allows = { λ v s i x. x.sub.held.sent < 2 ^ 63 };
+
+    ghost did = { λ v t i x y. slot_of y ≡ noticed v.number (slot_of x) };
+
+    fn visit(&self, _state: &mut (), _slot: SlotIndex, item: &mut Slot) {
+        let _ = item.notice(self.number);
+    }
+}
+
+/// Fills a port.
+#[derive(Drop)]
+pub struct Fill {}
+
+impl Visit<Slot, ()> for Fill {
+    ghost use Rattle.std.specs.Prelude.{◌≡◌};
+    ghost use Rattle.lq_desk.specs.Slot.{filled, slot_of};
+
+    ghost allows = { λ v s i x. Unit {0} };
+
+    ghost did = { λ v t i x y. slot_of y ≡ filled (slot_of x) };
+
+    fn visit(&self, _state: &mut (), _slot: SlotIndex, item: &mut Slot) {
+        item.fill();
+    }
+}
+
+/// Commits the messages that were made, if the subscription is live.
+#[derive(Drop)]
+pub struct Commit {}
+
+impl Visit<Slot, ()> for Commit {
+    ghost use Rattle.std.specs.Prelude.{◌≡◌, ◌<◌, ◌^◌};
+    ghost use Rattle.lq_desk.specs.Slot.{committed_slot};
+
+    ghost allows = { λ v s i x. x.sub.held.sent < 2 ^ 63 };
+
+    ghost did = { λ v t i x y. y ≡ committed_slot x };
+
+    fn visit(&self, _state: &mut (), _slot: SlotIndex, item: &mut Slot) {
+        if item.sub.is_live() {
+            item.sub.commit();
         }
     }
 }

@@ -8,13 +8,13 @@ pub invariant_of-self : goal.invariant_of-self
 invariant_of-self c =
     let same = rw c.changes-at.ensures.number at c.in_ok-slot.ensures.value in
     rw (opened-is c.self.inside.volume c.self.inside.openings c.self.inside.slots c.open.new.self
-    c.first_free-place.result c.in_ok-slot.slot _ c.open.ensures c.first_free-place.ensures same)
-    (IsKept-open _ c.args.predicate.now c.args.port c.args.backlog c.args.moved c.self.invariant)
+    c.in-Some.index.index c.in_ok-slot.slot _ c.open.ensures c.in-Some.ensures same)
+    (IsKept-open _ c.args.predicate.now c.args.options.now.port c.args.options.now.backlog c.args.options.now.moved c.self.invariant)
 
 pub returns-clause-ok : goal.returns-clause-ok
 returns-clause-ok c =
     let same = rw c.changes-at.ensures.number at c.in_ok-slot.ensures.value in
     opened-is c.self.inside.volume c.self.inside.openings c.self.inside.slots c.open.new.self
-    c.first_free-place.result c.in_ok-slot.slot _ c.open.ensures c.first_free-place.ensures same
-    ∙ ap (λ (j : DeskState). opened j (fresh_slot c.args.predicate.now c.args.moved j.volume.number
-    c.args.port c.args.backlog)) c.self.view_is
+    c.in-Some.index.index c.in_ok-slot.slot _ c.open.ensures c.in-Some.ensures same
+    ∙ ap (λ (j : DeskState). opened j (fresh_slot c.args.predicate.now c.args.options.now.moved j.volume.number
+    c.args.options.now.port c.args.options.now.backlog)) c.self.view_is

@@ -8,8 +8,8 @@ use Rattle.lq_desk.proofs.slots.Slots.fill_all.Goals as goal
 
 pub invariant_of-self : goal.invariant_of-self
 invariant_of-self c =
-    places-passed _ _ _ c.self.inside.places.items _ _ _ c.visit_in.ensures.visits
-    c.visit_in.ensures.wide _ _ _ _ c.self.inside.watch
+    places-passed _ _ _ c.self.inside.table _ _ _ c.visit.ensures.visits
+    c.visit.ensures.wide _ _ _ _ c.self.inside.watch
     (λ i x y d. ap (λ (k : KeptSlot). k.held.query) d ∙ (puts-keep x.port (slot_of x)).query)
     (λ i x y set d was is. was (sym (filled-ends (slot_of x)) ∙ (ap is_ending (sym d) ∙ is)))
     (λ i none is. is)
@@ -19,7 +19,7 @@ invariant_of-self c =
 
 pub returns : goal.returns
 returns c =
-    let xs = c.self.inside.places.items in
-    rw (← c.self.view_is) (visits-map _ _ _ xs _ _ _ c.visit_in.ensures.visits slot_of filled
+    let xs = c.self.inside.table in
+    rw (← c.self.view_is) (visits-map _ _ _ xs _ _ _ c.visit.ensures.visits slot_of filled
     (λ i x y found set d. d) (λ i x found none. sym (filled-quiet (slot_of x)
     (unmarked can_move _ xs i x c.self.invariant.moves found none))))

@@ -7,22 +7,21 @@ use Rattle.lq_desk.proofs.WatchLemmas.{watched-set}
 use Rattle.lq_desk.proofs.slots.Slots.open.Goals as goal
 
 pub returns : goal.returns
-returns c =
-    rw (c.place-2.ensures.value, c.at-index.ensures, c.self.view_is)
+returns c = rw (c.insert.ensures, c.self.view_is)
 
 pub invariant_of-self : goal.invariant_of-self
 invariant_of-self c =
-    let ks = map kept_slot c.self.inside.places.items in
+    let ks = map kept_slot c.self.inside.table in
     let k = slot_of c.args.slot in
-    let place = c.at-index.result.place in
+    let i = c.args.index.index in
     let sub = ap (λ (p : PreparedSlot). p.sub) c.slot.view_is in
-    rw (c.place-2.ensures.value, map-set kept_slot _ place (Some c.args.slot))
+    rw (c.insert.ensures, map-set kept_slot c.self.inside.table i (Some c.args.slot))
     (places-set c.self.inside.ending.word c.self.inside.movable.word _ _ c.self.inside.watch _ ks
-    place (Some k) c.put.ensures.others
+    i (Some k) c.put.ensures.others
     (λ is. c.put.ensures.here ∙ (c.is_ending.ensures ∙ is))
     c.put-2.ensures.others
     (λ is. c.put-2.ensures.here ∙ (c.can_move.ensures ∙ is))
-    (watched-set c.self.inside.watch _ ks place k
-    (rw (c.place.ensures.value, sub) at c.set.ensures.here)
-    (rw c.place.ensures.value at c.set.ensures.others) c.self.invariant.watched)
+    (watched-set c.self.inside.watch _ ks i k
+    (rw (c.index.ensures.value, sub) at c.set.ensures.here)
+    (rw c.index.ensures.value at c.set.ensures.others) c.self.invariant.watched)
     c.self.invariant)

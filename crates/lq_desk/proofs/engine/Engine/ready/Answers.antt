@@ -1,6 +1,0 @@
-use Rattle.lq_desk.proofs.ParcelLemmas.{ready-tells}
-use Rattle.lq_desk.proofs.engine.Engine.ready.Goals as goal
-
-pub returns : goal.returns
-returns c slot some = ready-tells c.args.self.now slot c.parcels.result some
-    (rw (← c.self.view_is) c.parcels.ensures)
