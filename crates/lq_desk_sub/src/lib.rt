@@ -1,9 +1,12 @@
 //! A single subscription: its query, the messages that it holds and its mark, without port or
-//! thread; and sets of the 64 slots, with one loop over the taken slots of a set.
+//! thread; and the table of the 64 slots, with sets of them and one loop over the slots of a set.
 //!
 //! Contracts see how it was opened, the messages that it holds and its mark (`specs/Held`). The
 //! desk puts its parcels into its own port, the server for threads into a shared one. Nothing here
-//! waits. Begin with `sub`, then `prepare_commit`, then `watch`; for the sets, `slot_set`, `visit`.
+//! waits. Begin with `sub`, then `prepare_commit`, then `watch`; for the slots, `slot_table`.
+//!
+//! A type of this repository whose `drop` only takes it apart is dropped by a single call, instead
+//! of by code at each place.
 #![tactic(auto)]
 
 mod bits;

@@ -1,4 +1,4 @@
-//! The result of a read.
+//! What a reader of a subscription gets: a message, the mark, or neither.
 use lq_update::{Mark, Message};
 
 /// The result of a read of a subscription.

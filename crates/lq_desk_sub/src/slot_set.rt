@@ -1,4 +1,4 @@
-//! A set of slots.
+//! A set of slots as one word, so that a pass looks only at the slots with work.
 ghost use Rattle.std.specs.Prelude.{◌≡◌, ◌≢◌, ◌<◌, ◌==◌, ◌||◌, ℕ, true, false, MatchOption, IfNone, IfSome};
 ghost use Rattle.std.specs.Int.{bit_at};
 ghost use Rattle.lq_desk_sub.specs.SlotSet.{has, IsEmpty, IsTakenOut};

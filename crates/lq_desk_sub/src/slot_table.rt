@@ -1,4 +1,4 @@
-//! The table of the 64 slots.
+//! What is in each of the 64 slots: the one container of slots, with the set of the taken ones.
 ghost use Rattle.std.specs.Borrow.{sem};
 ghost use Rattle.std.specs.Option.{option_copied_mut, option_flatten};
 ghost use Rattle.std.specs.Prelude.{◌≡◌, ℕ, length, replicate, slice_get, slice_set, true, None, Some, IfOk, IsSome, MatchOption};

@@ -1,4 +1,4 @@
-//! One subscription.
+//! A subscription as both servers keep it: how it was opened, what it holds, and its mark.
 ghost use Rattle.std.specs.Prelude.{◌≡◌, ◌+◌, ◌<◌, ◌^◌, [], length, is_some, false, Some, IfOk, IsTrue, IfSome};
 ghost use Rattle.lq_value.specs.Refusal.{FailsOnlyForMemory};
 
