@@ -85,13 +85,8 @@ impl Slot {
             }
             Act::Notice => Reply::Noticed(self.notice(number)),
             Act::Close => self.close(number),
-            Act::Finish => {
-                if self.is_read() {
-                    Reply::Finished
-                } else {
-                    Reply::Refused(Refusal::StillOpen)
-                }
-            }
+            Act::Finish if self.is_read() => Reply::Finished,
+            Act::Finish => Reply::Refused(Refusal::StillOpen),
         }
     }
 
