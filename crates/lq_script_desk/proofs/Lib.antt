@@ -1,9 +1,8 @@
--- Read in this order. Compact texts: FrontLemmas, EscapeLemmas. Replies: PieceLemmas. What whole
--- runs tell readers: HistoryLemmas, EventLemmas, FoldLemmas, TakenLemmas, TellLemmas; of a session
--- SessionLemmas. Replies that wait: WritesLemmas.
-pub mod FrontLemmas
+-- Read in this order. Texts: Joining, EscapeLemmas. What whole runs tell readers: HistoryLemmas,
+-- EventLemmas, FoldLemmas, TakenLemmas, TellLemmas; of a session SessionLemmas. Replies that wait:
+-- WritesLemmas.
+pub mod Joining
 pub mod EscapeLemmas
-pub mod PieceLemmas
 pub mod HistoryLemmas
 pub mod EventLemmas
 pub mod FoldLemmas

@@ -1,5 +1,5 @@
 //! Writes the text of a whole entry, with its attributes, as `entry` of a script answers it.
-#![tactic(auto, unfolding(json::specs::Print::escape_byte))]
+#![tactic(auto, using(crate::proofs::Joining::joined), unfolding(json::specs::Print::escape_byte))]
 
 ghost use Rattle.std.specs.Prelude.{◌≡◌, ◌++◌, codes, OnOk, map, true, false};
 ghost use Rattle.serde_json.specs.View.{items_of};
@@ -27,7 +27,8 @@ pub fn put_listing(out: &mut Vec<u8>, node: u64, listing: &Listing) -> Result<()
     put_unsigned(out, b",\"dir\":", listing.dir)?;
     put_text(out, b",\"kind\":", kind_name(listing.kind))?;
     put_text(out, b",\"name\":", listing.name.as_str())?;
-    put_sized(out, node, listing)
+    put_sized(out, node, listing)?;
+    Ok(())
 }
 
 fn put_sized(out: &mut Vec<u8>, node: u64, listing: &Listing) -> Result<(), AllocError>
@@ -38,7 +39,8 @@ fn put_sized(out: &mut Vec<u8>, node: u64, listing: &Listing) -> Result<(), Allo
     put_unsigned(out, b",\"node\":", node)?;
     put_unsigned(out, b",\"size\":", listing.size)?;
     put_signed(out, b",\"time\":", listing.time)?;
-    put_bytes(out, b"}")
+    put_bytes(out, b"}")?;
+    Ok(())
 }
 
 fn kind_name(kind: Kind) -> &'static str

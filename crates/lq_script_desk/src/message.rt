@@ -1,5 +1,5 @@
 //! Writes the text of a read from a subscription: a message, the mark, or that there is none.
-#![tactic(auto, unfolding(json::specs::Print::escape_byte))]
+#![tactic(auto, using(crate::proofs::Joining::joined), unfolding(json::specs::Print::escape_byte))]
 
 ghost use Rattle.std.specs.Prelude.{◌≡◌, ℕ, ◌++◌, codes, OnOk, true};
 ghost use Rattle.serde_json.specs.Data.{boolean};
@@ -102,7 +102,8 @@ fn put_told(out: &mut Vec<u8>, message: &Message) -> Result<(), AllocError>
 {
     put_text(out, before_name(message.last), message.name.as_str())?;
     put_unsigned(out, b",\"node\":", message.node)?;
-    put_numbered(out, &message.op, message.seq)
+    put_numbered(out, &message.op, message.seq)?;
+    Ok(())
 }
 
 // The member `last` and the key of the next member.

@@ -1,5 +1,5 @@
 //! Writes the text of a reply by pieces, as serde_json would write its value.
-#![tactic(auto, unfolding(json::specs::Print::escape_byte))]
+#![tactic(auto, using(crate::proofs::Joining::joined), unfolding(json::specs::Print::escape_byte))]
 
 ghost use Rattle.std.specs.Prelude.{◌≡◌, ◌++◌, codes, OnOk, OnErr, map, false};
 ghost use Rattle.serde_json.specs.View.{items_of};
@@ -108,7 +108,8 @@ fn put_rebuilt(
     put_unsigned(out, b"{\"change\":", change)?;
     put_entries(out, b",\"result\":[", entries)?;
     put_truth(out, b",\"settled\":", settled)?;
-    put_bytes(out, b"}")
+    put_bytes(out, b"}")?;
+    Ok(())
 }
 
 fn put_applied(out: &mut Vec<u8>, applied: &Applied) -> Result<(), AllocError>
@@ -129,7 +130,8 @@ fn put_opened(out: &mut Vec<u8>, slot: u64, at: u64, entries: &[Entry]) -> Resul
     put_unsigned(out, b"{\"at\":", at)?;
     put_entries(out, b",\"result\":[", entries)?;
     put_unsigned(out, b",\"slot\":", slot)?;
-    put_bytes(out, b"}")
+    put_bytes(out, b"}")?;
+    Ok(())
 }
 
 fn put_shut(out: &mut Vec<u8>, change: u64, slot: u64) -> Result<(), AllocError>
@@ -158,12 +160,13 @@ fn put_refusal(out: &mut Vec<u8>, refusal: Refusal) -> Result<(), AllocError>
     put_unsigned(out, b"{\"code\":", refusal.code())?;
     put_text(out, b",\"error\":", refusal.name())?;
     match place_of(refusal) {
-        None => put_bytes(out, b"}"),
+        None => put_bytes(out, b"}")?,
         Some(place) => {
             put_unsigned(out, b",\"place\":", place)?;
-            put_bytes(out, b"}")
+            put_bytes(out, b"}")?
         }
     }
+    Ok(())
 }
 
 fn place_of(refusal: Refusal) -> Option<u64>
@@ -199,7 +202,8 @@ fn put_entry(out: &mut Vec<u8>, later: bool, entry: &Entry) -> Result<(), AllocE
     put_unsigned(out, before_dir(later), entry.dir)?;
     put_text(out, b",\"name\":", entry.name.as_str())?;
     put_unsigned(out, b",\"node\":", entry.node)?;
-    put_bytes(out, b"}")
+    put_bytes(out, b"}")?;
+    Ok(())
 }
 
 fn before_dir(later: bool) -> &'static [u8]

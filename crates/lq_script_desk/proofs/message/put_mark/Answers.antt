@@ -2,8 +2,7 @@ use Rattle.std.proofs.Common.{codes, decimal}
 use Rattle.std.proofs.lemmas.Result.{on_ok_weaker}
 use Rattle.json.specs.Print.{escape_byte, quoted}
 use Rattle.lq_script_desk.specs.Reply.{cause_name}
-use Rattle.lq_script_desk.proofs.FrontLemmas.{◌after◌}
-use Rattle.lq_script_desk.proofs.PieceLemmas.{piece}
+use Rattle.lq_script_desk.proofs.Joining.{piece}
 use Rattle.lq_script_desk.proofs.message.put_mark.Goals as goal
 
 pub returns-clause-ok : goal.returns-clause-ok
@@ -18,17 +17,3 @@ returns-clause-ok c =
     (piece c.put_unsigned.new.out.items (codes ",\"seq\":")
     (decimal m.seq) _ c.in_ok-put_unsigned-2.ensures.ok e)))
     c.put_bytes.ensures.ok
-
-pub returns-in_err-put_unsigned-clause-front : goal.returns-in_err-put_unsigned-clause-front
-returns-in_err-put_unsigned-clause-front c =
-    c.put_unsigned.ensures.front after c.in_ok-put_text.ensures.front
-
-pub returns-in_err-put_unsigned-2-clause-front : goal.returns-in_err-put_unsigned-2-clause-front
-returns-in_err-put_unsigned-2-clause-front c =
-    c.put_unsigned-2.ensures.front after c.in_ok-put_unsigned.ensures.front
-    after c.in_ok-put_text.ensures.front
-
-pub returns-clause-front : goal.returns-clause-front
-returns-clause-front c =
-    c.put_bytes.ensures.front after c.in_ok-put_unsigned-2.ensures.front
-    after c.in_ok-put_unsigned.ensures.front after c.in_ok-put_text.ensures.front

@@ -1,8 +1,7 @@
 use Rattle.std.proofs.Common.{codes, decimal}
 use Rattle.std.proofs.lemmas.Result.{on_ok_weaker}
 use Rattle.json.specs.Print.{escape_byte, quoted}
-use Rattle.lq_script_desk.proofs.FrontLemmas.{◌after◌}
-use Rattle.lq_script_desk.proofs.PieceLemmas.{piece}
+use Rattle.lq_script_desk.proofs.Joining.{appends_after, piece}
 use Rattle.lq_script_desk.proofs.message.put_moved.Goals as goal
 
 pub returns-clause-ok : goal.returns-clause-ok
@@ -21,22 +20,8 @@ returns-clause-ok c =
     (quoted c.args.from_name.now) _ name e))))
     c.put_told.ensures.ok
 
-pub returns-in_err-put_unsigned-2-clause-front : goal.returns-in_err-put_unsigned-2-clause-front
-returns-in_err-put_unsigned-2-clause-front c =
-    c.put_unsigned-2.ensures.front after c.in_ok-put_unsigned.ensures.front
-
-pub returns-in_err-put_unsigned-3-clause-front : goal.returns-in_err-put_unsigned-3-clause-front
-returns-in_err-put_unsigned-3-clause-front c =
-    c.put_unsigned-3.ensures.front after c.in_ok-put_unsigned-2.ensures.front
-    after c.in_ok-put_unsigned.ensures.front
-
-pub returns-in_err-put_text-clause-front : goal.returns-in_err-put_text-clause-front
-returns-in_err-put_text-clause-front c =
-    c.put_text.ensures.front after c.in_ok-put_unsigned-3.ensures.front
-    after c.in_ok-put_unsigned-2.ensures.front after c.in_ok-put_unsigned.ensures.front
-
 pub returns-clause-front : goal.returns-clause-front
 returns-clause-front c =
-    c.put_told.ensures.front after c.in_ok-put_text.ensures.front
-    after c.in_ok-put_unsigned-3.ensures.front after c.in_ok-put_unsigned-2.ensures.front
-    after c.in_ok-put_unsigned.ensures.front
+    appends_after c.put_told.ensures.front (appends_after c.in_ok-put_text.ensures.front
+    (appends_after c.in_ok-put_unsigned-3.ensures.front
+    (appends_after c.in_ok-put_unsigned-2.ensures.front c.in_ok-put_unsigned.ensures.front)))

@@ -2,7 +2,7 @@ use Rattle.std.proofs.Common.{codes, decimal}
 use Rattle.std.proofs.lemmas.Result.{on_ok_weaker}
 use Rattle.json.specs.Print.{escape_byte, quoted}
 use Rattle.lq_script_desk.specs.Reply.{opcode_name}
-use Rattle.lq_script_desk.proofs.PieceLemmas.{named_piece}
+use Rattle.lq_script_desk.proofs.Joining.{named_piece}
 use Rattle.lq_script_desk.proofs.message.put_numbered.Goals as goal
 
 pub returns-clause-ok : goal.returns-clause-ok

@@ -2,7 +2,7 @@ use Rattle.std.proofs.Common.{◌≡◌, ◌++◌, [], ◌∷◌, rules}
 use Rattle.serde_json.specs.Written.{compact_text}
 use Rattle.lq_script_desk.specs.Answer.{response_of}
 use Rattle.lq_script_desk.specs.Reply.{response_data}
-use Rattle.lq_script_desk.proofs.PieceLemmas.{and_then}
+use Rattle.lq_script_desk.proofs.Joining.{and_then}
 use Rattle.lq_script_desk.proofs.reply.put_reply.Goals.{in-Refused+in_ok-put_refusal-in-Refused, in-Found+in_ok-put_found-in-Found, in-Listed+in_ok-put_listing-in-Listed, in-Fetched+in_ok-put_fetched-in-Fetched, in-Rebuilt+in_ok-put_rebuilt-in-Rebuilt}
 use Rattle.lq_script_desk.proofs.reply.put_reply.Goals as goal
 

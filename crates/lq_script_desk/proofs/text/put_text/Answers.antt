@@ -1,6 +1,6 @@
 use Rattle.std.proofs.Common.{◌∷◌, []}
 use Rattle.lq_script_desk.proofs.EscapeLemmas.{escape_parts, escape_whole, first_escaped, put_last, put_on}
-use Rattle.lq_script_desk.proofs.FrontLemmas.{◌after◌}
+use Rattle.lq_script_desk.proofs.Joining.{appends_after}
 use Rattle.lq_script_desk.proofs.text.put_text.Goals as goal
 
 pub returns-in_default-clause-ok : goal.returns-in_default-clause-ok
@@ -25,7 +25,7 @@ loop-out-preserved c =
     record {
       whole = put_on _ _ _ _ _ _ _ (34 ∷ []) _ c.in_ok-extend_from_slice-2.ensures.items
           c.in_ok-put_escape.ensures.ok parts c.loop-out.invariant.whole;
-      front = c.in_ok-put_escape.ensures.front
-          after record { rest = run; split = c.in_ok-extend_from_slice-2.ensures.items }
-          after c.loop-out.invariant.front;
+      front = appends_after c.in_ok-put_escape.ensures.front (appends_after
+          record { rest = run; split = c.in_ok-extend_from_slice-2.ensures.items }
+          c.loop-out.invariant.front);
     }

@@ -1,5 +1,18 @@
--- Piece behind piece.
+-- Pieces of a text, appended one after the other.
 use Rattle.std.proofs.Common.{◌≡◌, ℕ, List, ◌++◌, append_assoc, ap, ◌∙◌}
+use Rattle.lq_script_desk.specs.Front.{AppendsTo}
+
+-- a text that was appended to a text that was appended to an old one was appended to that
+pub appends_after : {new middle old : List ℕ} → AppendsTo new middle → AppendsTo middle old
+    → AppendsTo new old
+appends_after later earlier = record {
+  rest = earlier.rest ++ later.rest;
+  split = later.split ∙ (ap (λ front. front ++ later.rest) earlier.split
+      ∙ append_assoc _ earlier.rest later.rest);
+}
+
+-- what up to four pieces need, where the last one's error goes up by `?` too
+pub ruleset joined = (appends_after, append_assoc)
 
 -- a text, and then the rest
 pub and_then : {middle new : List ℕ} (old text rest : List ℕ) → middle ≡ old ++ text
