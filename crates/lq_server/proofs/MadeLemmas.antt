@@ -1,5 +1,6 @@
 -- The changes that a seat made, in the book that it then knows.
-use Rattle.std.proofs.Common.{◌≡◌, ℕ, ◌-◌, List, [], ◌∷◌, ◌++◌, length, slice_get, Some, Result, Ok, Err, OnErr, refl, sym, ap, ◌∙◌, subst, arith, length-append, append-nil}
+use Rattle.std.proofs.Common.{◌≡◌, ℕ, ◌-◌, List, [], ◌∷◌, ◌++◌, length, slice_get, Some, Result, Ok, Err, IfOk, OnErr, refl, sym, ap, ◌∙◌, subst, arith, length-append, append-nil}
+use Rattle.lq_value.specs.declared.refusal.Refusal.{Refusal}
 use Rattle.lq_volume.specs.declared.change.Change.{Change}
 use Rattle.lq_volume.specs.declared.change.Applied.{Applied}
 use Rattle.lq_volume.specs.Change.{node_of}
@@ -22,7 +23,7 @@ abbrev with_changes : Author → List ℕ → Author
 with_changes a changes = record a { changes = changes }
 
 -- a seat that made none, and only knows a later book
-pub made_none : (a b : SeatToken Identity) → b.author ≡ a.author → Extends b.book a.book
+made_none : (a b : SeatToken Identity) → b.author ≡ a.author → Extends b.book a.book
     → MakesMore a b []
 made_none a b author later = record {
   author =
@@ -42,7 +43,7 @@ pub made_moments : (a b : SeatToken Identity) → b ≡ record a { book = b.book
 made_moments a b same later = made_none a b (ap (λ (s : SeatToken Identity). s.author) same) later
 
 -- a seat that made one
-pub made_one : (a b : SeatToken Identity) (t : Applied) (c : Change)
+made_one : (a b : SeatToken Identity) (t : Applied) (c : Change)
     → b.author ≡ with_change a.author t.change → IsAdded a.book b.book t c
     → MakesMore a b (t ∷ [])
 made_one a b t c author d =
@@ -70,7 +71,15 @@ made_one a b t c author d =
       );
     }
 
--- what holds anyway holds of an error
-pub on_err_any : {T E P : Type 0} (r : Result T E) → P → OnErr r P
-on_err_any (Ok x) p = tt
-on_err_any (Err e) p = p
+-- a seat that asked for one, and was answered
+pub made_by : (a b : SeatToken Identity) (c : Change) (r : Result Applied Refusal)
+    → IfOk r (λ t. b.author ≡ with_change a.author t.change)
+    → IfOk r (λ t. IsAdded a.book b.book t c) → IfOk r (λ t. MakesMore a b (t ∷ []))
+made_by a b c (Ok t) author added = made_one a b t c author added
+made_by a b c (Err e) author added = tt
+
+-- and where it was refused
+pub made_err : (a b : SeatToken Identity) (r : Result Applied Refusal)
+    → OnErr r (b.author ≡ a.author) → Extends b.book a.book → OnErr r (MakesMore a b [])
+made_err a b (Ok t) author later = tt
+made_err a b (Err e) author later = made_none a b author later

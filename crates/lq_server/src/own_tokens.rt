@@ -79,11 +79,7 @@ impl<N: Named> OwnSeat<N> {
         ensures made { IfOk result (λ a. MakesMore self.old self.new (a ∷ [])) }
         ensures err { OnErr result (MakesMore self.old self.new []) }
     {
-        let accepted = server.apply(rt, &mut self.seat, change)?;
-        Ok(Applied {
-            change: accepted.change,
-            node: accepted.node,
-        })
+        server.apply(rt, &mut self.seat, change)
     }
 
     /// Opens a live query. Refused as `Server::open` is.

@@ -15,7 +15,7 @@ use lq_board::Board;
 use lq_server_slots::Identity;
 use lq_update::Mark;
 use lq_value::Refusal;
-use lq_volume::Volume;
+use lq_volume::{Applied, Volume};
 use std::marker::Model;
 use std::sync::{Mutex, Wait};
 
@@ -31,12 +31,9 @@ pub struct Synced {
     pub mark: Option<Mark>,
 }
 
-/// The answer to an accepted change: its number, and the node that it created or named.
-#[derive(Clone, Copy, Debug, PartialEq, Eq)]
-pub struct Accepted {
-    pub change: u64,
-    pub node: u64,
-}
+/// The answer to an accepted change, as a volume gives it: its number, and the node that it created
+/// or named.
+pub type Accepted = Applied;
 
 /// What a server leaves at its end: its volume, and the number of its changes.
 #[derive(Debug, Drop)]

@@ -46,18 +46,13 @@ impl<N: Named> Server<N> {
             seat.new.author ≡ with_change seat.old.author a.change) }
         ensures others { OnErr result (seat.new.author ≡ seat.old.author) }
         ensures later { Extends seat.new.book seat.old.book }
-        ensures ok { IfOk result (λ a. IsAdded seat.old.book seat.new.book
-            (record { change = a.change; node = a.node }) change.now) }
+        ensures ok { IfOk result (λ a. IsAdded seat.old.book seat.new.book a change.now) }
 
         // The first refusal that fits, or `NoMemory` where none fits.
         ensures err { IfErr result (λ e.
             e ≡ unwrap_or (refused (state_of seat.new.book) change.now) NoMemory) }
     {
-        let applied = self.state.lock(rt).apply(rt, &self.board, seat, change)?;
-        Ok(Accepted {
-            change: applied.change,
-            node: applied.node,
-        })
+        self.state.lock(rt).apply(rt, &self.board, seat, change)
     }
 
     /// The entries that match a predicate, by rising node, and the number of changes then.

@@ -58,7 +58,7 @@ pub enum Change {
 
 /// The effect of an accepted change: its number, counted from 1, and the node that it created or
 /// named.
-#[derive(Clone, Copy, Debug)]
+#[derive(Clone, Copy, Debug, PartialEq, Eq)]
 pub struct Applied {
     pub change: u64,
     pub node: u64,

@@ -2,9 +2,6 @@
 use Rattle.std.proofs.Common.{rules}
 use Rattle.lq_server.proofs.server.Server.apply.Goals as goal
 
-pub returns-in_err-applied-clause-others : goal.returns-in_err-applied-clause-others
-returns-in_err-applied-clause-others g c = search rules steps 2000000
-
 pub returns-clause-author : goal.returns-clause-author
 returns-clause-author g c = search rules steps 2000000
 
