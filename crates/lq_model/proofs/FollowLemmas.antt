@@ -20,7 +20,7 @@ use Rattle.lq_server_slots.specs.Reading.{known, mark_read}
 use Rattle.lq_server_slots.specs.Opening.{IdentityFits, asks_after}
 use Rattle.lq_server.specs.declared.server.Synced.{Synced}
 use Rattle.lq_server.specs.declared.server.Retired.{Retired}
-use Rattle.lq_server.specs.Hold.{ReaderHold}
+use Rattle.lq_server_slots.specs.Hold.{ReaderHold}
 use Rattle.lq_server.specs.Opened.{IsNewReader}
 use Rattle.lq_server.specs.Syncing.{IsSynced}
 use Rattle.lq_server.specs.Headline.{ReaderIsTold}

@@ -15,8 +15,8 @@ use Rattle.lq_update.specs.Updates.{updates_of}
 use Rattle.lq_server_slots.specs.declared.identity.Identity.{Identity}
 use Rattle.lq_server_slots.specs.Rule.{query_of}
 use Rattle.lq_server_slots.specs.Reading.{known, received, mark_read}
-use Rattle.lq_server.specs.Hold.{ReaderHold}
-use Rattle.lq_server.specs.Own.{IsOwn}
+use Rattle.lq_server_slots.specs.Hold.{ReaderHold}
+use Rattle.lq_server_slots.specs.Own.{IsOwn}
 use Rattle.lq_server.specs.Retired.{IsRetired}
 use Rattle.lq_model.specs.declared.model.Followed.{Followed}
 

@@ -4,7 +4,7 @@ ghost use Rattle.lq_value.specs.Refusal.{FailsOnlyForMemory};
 ghost use Rattle.lq_board.specs.Author.{leader, with_roll};
 ghost use Rattle.lq_board.specs.Roll.{numbers};
 ghost use Rattle.lq_board.specs.Token.{counted_board};
-ghost use Rattle.lq_server.specs.Own.{IsOwn};
+ghost use Rattle.lq_server_slots.specs.Own.{IsOwn};
 ghost use Rattle.lq_server.specs.Retired.{IsRetired};
 ghost use Rattle.lq_model.specs.Followed.{AreRefused, HasHungUp, HasApplied, HasStopped, IsFollowRefused, IsFollowed};
 

@@ -22,9 +22,9 @@ use Rattle.lq_server_slots.specs.contracts.delivery.DeliveryFollows.TheImpl.{gho
 use Rattle.lq_server_slots.specs.contracts.identity.Identity as identity
 use Rattle.lq_server_slots.specs.contracts.subscription.Subscription as slot
 use Rattle.lq_server_slots.specs.contracts.slots.ServerSlots as slots
-use Rattle.lq_server.specs.declared.server_base.Named.{Ghosts}
-use Rattle.lq_server.specs.contracts.server_state.ServerState as locked
-use Rattle.lq_server.specs.contracts.server_state.ServerState.TheInside as in_locked
+use Rattle.lq_server_slots.specs.declared.server_base.Named.{Ghosts}
+use Rattle.lq_server_slots.specs.contracts.server_state.ServerState as locked
+use Rattle.lq_server_slots.specs.contracts.server_state.ServerState.TheInside as in_locked
 use Rattle.lq_server.specs.contracts.server.Server as server
 use Rattle.lq_server.specs.contracts.server.Server.TheInside as in_server
 

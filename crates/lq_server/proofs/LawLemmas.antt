@@ -11,7 +11,7 @@ use Rattle.lq_server_slots.specs.Opening.{name_or}
 use Rattle.lq_server_slots.specs.Reading.{ReadingHold, known}
 use Rattle.lq_server.specs.Closed.{IsCloseAnswer}
 use Rattle.lq_server.specs.Headline.{GoesOn, IsAnswered}
-use Rattle.lq_server.specs.Hold.{ReaderHold}
+use Rattle.lq_server_slots.specs.Hold.{ReaderHold}
 use Rattle.lq_server.specs.Laws.{HasOverrun}
 use Rattle.lq_server.specs.Syncing.{IsWaitingRead}
 use Rattle.lq_server.proofs.ParcelLemmas.{extends_self}

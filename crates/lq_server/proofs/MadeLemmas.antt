@@ -10,7 +10,7 @@ use Rattle.lq_board.specs.Author.{with_change}
 use Rattle.lq_board.specs.Token.{SeatToken}
 use Rattle.lq_server_slots.specs.declared.identity.Identity.{Identity}
 use Rattle.lq_server_slots.specs.Slots.{before_of}
-use Rattle.lq_server.specs.Applied.{IsAdded}
+use Rattle.lq_server_slots.specs.Applied.{IsAdded}
 use Rattle.lq_server.specs.Made.{MakesMore, state_before}
 
 -- what comes after a list stands at its length

@@ -18,9 +18,10 @@ use Rattle.lq_server_slots.specs.declared.subscription.Subscription.{Subscriptio
 use Rattle.lq_server_slots.specs.declared.slots.ServerSlots.{ServerSlots}
 use Rattle.lq_server_slots.specs.Slots.{AreConsistent, asks_of, has_no_free, slot_in}
 use Rattle.lq_server_slots.specs.Opening.{IsOpeningTabled}
-use Rattle.lq_server.specs.Hold.{ReaderHold}
-use Rattle.lq_server.specs.Own.{IsOwn}
-use Rattle.lq_server.specs.Closed.{IsCloseAnswer, IsClosing}
+use Rattle.lq_server_slots.specs.Hold.{ReaderHold}
+use Rattle.lq_server_slots.specs.Own.{IsOwn}
+use Rattle.lq_server_slots.specs.Closing.{IsClosing}
+use Rattle.lq_server.specs.Closed.{IsCloseAnswer}
 use Rattle.lq_server.specs.Opened.{first_opening_refusal}
 use Rattle.lq_server.proofs.SyncLemmas.{own_renamed, synced}
 

@@ -27,9 +27,9 @@ use Rattle.lq_server_slots.specs.Reading.{ReadingHold, known, received, ready, m
 use Rattle.lq_server_slots.specs.Standing.{messages_given, upto, moved_mark, IsOut, FirstCloseFits, IsOverrun, StaysTrue, seen_of, told_by}
 use Rattle.lq_server_slots.specs.Opening.{IdentityFits, asks_after, name_or}
 use Rattle.lq_server_slots.specs.Progress.{ShowsProgress}
-use Rattle.lq_server.specs.Own.{IsOwn}
+use Rattle.lq_server_slots.specs.Own.{IsOwn}
 use Rattle.lq_server.specs.Syncing.{bit, is_mark_in_port, fin_list, IsSynced}
-use Rattle.lq_server.specs.Hold.{ReaderHold}
+use Rattle.lq_server_slots.specs.Hold.{ReaderHold}
 use Rattle.lq_server.specs.declared.server.Synced.{Synced}
 use Rattle.lq_server.proofs.ParcelLemmas.{extends_self, extends_trans, messages_in-append, mark_over, mark_in-append, last_book-snoc, marks_are}
 

@@ -1,33 +1,15 @@
 -- What a close answers its reader.
-use Rattle.std.specs.Prelude.{◌≡◌, ℕ, length, true, Option, Result, Some, Err, IfOk, IfErr, is_ok}
+use Rattle.std.specs.Prelude.{◌≡◌, ℕ, length, true, Result, Some, Err, IfOk, IfErr, is_ok}
 use Rattle.lq_value.specs.declared.refusal.Refusal.{Refusal}
 use Rattle.lq_value.specs.declared.refusal.Refusal.TheVariants.{NotOpen}
 use Rattle.lq_volume.specs.Book.{Extends}
-use Rattle.lq_board.specs.Token.{SeatToken}
-use Rattle.lq_server_slots.specs.declared.identity.Identity.{Identity}
 use Rattle.lq_server_slots.specs.declared.identity.FirstClose.TheVariants.{Never}
-use Rattle.lq_server_slots.specs.declared.subscription.Subscription.{Subscription}
-use Rattle.lq_server_slots.specs.declared.sync.Progress.{Progress}
 use Rattle.lq_server_slots.specs.Marking.{after_close}
-use Rattle.lq_server_slots.specs.Closing.{IsClosed}
-use Rattle.lq_server_slots.specs.Progress.{ShowsProgress}
-use Rattle.lq_server_slots.specs.Reading.{ReadingHold}
 use Rattle.lq_server_slots.specs.Opening.{name_or}
-use Rattle.lq_server.specs.Hold.{ReaderHold}
-use Rattle.lq_server.specs.Own.{IsOwn}
+use Rattle.lq_server_slots.specs.Hold.{ReaderHold}
+use Rattle.lq_server_slots.specs.Own.{IsOwn}
 use Rattle.lq_server.specs.Syncing.{IsSynced}
 use Rattle.lq_server.specs.declared.server.Synced.{Synced}
-
--- A close under the lock, and then a sync in the same hold. The seat, s before and t after, was
--- `mid` in between. Its reader's end of the port was d, and is e.
-pub record IsClosing (s t : SeatToken Identity) (d e : ReadingHold) (result : Option ℕ)
-    : Type 0 where
-  pub mid : SeatToken Identity
-  pub closed : IsClosed mid.book s mid result
-  pub same : t.book ≡ mid.book
-  pub subscription : Subscription
-  pub progress : Progress
-  pub shown : ShowsProgress subscription mid t d e progress
 
 -- Old and new are the reader before and after a close. Only its first close may answer the number
 -- of changes, and not where it had asked for the end. Otherwise it is refused with `NotOpen`.

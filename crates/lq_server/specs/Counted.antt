@@ -1,29 +1,12 @@
 -- A counted server, whose seats make changes just while its leading seat has them enlisted, and the
 -- calls by which its changes were made.
-use Rattle.std.specs.Prelude.{◌≡◌, ℕ, ◌+◌, ◌<◌, List, [], length, map, slice_get, Some, None, All, Contains}
+use Rattle.std.specs.Prelude.{◌≡◌, ℕ, ◌+◌, ◌<◌, List, length, map, slice_get, Some, All, Contains}
 use Rattle.lq_volume.specs.declared.change.Change.{Change}
 use Rattle.lq_volume.specs.declared.change.Applied.{Applied}
-use Rattle.lq_volume.specs.State.{State}
 use Rattle.lq_volume.specs.Book.{Book, Extends}
 use Rattle.lq_board.specs.Roll.{numbers, times}
-use Rattle.lq_board.specs.Author.{leader}
-use Rattle.lq_board.specs.Token.{BoardName, SeatToken}
-use Rattle.lq_server_slots.specs.declared.identity.Identity.{Identity}
-use Rattle.lq_server.specs.Applied.{IsAdded}
-
--- the leading seat of a new server over this volume: no seat is enlisted, and it has gathered no
--- change
-abbrev pub leading_seat : BoardName → State → SeatToken Identity
-leading_seat board start =
-    record {
-      board = board;
-      slot = 0;
-      book = record { start = start; changes = [] };
-      asks = 0;
-      name = None;
-      author = leader;
-      moments = [];
-    }
+use Rattle.lq_server_slots.specs.Applied.{IsAdded}
+pub use Rattle.lq_server_slots.specs.Leading.{leading_seat}
 
 -- an accepted call: its change, its answer, and what its seat knew before and after it
 pub record Call : Type 0 where

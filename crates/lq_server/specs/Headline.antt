@@ -16,7 +16,7 @@ use Rattle.lq_port.specs.End.{IsSamePort}
 use Rattle.lq_server_slots.specs.declared.delivery.Opening.{Opening}
 use Rattle.lq_server_slots.specs.Rule.{query_of}
 use Rattle.lq_server_slots.specs.Reading.{ReadingHold, Gives, known, received, mark_read}
-use Rattle.lq_server.specs.Hold.{ReaderHold}
+use Rattle.lq_server_slots.specs.Hold.{ReaderHold}
 
 -- the query's update list over a book, from the opening up to change n
 abbrev pub updates_upto : Opening → Book → ℕ → List Message

@@ -10,7 +10,7 @@ use Rattle.lq_server_slots.specs.Reading.{ReadingHold}
 use Rattle.lq_server_slots.specs.Standing.{IsOverrun, seen_of}
 use Rattle.lq_server.specs.Closed.{IsCloseAnswer}
 use Rattle.lq_server.specs.Headline.{GoesOn, IsAnswered}
-use Rattle.lq_server.specs.Hold.{ReaderHold}
+use Rattle.lq_server_slots.specs.Hold.{ReaderHold}
 use Rattle.lq_server.specs.Syncing.{IsWaitingRead}
 
 -- An answer of `read_waiting` is one of a read, in the words of `AnswersAreTold`: the reader goes

@@ -4,7 +4,7 @@ use Rattle.lq_board.specs.Token.{SeatToken}
 use Rattle.lq_board.specs.contracts.tokens.Seat as seat
 use Rattle.lq_server_slots.specs.declared.identity.Identity.{Identity}
 use Rattle.lq_server_slots.specs.contracts.identity.Identity as identity
-use Rattle.lq_server.specs.Hold.{ReaderHold}
+use Rattle.lq_server_slots.specs.Hold.{ReaderHold}
 use Rattle.lq_server.specs.contracts.reader.Reader as reader
 
 -- the reader with another seat

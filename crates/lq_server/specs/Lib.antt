@@ -1,14 +1,13 @@
-pub mod Base
 pub mod Counted
-pub mod Hold
-pub mod Own
+pub use Rattle.lq_server_slots.specs.Hold
+pub use Rattle.lq_server_slots.specs.Own
 pub mod Opened
 pub mod Closed
 pub mod Syncing
 pub mod Retired
 pub mod Lending
 pub mod Works
-pub mod Applied
+pub use Rattle.lq_server_slots.specs.Applied
 pub mod Made
 pub mod Headline
 pub mod Laws

@@ -1,19 +1,20 @@
 -- A reader that was just opened.
-use Rattle.std.specs.Prelude.{◌≡◌, ◌≤◌, ◌<◌, [], ◌∷◌, ◌++◌, ℕ, Bool, false, Option, None, IfOk, IsSome, Result}
+use Rattle.std.specs.Prelude.{◌≡◌, ◌≤◌, ◌<◌, ℕ, Bool, false, Option, None, IfOk, IsSome, Result}
 use Rattle.lq_value.specs.declared.refusal.Refusal.{Refusal}
 use Rattle.lq_value.specs.Refusal.{first_refusal}
 use Rattle.lq_predicate.specs.Query.{Query}
 use Rattle.lq_volume.specs.State.{State}
 use Rattle.lq_volume.specs.Book.{Book}
-use Rattle.lq_board.specs.Token.{BoardName, SeatToken, moment_of}
+use Rattle.lq_board.specs.Token.{BoardName, SeatToken}
 use Rattle.lq_server_slots.specs.declared.identity.Identity.{Identity}
 use Rattle.lq_server_slots.specs.declared.open.Opened.{Opened}
 use Rattle.lq_server_slots.specs.declared.slots.ServerSlots.{ServerSlots}
 use Rattle.lq_server_slots.specs.Events.{opening_refusals}
-use Rattle.lq_server_slots.specs.Opening.{IsOpened, IsOpeningAnswer, IsOpeningTabled}
+use Rattle.lq_server_slots.specs.Noted.{HasNoted}
+use Rattle.lq_server_slots.specs.Opening.{IsOpened, IsOpeningTabled}
 use Rattle.lq_server_slots.specs.Slots.{AreConsistent, slot_in}
-use Rattle.lq_server.specs.Hold.{ReaderHold}
-use Rattle.lq_server.specs.Own.{IsOwn}
+use Rattle.lq_server_slots.specs.Hold.{ReaderHold}
+use Rattle.lq_server_slots.specs.Own.{IsOwn}
 
 -- what an opening gave the reader
 abbrev pub opened_of : ReaderHold → Opened
@@ -30,22 +31,6 @@ pub record IsNewReader (r : ReaderHold) (board : BoardName) (book : Book) (q : Q
 abbrev pub first_opening_refusal : State → ℕ → ℕ → Option Refusal
 first_opening_refusal start port backlog =
     first_refusal (opening_refusals false 0 start.limit port backlog)
-
--- The seat, `old` before and `new` after, has noted one moment more: that of the keeper of these
--- slots, which has counted their openings.
-pub record HasNoted (old new : SeatToken Identity) (under : ServerSlots) : Type 0 where
-  pub moments : new.moments ≡ old.moments ++ moment_of under.keeper ∷ []
-  pub counted : under.openings ≡ under.keeper.register.openings
-
--- Over these slots an opening by this seat was answered under the lock, before it was a reader.
-pub record IsOpenedOver (under : ServerSlots) (start : State) (old new : SeatToken Identity)
-    (port backlog : ℕ) (result : Result Opened Refusal) : Type 0 where
-  pub keeps : under.keeper.book ≡ new.book
-  pub stands : AreConsistent under new.book
-  pub noted : HasNoted old new under
-  pub openings : under.openings ≤ start.limit
-  pub answered : IsOpeningAnswer under start.limit port backlog result
-  pub keeper : IfOk result (λ o. o.reading.port.floor.book.value ≡ under.keeper)
 
 -- Over these slots an opening by this seat is answered so, whether it is refused or not. They stand
 -- over the book that the seat then knows, no more were opened than the limit, and a slot that is

@@ -19,8 +19,8 @@ use Rattle.lq_desk_sub.specs.declared.read.Read.TheVariants.{Empty, Ended}
 use Rattle.lq_server_slots.specs.Reading.{known, received, ready, mark_read, is_marked, Gives, Fails}
 use Rattle.lq_server_slots.specs.Standing.{upto, FirstCloseFits, IsOverrun, StaysTrue, seen_of, told_by}
 use Rattle.lq_server_slots.specs.Opening.{name_or}
-use Rattle.lq_server.specs.Own.{IsOwn}
-use Rattle.lq_server.specs.Hold.{ReaderHold}
+use Rattle.lq_server_slots.specs.Own.{IsOwn}
+use Rattle.lq_server_slots.specs.Hold.{ReaderHold}
 use Rattle.lq_server.specs.declared.server.Synced.{Synced}
 
 -- a mark as a list of parcels

@@ -5,11 +5,10 @@ ghost use Rattle.lq_server.specs.Headline.{AnswersAreTold};
 ghost use Rattle.lq_server.specs.Laws.{FirstClosesAreRefusedLate, WaitingReadsAnswer};
 ghost use Rattle.lq_server.specs.contracts.server.Server as servers;
 
-use crate::server_base::Named;
 use lq_board::{Board, Keeper};
 use lq_desk_sub::Sub;
 use lq_port::PortIn;
-use lq_server_slots::{Delivery, Identity};
+use lq_server_slots::{Delivery, Identity, Named};
 use lq_update::{folds_give_results, whole_folds_give_results};
 use lq_volume::Volume;
 

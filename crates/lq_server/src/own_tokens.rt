@@ -8,10 +8,9 @@ ghost use Rattle.lq_server.specs.Retired.{IsRetired};
 
 use crate::reader::Reader;
 use crate::server::{Retired, Server};
-use crate::server_base::{Named, Seat};
-use crate::server_state::Found;
 use lq_desk_sub::Read;
 use lq_predicate::Predicate;
+use lq_server_slots::{Found, Named, Seat};
 use lq_value::{Name, Refusal};
 use lq_volume::{Applied, Change, Listing};
 use std::marker::{Model, PhantomData};
@@ -175,7 +174,7 @@ impl<N: Named> Drop for OwnReader<N> {
 impl<N: Named> Model for OwnReader<N> {
     ghost use Rattle.std.specs.Prelude.{◌≡◌};
     ghost use Rattle.lq_board.specs.Token.{BoardName};
-    ghost use Rattle.lq_server.specs.Own.{IsOwn};
+    ghost use Rattle.lq_server_slots.specs.Own.{IsOwn};
 
     ghost Value = { BoardName };
 

@@ -10,15 +10,14 @@ ghost use Rattle.lq_update.specs.Updates.{IsSettled};
 ghost use Rattle.lq_port.specs.End.{IsSamePort};
 ghost use Rattle.lq_server_slots.specs.Rule.{query_of, all_updates};
 ghost use Rattle.lq_server_slots.specs.Reading.{Gives, Fails, known, received, mark_read, opening_of};
-ghost use Rattle.lq_server.specs.Own.{IsOwn};
+ghost use Rattle.lq_server_slots.specs.Own.{IsOwn};
 ghost use Rattle.lq_server.specs.Lending.{LendsSeat};
 ghost use Rattle.lq_server.specs.Syncing.{IsWaitingRead};
 ghost use Rattle.lq_server.specs.Headline.{ReaderIsTold};
 
 use crate::server::Server;
-use crate::server_base::{Named, Seat};
 use lq_desk_sub::Read;
-use lq_server_slots::{Reading, books_extend_themselves};
+use lq_server_slots::{Named, Reading, Seat, books_extend_themselves};
 use lq_value::{Entry, Refusal};
 use std::marker::Model;
 use std::sync::Wait;
@@ -60,7 +59,7 @@ impl Model for Reader {
     ghost use Rattle.lq_server_slots.specs.contracts.identity.Identity as an_identity;
     ghost use Rattle.lq_server_slots.specs.contracts.reading.Reading as a_reading;
     ghost use Rattle.lq_board.specs.contracts.tokens.Seat as a_seat;
-    ghost use Rattle.lq_server.specs.Hold.{ReaderHold};
+    ghost use Rattle.lq_server_slots.specs.Hold.{ReaderHold};
 
     ghost Value = { ReaderHold };
 

@@ -1,18 +1,17 @@
-//! The server.
+//! The server: the state under its lock, and the board, which threads read without the lock. Here
+//! are its beginning, its seats and its end.
 ghost use Rattle.std.specs.Prelude.{◌≡◌, ◌≢◌, [], ◌∷◌, length, IfOk, IfErr, true, false};
 ghost use Rattle.lq_value.specs.declared.refusal.Refusal.TheVariants.{NoSeat};
 ghost use Rattle.lq_volume.specs.Book.{Extends};
 ghost use Rattle.lq_board.specs.Author.{AreDisjoint, IsWhole, with_roll, with_signs};
 ghost use Rattle.lq_board.specs.Roll.{IsMerged, without_number};
 ghost use Rattle.lq_board.specs.Token.{counted_board};
-ghost use Rattle.lq_server.specs.Counted.{leading_seat};
-ghost use Rattle.lq_server.specs.Own.{StaysOwn};
+ghost use Rattle.lq_server_slots.specs.Leading.{leading_seat};
+ghost use Rattle.lq_server_slots.specs.Own.{StaysOwn};
 ghost use Rattle.lq_server.specs.Retired.{IsRetired};
 
-use crate::server_base::{Base, Named, Seat};
-use crate::server_state::ServerState;
 use lq_board::Board;
-use lq_server_slots::Identity;
+use lq_server_slots::{Base, Identity, Named, Seat, ServerState};
 use lq_update::Mark;
 use lq_value::Refusal;
 use lq_volume::{Applied, Volume};

@@ -1,4 +1,4 @@
-//! Calls of a server on its subscriptions.
+//! Calls of a server on its subscriptions: each is opened, synced, closed and finished here.
 ghost use Rattle.std.specs.Prelude.{◌≡◌, ◌+◌, ◌-◌, ◌<◌, ◌^◌, [], IfOk, IfErr, IfSome, IfNone, OnOk, Err, is_some, true, false};
 ghost use Rattle.lq_value.specs.declared.refusal.Refusal.TheVariants.{StillOpen};
 ghost use Rattle.lq_value.specs.Refusal.{IsRefusedBy};
@@ -9,16 +9,16 @@ ghost use Rattle.lq_server_slots.specs.Opening.{IsOpeningRefused, size_refusal};
 ghost use Rattle.lq_server.specs.declared.server.Synced.{Synced as SyncedOf};
 ghost use Rattle.lq_server_slots.specs.declared.slots.ServerSlots.{ServerSlots as SlotsOf};
 ghost use Rattle.lq_server.specs.Closed.{IsCloseAnswer};
-ghost use Rattle.lq_server.specs.Counted.{leading_seat};
+ghost use Rattle.lq_server_slots.specs.Leading.{leading_seat};
 ghost use Rattle.lq_server.specs.Opened.{IsAnsweredOver, IsNewReader, first_opening_refusal};
-ghost use Rattle.lq_server.specs.Own.{IsOwn, StaysOwn};
+ghost use Rattle.lq_server_slots.specs.Own.{IsOwn, StaysOwn};
 ghost use Rattle.lq_server.specs.Syncing.{IsSynced, bit, is_mark_in_port};
 
 use crate::reader::Reader;
 use crate::server::{Server, Synced};
-use crate::server_base::{Base, Named, Seat};
 use lq_predicate::Predicate;
-use lq_server_slots::{OpenRequest, Progress, Reading};
+use lq_server_slots::{Base, Named, Progress, Reading, Seat};
+use lq_update::OpenOptions;
 use lq_value::Refusal;
 use std::sync::{Mutex, Wait};
 
@@ -60,13 +60,12 @@ impl<N: Named> Server<N> {
         let Ok(mut seat) = locked.seat(&board) else {
             unreachable!()
         };
-        let asked = OpenRequest {
-            predicate,
+        let options = OpenOptions {
             port,
             backlog,
             moved,
         };
-        let opened = locked.open(&board, &mut seat, &asked)?;
+        let opened = locked.open(&board, &mut seat, predicate, &options)?;
         let reader = Reader {
             reading: opened.reading,
             seat: opened.seat,
@@ -114,13 +113,15 @@ impl<N: Named> Server<N> {
         ensures table { (under : SlotsOf)
             × IsAnsweredOver under N.start seat.old seat.new port backlog result }
     {
-        let asked = OpenRequest {
-            predicate,
+        let options = OpenOptions {
             port,
             backlog,
             moved,
         };
-        let opened = self.state.lock(rt).open(&self.board, seat, &asked)?;
+        let opened = self
+            .state
+            .lock(rt)
+            .open(&self.board, seat, predicate, &options)?;
         Ok(Reader {
             reading: opened.reading,
             seat: opened.seat,

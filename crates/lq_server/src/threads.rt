@@ -5,7 +5,7 @@ ghost use Rattle.lq_server.specs.Works.{AllGive};
 
 use crate::laws::servers_may_be_shared;
 use crate::server::Server;
-use crate::server_base::Named;
+use lq_server_slots::Named;
 use lq_value::Refusal;
 use std::sync::Wait;
 use std::thread::{Threads, join, map_vec};

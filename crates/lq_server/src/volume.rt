@@ -1,4 +1,4 @@
-//! Calls of a server on its volume.
+//! Calls of a server on its volume: a change, and three ways to read.
 ghost use Rattle.std.specs.Prelude.{◌≡◌, length, true, IfOk, IfErr, OnOk, OnErr, None, Some, unwrap_or};
 ghost use Rattle.lq_value.specs.declared.refusal.Refusal.TheVariants.{NoMemory};
 ghost use Rattle.lq_value.specs.Refusal.{FailsOnlyForMemory, IsRefusedBy, first_refusal};
@@ -8,13 +8,12 @@ ghost use Rattle.lq_volume.specs.Result.{result_of};
 ghost use Rattle.lq_volume.specs.State.{record_at, node_in};
 ghost use Rattle.lq_volume.specs.Lookup.{find_refusals, entry_refusals, listed};
 ghost use Rattle.lq_board.specs.Author.{with_change};
-ghost use Rattle.lq_server.specs.Applied.{IsAdded};
-ghost use Rattle.lq_server.specs.Own.{StaysOwn};
+ghost use Rattle.lq_server_slots.specs.Applied.{IsAdded};
+ghost use Rattle.lq_server_slots.specs.Own.{StaysOwn};
 
 use crate::server::{Accepted, Server};
-use crate::server_base::{Named, Seat};
-use crate::server_state::Found;
 use lq_predicate::Predicate;
+use lq_server_slots::{Found, Named, Seat};
 use lq_value::{Name, Refusal};
 use lq_volume::{Change, Listing};
 use std::sync::Wait;
@@ -28,7 +27,7 @@ impl<N: Named> Server<N> {
     /// `Volume::apply` is after the book that the seat then knows, or `NoMemory`. A subscription
     /// whose reader hung up before ends, even where it is refused. No clause of this call says what
     /// becomes of the subscriptions, or that a refused change leaves the volume as it was: clauses
-    /// of `change_in` in lq_server_slots do, for the requests that its keeper knows of.
+    /// of `ServerState::apply` do, for the requests that its keeper knows of.
     pub fn apply<R: Wait>(
         &self,
         rt: &R,

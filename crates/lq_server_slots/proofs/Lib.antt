@@ -12,5 +12,7 @@ pub mod SlotLemmas
 pub mod TakenLemmas
 pub mod CommitLemmas
 pub mod SyncLemmas
+pub mod ApplyLemmas
+pub mod StateLemmas
 pub mod OpenLemmas
 pub mod ShownLemmas

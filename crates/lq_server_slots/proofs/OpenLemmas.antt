@@ -1,16 +1,18 @@
 -- A subscription that was just made.
-use Rattle.std.proofs.Common.{◌≡◌, ◌≢◌, ℕ, ◌+◌, ◌<◌, ◌≤◌, Bool, true, false, List, [], ◌++◌, length, Option, Some, None, sym, ◌∙◌, arith, get_or-set_same, set-set, slice_set}
-use Rattle.std.specs.Prelude.{OnOk, OnErr, Result}
+use Rattle.std.proofs.Common.{◌≡◌, ◌≢◌, ℕ, ◌+◌, ◌<◌, ◌≤◌, Bool, true, false, List, [], ◌∷◌, ◌++◌, length, Option, Some, None, Ok, Err, inr, refl, sym, ap, ◌∙◌, subst, arith, get_or-set_same, set-set, slice_set}
+use Rattle.std.specs.Prelude.{IfNone, IfOk, IfSome, Result, unwrap_or}
 use Rattle.std.proofs.lemmas.Bool.Decides.{nat_tests}
 use Rattle.lq_value.specs.declared.refusal.Refusal.{Refusal}
+use Rattle.lq_value.specs.declared.refusal.Refusal.TheVariants.{NoMemory}
 use Rattle.lq_value.specs.Refusal.{first_refusal}
 use Rattle.lq_predicate.specs.Query.{Query}
+use Rattle.lq_volume.specs.State.{State}
 use Rattle.lq_volume.specs.Book.{Book, state_of}
 use Rattle.lq_volume.specs.Result.{result_of}
 use Rattle.lq_board.specs.Known.{KnownSlot}
 use Rattle.lq_board.specs.Book.{IsFullBook}
 use Rattle.lq_board.specs.Slot.{slot_at, unused, gone_out, counted}
-use Rattle.lq_board.specs.Token.{KeeperToken}
+use Rattle.lq_board.specs.Token.{BoardName, KeeperToken, SeatToken, moment_of}
 use Rattle.lq_update.specs.Fold.{opened_at}
 use Rattle.lq_desk_sub.specs.Held.{opened_with}
 use Rattle.lq_desk_world.specs.Events.{size_refusals, opening_refusals}
@@ -26,8 +28,11 @@ use Rattle.lq_server_slots.specs.Standing.{IsSeen, IsConsistentAt}
 use Rattle.lq_server_slots.specs.Laws.{NewSubscriptionsStand}
 use Rattle.lq_server_slots.specs.declared.slots.ServerSlots.{ServerSlots}
 use Rattle.lq_server_slots.specs.declared.open.Opened.{Opened}
-use Rattle.lq_server_slots.specs.Slots.{SlotStands, IsTakenSlot, slot_in, AllStand, OnlyAt}
-use Rattle.lq_server_slots.specs.Opening.{IsNewSubscription}
+use Rattle.lq_server_slots.specs.Slots.{SlotStands, IsTakenSlot, slot_in, AllStand, AreConsistent, OnlyAt, SameButKnown}
+use Rattle.lq_server_slots.specs.Opening.{IsNewSubscription, IsOpeningAnswer, size_refusal}
+use Rattle.lq_server_slots.specs.Hold.{LockHold}
+use Rattle.lq_server_slots.specs.Noted.{IsOpenedOver}
+use Rattle.lq_server_slots.proofs.StateLemmas.{IsState}
 use Rattle.lq_server_slots.proofs.SlotLemmas.{all_stand-set, counted_here, only_set}
 
 -- a subscription that was just made, and the end that reads
@@ -92,13 +97,112 @@ pub opening_fits : (full : Bool) (openings limit port backlog : ℕ) → port �
     → first_refusal (opening_refusals full openings limit port backlog) ≡ None
 opening_fits full openings limit port backlog some high few free less = grind (arith, nat_tests)
 
--- an opening counts as one more, and where it is refused as none
-pub openings_within : (r : Result Opened Refusal) (old new : ServerSlots) (limit : ℕ)
-    → OnOk r (new.openings ≡ old.openings + 1) → OnErr r (new ≡ old)
-    → old.openings < limit → new.openings ≤ limit
-openings_within r old new limit more same less = grind arith
-
 -- of a subscription that was just made nothing had been taken
 pub begun_seen : (s : Subscription) (r : ReadingHold) (book : Book) (q : Query) (mv : Bool)
     (port backlog : ℕ) → IsNewSubscription s r book q mv port backlog → IsSeen s
 begun_seen s r book q mv port backlog b = rw b.told (omega arith)
+
+-- ---- an answer of a slot, and that of the opening
+
+-- the refusal of an answer, if it is one
+abbrev error_or : {T : Type 0} → Refusal → Result T Refusal → Refusal
+error_or d (Ok x) = d
+error_or d (Err e) = e
+
+-- a refusal for the opening's numbers is that of another answer with it
+same_refused : (T U : Type 0) (o : Option Refusal) (e : Refusal) (r : Result T Refusal)
+    (s : Result U Refusal) → r ≡ Err e → s ≡ Err e → IfSome o (λ x. r ≡ Err x)
+    → IfSome o (λ x. s ≡ Err x)
+same_refused T U None e r s one two is = tt
+same_refused T U (Some x) e r s one two is = two ∙ ap Err (ap (error_or e) (sym one ∙ is))
+
+-- where a slot was answered, the numbers fit
+no_refused : {T U : Type 0} (o : Option Refusal) (x : T) (r : Result U Refusal)
+    → IfSome o (λ e. Ok x ≡ Err e) → IfSome o (λ e. r ≡ Err e)
+no_refused None x r is = tt
+no_refused (Some e) x r is = absurd (cc)
+
+-- what holds anyway holds where there is none
+if_none : {T P : Type 0} (o : Option T) → P → IfNone o P
+if_none None p = p
+if_none (Some x) p = tt
+
+module _ {T U : Type 0} (f : T → ℕ) (g : U → ℕ) (slots : ServerSlots) (limit port backlog : ℕ)
+  where
+    -- one that is refused before it takes memory is refused
+    pub answer_refused : (e : Refusal) → IsOpeningAnswer f slots limit port backlog (Err e)
+        → IsOpeningAnswer g slots limit port backlog (Err e)
+    answer_refused e a =
+        record {
+          table = a.table;
+          free = tt;
+          lowest = tt;
+          refused = same_refused T U (size_refusal port backlog) e (Err e) (Err e) refl refl a.refused;
+          others = a.others;
+        }
+
+    -- one that gets a slot is refused for want of memory alone
+    pub answer_memory : (x : T) (e : Refusal) → e ≡ NoMemory
+        → IsOpeningAnswer f slots limit port backlog (Ok x)
+        → IsOpeningAnswer g slots limit port backlog (Err e)
+    answer_memory x e is a =
+        record {
+          table = (tt, is ∙ ap (λ (o : Option Refusal). unwrap_or o NoMemory) (sym a.table.0));
+          free = tt;
+          lowest = tt;
+          refused = no_refused (size_refusal port backlog) x (Err e) a.refused;
+          others = if_none (size_refusal port backlog) (inr (inr is));
+        }
+
+    -- or it gets that slot
+    pub answer_given : (x : T) (y : U) → g y ≡ f x
+        → IsOpeningAnswer f slots limit port backlog (Ok x)
+        → IsOpeningAnswer g slots limit port backlog (Ok y)
+    answer_given x y is a =
+        record {
+          table = a.table;
+          free = rw is a.free;
+          lowest = rw is a.lowest;
+          refused = no_refused (size_refusal port backlog) x (Ok y) a.refused;
+          others = if_none (size_refusal port backlog) tt;
+        }
+
+-- ---- the slots over which an opening under the lock was answered
+
+-- Its seat noted the moment of the keeper of these slots.
+pub opened_over : (board : BoardName) (start : State) (old at new : LockHold) (v : State)
+    (s t : SeatToken Identity) (limit port backlog : ℕ) (result : Result Opened Refusal)
+    → IsState board start at.slots v → at ≡ new → SameButKnown old.slots new.slots
+    → t ≡ record s {
+      book = old.slots.keeper.book;
+      moments = s.moments ++ moment_of new.slots.keeper ∷ [];
+    }
+    → limit ≡ v.limit
+    → IsOpeningAnswer (λ (o : Opened). o.slot) at.slots limit port backlog result
+    → IfOk result (λ o. o.reading.port.floor.book.value ≡ at.slots.keeper)
+    → (under : ServerSlots) × SameButKnown old.slots under
+    × IsOpenedOver under start s t port backlog result
+opened_over board start old at new v s t limit port backlog result is there same seat most answered
+    keeper =
+    let under = at.slots in
+    let kept : SameButKnown old.slots under =
+    subst (λ (h : LockHold). SameButKnown old.slots h.slots) (sym there) same in
+    let keeps : under.keeper.book ≡ t.book =
+    kept.book ∙ sym (ap (λ (x : SeatToken Identity). x.book) seat) in (
+      under,
+      kept,
+      record {
+        keeps = keeps;
+        stands = subst (AreConsistent under) keeps is.6;
+        noted = record {
+          moments = ap (λ (x : SeatToken Identity). x.moments) seat
+              ∙ (λ k. s.moments ++ moment_of ((sym there k).slots.keeper) ∷ []);
+          counted = is.7;
+        };
+        openings = omega (arith, is.4, is.5);
+        answered = subst
+            (λ (n : ℕ). IsOpeningAnswer (λ (o : Opened). o.slot) under n port backlog result)
+            (most ∙ is.4) answered;
+        keeper = keeper;
+      },
+    )

@@ -1,9 +1,9 @@
 -- What a reader does under the lock.
-use Rattle.std.proofs.Common.{◌≡◌, ℕ, zero, suc, ◌<◌, ◌≤◌, Bool, true, false, List, [], ◌∷◌, length, Option, Some, refl, sym, ap, ◌∙◌, arith, get_or-set_same, slice_set, set-set}
+use Rattle.std.proofs.Common.{◌≡◌, ℕ, zero, suc, ◌<◌, ◌≤◌, Bool, true, false, List, [], length, Option, Some, refl, sym, ap, ◌∙◌, arith, get_or-set_same, slice_set, set-set}
 use Rattle.std.specs.Prelude.{IsSome, IsSomeAnd}
 use Rattle.std.proofs.lemmas.List.{set-get_or}
 use Rattle.lq_volume.specs.declared.change.Change.{Change}
-use Rattle.lq_volume.specs.Book.{Book, Extends, grown}
+use Rattle.lq_volume.specs.Book.{Book}
 use Rattle.lq_board.specs.Known.{KnownSlot}
 use Rattle.lq_board.specs.Slot.{slot_at, unused, gone_out, go_out, come_back}
 use Rattle.lq_board.specs.Token.{KeeperToken, SeatToken}
@@ -21,18 +21,8 @@ use Rattle.lq_server_slots.specs.Reading.{ReadingHold}
 use Rattle.lq_server_slots.specs.Standing.{IsConsistentAt, IsDrained, IsSeen, CannotPut, SameButHeld, SideBySide, told_by}
 use Rattle.lq_server_slots.specs.Slots.{IsTakenSlot, SlotStands, IsSlotMet, KeepsBook, asks_of, OnlyAt}
 use Rattle.lq_server_slots.specs.Opening.{IdentityFits, asks_after, name_or}
-use Rattle.lq_server_slots.proofs.Books.{extends_self}
 use Rattle.lq_server_slots.proofs.EndLemmas.{told_now}
 use Rattle.lq_server_slots.proofs.SlotLemmas.{only_set, stuck_filled}
-
--- a book that grew by a change extends what is known of it
-pub later_grown : (was now mid : Book) (change : Change) → was ≡ mid
-    → now ≡ grown mid (change ∷ []) → Extends now was
-later_grown was now mid change met is = (change ∷ [], rw met is)
-
--- a book that stayed extends what is known of it
-pub later_same : (was now mid : Book) → was ≡ mid → now ≡ mid → Extends now was
-later_same was now mid met is = rw (is, met) (extends_self mid)
 
 -- the name that is there
 some_name : (o : Option Identity) → IsSome o → Some (name_or o) ≡ o
@@ -176,8 +166,3 @@ slots_added change n old new s t added lt least =
     ap (λ (k : KeeperToken Identity). k.slots) added.keeper
     ∙ back_out old.slots s.slot s.asks s.name lt (λ pos. (added.was_out pos).name)
     (λ pos. (added.was_out pos).asks) (λ pos. (added.was_out pos).out) least
-
--- a seat that knows the book stays as it is
-pub seat_stays : (s : SeatToken Identity) (b : Book) → s.book ≡ b
-    → s ≡ record s { book = b; author = s.author }
-seat_stays s b e = λ i. record s { book = e i; author = s.author }

@@ -133,22 +133,22 @@ full-each (o ∷ slots) wide h =
 
 -- the slots below the lowest outside the set of the taken ones are taken
 pub lowest-taken : (word : ℕ) (slots : List (Option Subscription)) (o : Option SlotIndex)
-    → MarksTaken word slots → IfSome o (λ s. (i : ℕ) → i < s.place → has word i ≡ true)
-    → IfSome o (λ s. (k : ℕ) → 0 < k → k < s.place + 1 → IsSome (slot_in slots k))
+    → MarksTaken word slots → IfSome o (λ s. (i : ℕ) → i < s.index → has word i ≡ true)
+    → IfSome o (λ s. (k : ℕ) → 0 < k → k < s.index + 1 → IsSome (slot_in slots k))
 lowest-taken word slots None marks below = tt
 lowest-taken word slots (Some s) marks below =
-    inside_taken word slots s.place marks (let lt = s.within in omega arith) below
+    inside_taken word slots s.index marks (let lt = s.within in omega arith) below
 
 -- there is one just if a slot is free
 pub lowest-full : (word : ℕ) (slots : List (Option Subscription)) (o : Option SlotIndex)
-    → MarksTaken word slots → length slots ≡ 65 → IfSome o (λ s. has word s.place ≡ false)
+    → MarksTaken word slots → length slots ≡ 65 → IfSome o (λ s. has word s.index ≡ false)
     → IfNone o ((i : ℕ) → i < 64 → has word i ≡ true) → is_none o ≡ has_no_free slots
 lowest-full word slots None marks wide free full =
     full-each slots wide (inside_taken word slots 64 marks (omega arith) full)
 lowest-full word slots (Some s) marks wide free full =
     let lt = s.within in
-    full-none slots (s.place + 1) wide (omega arith) (omega arith)
-    (outside_free word slots s.place marks lt free)
+    full-none slots (s.index + 1) wide (omega arith) (omega arith)
+    (outside_free word slots s.index marks lt free)
 
 -- how often the slots' seats have asked, as the keeper knows, where one slot's count rises
 pub asks_rise : (first old new : List (KnownSlot Identity)) (place : ℕ) → OnlyAt old new place

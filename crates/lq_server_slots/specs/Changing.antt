@@ -16,8 +16,8 @@ use Rattle.lq_server_slots.specs.declared.slots.ServerSlots.{ServerSlots}
 use Rattle.lq_server_slots.specs.Slots.{AllReady, IsNoticed, SlotsAre, KeepsSlots}
 
 -- A change was made, or refused. The volume was v and is w, the book b and d, the author's seat s
--- and t. Refused, the book and the seat's own changes stay. Made, it is the last of the book, under
--- the number that is answered, which is among the seat's own. Either way the seat knows the book.
+-- and t. Refused, the book and the seat stay. Made, it is the last of the book, under the number
+-- that is answered, which is among the seat's own; the seat then knows the book.
 pub record IsChangeMade (change : Change) (result : Result Applied Refusal) (v w : State)
     (b d : Book) (s t : SeatToken Identity) : Type 0 where
   pub refused : IsRefusedBy result (refused v change)
@@ -27,10 +27,10 @@ pub record IsChangeMade (change : Change) (result : Result Applied Refusal) (v w
   pub err : OnErr result (d ≡ b)
   pub start : d.start ≡ b.start
   pub limit : w.limit ≡ v.limit
-  pub seat : t ≡ record s { book = d; author = t.author }
+  pub seat : OnOk result (t ≡ record s { book = d; author = t.author })
   pub author : IfOk result (λ applied. t.author ≡ with_change s.author applied.change)
-  pub others : OnErr result (t.author ≡ s.author)
-  pub later : Extends t.book s.book
+  pub later : OnOk result (Extends b s.book)
+  pub stays : OnErr result (t ≡ s)
 
 -- A change of a volume was checked, and its messages were prepared in all slots, or it was refused.
 -- First each subscription ended whose reader had asked for that. The book stays, and so does what

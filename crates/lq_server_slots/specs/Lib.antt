@@ -1,5 +1,5 @@
 -- One subscription: begin with Rule, then LegalList, Standing and Reading. All slots: Slots, then
--- Changing.
+-- Changing. The state under the lock: Hold, then Applied, Noted and Closing.
 pub mod Names
 pub mod Updates
 pub mod Rule
@@ -15,4 +15,9 @@ pub mod Progress
 pub mod Changing
 pub mod Closing
 pub mod Shown
+pub mod Hold
+pub mod Own
+pub mod Leading
+pub mod Applied
+pub mod Noted
 pub use Rattle.lq_desk_world.specs.Events

@@ -107,15 +107,16 @@ IsOpeningTabled slots limit port backlog result =
 abbrev pub IsOpeningRefused : Refusal → Type 0
 IsOpeningRefused e = (e ≡ NoSlot) ⊎ (e ≡ Exhausted) ⊎ (e ≡ NoMemory)
 
--- Over these slots and with this limit on the openings, an opening is answered so.
-pub record IsOpeningAnswer (slots : ServerSlots) (limit port backlog : ℕ)
-    (result : Result Opened Refusal) : Type 0 where
+-- Over these slots and with this limit on the openings, an opening is answered so: with what has
+-- this slot, or with a refusal.
+pub record IsOpeningAnswer {T : Type 0} (slot_of : T → ℕ) (slots : ServerSlots)
+    (limit port backlog : ℕ) (result : Result T Refusal) : Type 0 where
   -- the first refusal that fits, and no other
   pub table : IsOpeningTabled slots limit port backlog result
   -- the slot was free, and each lower one is taken
-  pub free : IfOk result (λ o. slot_in slots.subscriptions.items o.slot ≡ None)
+  pub free : IfOk result (λ o. slot_in slots.subscriptions.items (slot_of o) ≡ None)
   pub lowest : IfOk result (λ o.
-      (j : ℕ) → 0 < j → j < o.slot → IsSome (slot_in slots.subscriptions.items j))
+      (j : ℕ) → 0 < j → j < slot_of o → IsSome (slot_in slots.subscriptions.items j))
   -- the numbers are checked first, by their bounds alone
   pub refused : IfSome (size_refusal port backlog) (λ e. result ≡ Err e)
   pub others : IfNone (size_refusal port backlog) (IfErr result IsOpeningRefused)

@@ -1,67 +1,72 @@
-//! A change under the lock.
-ghost use Rattle.std.specs.Prelude.{◌≡◌, ◌<◌, ◌≤◌, true, None, OnOk};
-ghost use Rattle.lq_volume.specs.Book.{state_of};
+//! A change under the lock: first everything that takes memory, then the change, then its messages.
+ghost use Rattle.std.specs.Prelude.{◌≡◌, ◌+◌, ◌<◌, ◌≤◌, [], ◌∷◌, length, true, None, IfOk, OnOk, OnErr};
+ghost use Rattle.lq_volume.specs.Book.{grown, state_of};
 ghost use Rattle.lq_volume.specs.Change.{refused};
 ghost use Rattle.lq_board.specs.Book.{IsFullBook};
 ghost use Rattle.lq_board.specs.Slot.{slot_at};
+ghost use Rattle.lq_server_slots.specs.Applied.{IsApplied};
 ghost use Rattle.lq_server_slots.specs.Changing.{IsChangeMade, IsPrepared};
 ghost use Rattle.lq_server_slots.specs.Slots.{AreConsistent, IsConsistentWith, AllReady, IsNoticed, IsServed, SlotsAre, KeepsCounts};
 
 use crate::identity::Identity;
 use crate::prepare_commit::{commit_all, ready_all};
+use crate::server_base::Named;
+use crate::server_state::ServerState;
 use crate::slots::{ServerSlots, serve_all};
 use lq_board::{Board, Seat};
 use lq_value::Refusal;
 use lq_volume::{Applied, Change, Volume};
 use std::sync::Wait;
 
-/// Ends the subscriptions whose readers asked for that, makes a change, and fills the ports.
-///
-/// Afterwards each subscription has its mark if the keeper knows that its reader asked. Its
-/// messages and mark were put until none was left or its port was full. Both hold even where the
-/// change was refused.
-///
-/// The seat is the change's author, and then knows the book. It has to be one that may make
-/// changes. Before, it has to know the book, and the keeper how often the seat of a slot has asked,
-/// as they do after `meet_in`.
-///
-/// A refused change walks over the taken slots once, or twice where memory ran out. An accepted one
-/// walks over them twice.
-pub fn change_in<R: Wait>(
-    rt: &R,
-    board: &Board<Identity>,
-    slots: &mut ServerSlots,
-    volume: &mut Volume,
-    seat: &mut Seat<Identity>,
-    change: &Change,
-) -> Result<Applied, Refusal>
-    requires board { (slots.old.keeper.board ≡ board.now) × (seat.old.board ≡ board.now) }
-    requires signs { seat.old.author.signs ≡ true }
-    requires met { seat.old.book ≡ slots.old.keeper.book }
-    requires known { 0 < seat.old.slot
-        → seat.old.asks ≤ (slot_at slots.old.keeper.slots seat.old.slot).asks }
-    requires stands { IsConsistentWith slots.old volume.old }
-    ensures made { IsChangeMade change.now result volume.old volume.new
-        slots.old.keeper.book slots.new.keeper.book seat.old seat.new }
-    ensures counts { KeepsCounts slots.old slots.new }
-    ensures stands { IsConsistentWith slots.new volume.new }
-    ensures served { SlotsAre IsServed slots.new.subscriptions.items slots.new.keeper.slots }
-{
-    match add(board, slots, volume, seat, change) {
-        Ok(applied) => {
-            commit_all(rt, slots, change);
-            Ok(applied)
-        }
-        Err(refusal) => {
-            serve_all(rt, board, slots, volume.changes());
-            Err(refusal)
+impl<N: Named> ServerState<N> {
+    /// Makes a change and notifies the subscriptions. The seat is its author, and then knows the
+    /// book.
+    ///
+    /// First the subscriptions whose readers hung up end, as the keeper then knows. Messages and
+    /// marks are put until none is left or the port is full. Refused as the volume refuses the
+    /// change, or `NoMemory`; the book is then as it was, but the ports are filled.
+    ///
+    /// A refused change walks over the taken slots once, or twice where memory ran out. An accepted
+    /// one walks over them twice.
+    pub fn apply<R: Wait>(
+        &mut self,
+        rt: &R,
+        board: &Board<Identity>,
+        seat: &mut Seat<Identity>,
+        change: &Change,
+    ) -> Result<Applied, Refusal>
+        requires board { (board.now ≡ N.board) × (seat.old.board ≡ N.board) }
+        requires signs { seat.old.author.signs ≡ true }
+        ensures applied { IsApplied change.now self.new.slots.keeper.book seat.old seat.new result }
+        ensures grown { OnOk result
+            (self.new.slots.keeper.book ≡ grown self.old.slots.keeper.book (change.now ∷ [])) }
+        ensures same { OnErr result (self.new.slots.keeper.book ≡ self.old.slots.keeper.book) }
+        ensures openings { self.new.slots.openings ≡ self.old.slots.openings }
+        ensures seats { self.new.seats ≡ self.old.seats }
+        ensures served { SlotsAre IsServed self.new.slots.subscriptions.items
+            self.new.slots.keeper.slots }
+        ensures number { IfOk result (λ a.
+            a.change ≡ length self.old.slots.keeper.book.changes + 1) }
+    {
+        // The keeper of a slot's seat first learns how often it has asked. Another seat meets the
+        // keeper with its change, or once it is refused.
+        self.meet_slot(board, seat);
+        match add(board, &mut self.slots, &mut self.volume, seat, change) {
+            Ok(applied) => {
+                commit_all(rt, &mut self.slots, change);
+                Ok(applied)
+            }
+            Err(refusal) => {
+                self.meet(board, seat);
+                serve_all(rt, board, &mut self.slots, self.volume.changes());
+                Err(refusal)
+            }
         }
     }
 }
 
 // Makes a change: first everything that takes memory, then the point of the change. No message is
 // held yet.
-#[tactic(auto, using(crate::proofs::SyncLemmas::seat_stays))]
 fn add(
     board: &Board<Identity>,
     slots: &mut ServerSlots,
@@ -71,7 +76,6 @@ fn add(
 ) -> Result<Applied, Refusal>
     requires board { (slots.old.keeper.board ≡ board.now) × (seat.old.board ≡ board.now) }
     requires signs { seat.old.author.signs ≡ true }
-    requires met { seat.old.book ≡ slots.old.keeper.book }
     requires known { 0 < seat.old.slot
         → seat.old.asks ≤ (slot_at slots.old.keeper.slots seat.old.slot).asks }
     requires stands { IsConsistentWith slots.old volume.old }

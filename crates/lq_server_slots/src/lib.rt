@@ -1,5 +1,6 @@
-//! The 64 slots of subscriptions under the server's lock, each with its port, and the keeper of the
-//! board beside them.
+//! What is under the server's lock: the volume, the keeper of the board, and the 64 slots of
+//! subscriptions, each with its port. A call of the server is its lock and one method of
+//! `ServerState`.
 //!
 //! Each parcel carries the keeper's book, for contracts alone (`ghost_copy`); `specs/Rule` says
 //! which parcel may follow. A subscription under the lock stands over a book (`IsConsistentAt` of
@@ -7,7 +8,7 @@
 //! `ServerSlots` by its fields: `AreConsistent` (`specs/Slots`) says how far each taken slot has
 //! followed a book, and that the set of the taken slots is right. Puts and takes may wait for a
 //! step of a port's other end. Begin with `delivery`, `subscription`, `fill_port` and `reading`,
-//! then `slots` and `change`.
+//! then `slots`, `server_state` and `change`.
 #![tactic(auto)]
 
 mod change;
@@ -20,19 +21,21 @@ mod laws;
 mod open;
 mod prepare_commit;
 mod reading;
+mod server_base;
+mod server_state;
 mod slots;
 mod subscription;
 mod sync;
 mod take_parcel;
 
-pub use change::change_in;
-pub use close::{close_in, free_in};
 pub use delivery::Delivery;
 pub use identity::{Identity, Told};
 pub use laws::{
     acts_show_worlds, books_extend_on, books_extend_themselves, slots_show_worlds, states_stay,
 };
-pub use open::{OpenRequest, Opened, open_in};
+pub use open::Opened;
 pub use reading::Reading;
+pub use server_base::{Base, Named, Seat};
+pub use server_state::{Found, ServerState};
 pub use slots::ServerSlots;
-pub use sync::{Progress, meet_in, sync_in};
+pub use sync::Progress;

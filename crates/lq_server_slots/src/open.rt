@@ -1,13 +1,16 @@
-//! An opening under the lock.
+//! An opening under the lock: the lowest free slot gets a subscription, and its seat goes out.
 ghost use Rattle.std.specs.Prelude.{◌≡◌, ◌+◌, ◌<◌, ◌≤◌, ℕ, IfOk, OnOk, OnErr, IfSome, IsSome, is_none, Some, None, false};
 ghost use Rattle.lq_value.specs.Refusal.{FailsOnlyForMemory};
-ghost use Rattle.lq_volume.specs.Book.{state_of};
+ghost use Rattle.lq_volume.specs.Book.{Extends, state_of};
 ghost use Rattle.lq_board.specs.Book.{IsFullBook};
 ghost use Rattle.lq_board.specs.Meeting.{GoesOut};
 ghost use Rattle.lq_board.specs.Slot.{slot_at};
 ghost use Rattle.lq_server_slots.specs.Identity.{identity_of};
 ghost use Rattle.lq_server_slots.specs.declared.identity.Identity.{Identity as IdentityOf};
-ghost use Rattle.lq_server_slots.specs.Slots.{AreConsistent, IsConsistentWith, has_no_free, slot_in};
+ghost use Rattle.lq_server_slots.specs.Noted.{IsOpenedOver};
+ghost use Rattle.lq_server_slots.specs.Slots.{AreConsistent, SameButKnown, has_no_free, slot_in};
+ghost use Rattle.lq_desk_sub.specs.declared.slot_index.SlotIndex.{SlotIndex as IndexOf};
+ghost use Rattle.lq_server_slots.specs.declared.slots.ServerSlots.{ServerSlots as SlotsOf};
 ghost use Rattle.lq_server_slots.specs.Opening.{IsNewSubscription, IsOpened, IsOpeningAnswer};
 
 use crate::delivery::{Delivery, Opening};
@@ -15,13 +18,15 @@ use crate::ghost_copy::GhostCopy;
 use crate::identity::{FirstClose, Identity, Told};
 use crate::laws::new_subscriptions_stand;
 use crate::reading::Reading;
+use crate::server_base::Named;
+use crate::server_state::ServerState;
 use crate::slots::ServerSlots;
 use crate::subscription::Subscription;
 use lq_board::{Board, Keeper, Seat};
 use lq_desk_sub::{MAX_BACKLOG, SlotIndex, Sub};
 use lq_port::{MAX_PLACES, make};
 use lq_predicate::Predicate;
-use lq_update::{Rebuild, results_rise};
+use lq_update::{OpenOptions, Rebuild, results_rise};
 use lq_value::Refusal;
 use lq_volume::Volume;
 use std::alloc::Global;
@@ -38,21 +43,12 @@ pub struct Opened {
 fn lowest_free(slots: &ServerSlots) -> Option<SlotIndex>
     requires { AreConsistent slots.now slots.now.keeper.book }
     ensures free { IfSome result (λ index.
-        slot_in slots.now.subscriptions.items (index.place + 1) ≡ None) }
-    ensures lowest { IfSome result (λ index. (j : ℕ) → 0 < j → j < index.place + 1
+        slot_in slots.now.subscriptions.items (index.index + 1) ≡ None) }
+    ensures lowest { IfSome result (λ index. (j : ℕ) → 0 < j → j < index.index + 1
         → IsSome (slot_in slots.now.subscriptions.items j)) }
     ensures full { is_none result ≡ has_no_free slots.now.subscriptions.items }
 {
     slots.taken.lowest_outside()
-}
-
-/// The arguments of an opening.
-#[derive(Clone, Copy)]
-pub struct OpenRequest<'a> {
-    pub predicate: &'a Predicate,
-    pub port: u64,
-    pub backlog: u64,
-    pub moved: bool,
 }
 
 // A subscription over the keeper's book, and its reading end.
@@ -60,33 +56,34 @@ fn begin(
     alloc: Global,
     keeper: &Keeper<Identity>,
     volume: &Volume,
-    request: &OpenRequest,
+    predicate: &Predicate,
+    options: &OpenOptions,
 ) -> Result<(Subscription, Reading), Refusal>
     requires volume { volume.now ≡ state_of keeper.now.book }
     requires full { IsFullBook keeper.now.book }
-    requires port { (0 < request.now.port) × (request.now.port ≤ 1024) }
+    requires port { (0 < options.now.port) × (options.now.port ≤ 1024) }
     ensures refused { FailsOnlyForMemory result }
     ensures begun { IfOk result (λ r. IsNewSubscription r.0 r.1 keeper.now.book
-        request.now.predicate.now request.now.moved request.now.port request.now.backlog) }
+        predicate.now options.now.moved options.now.port options.now.backlog) }
     ensures keeper { IfOk result (λ r. r.1.port.floor.book.value ≡ keeper.now) }
 {
     // For the proof: a result's nodes rise, and a new subscription stands over the book.
     results_rise();
     new_subscriptions_stand();
     let at = volume.changes();
-    let entries = volume.fetch(request.predicate)?;
-    let sub = Sub::new(alloc, request.predicate, at, request.backlog, request.moved)?;
+    let entries = volume.fetch(predicate)?;
+    let sub = Sub::new(alloc, predicate, at, options.backlog, options.moved)?;
     let opening_at = Opening {
-        query: GhostCopy::of(request.predicate),
-        moved: request.moved,
+        query: GhostCopy::of(predicate),
+        moved: options.moved,
         opened: at,
         book: GhostCopy::of(keeper),
     };
-    let (input, output) = make::<Delivery>(alloc, request.port, &opening_at)?;
+    let (input, output) = make::<Delivery>(alloc, options.port, &opening_at)?;
     let slot = Subscription {
         sub,
         input,
-        places: request.port,
+        places: options.port,
         asks: 0,
         told: GhostCopy::of(&Told::Live {
             change: at,
@@ -126,7 +123,7 @@ fn settle(
     reading: Reading,
 ) -> Opened
     requires board { slots.old.keeper.board ≡ board.now }
-    requires free { slot_in slots.old.subscriptions.items (index.place + 1) ≡ None }
+    requires free { slot_in slots.old.subscriptions.items (index.index + 1) ≡ None }
     requires room { slots.old.openings < 1000000000000 }
     requires begun { IsNewSubscription slot reading slots.old.keeper.book slot.sub.held.query
         slot.sub.held.moved slot.places slot.sub.held.backlog }
@@ -137,13 +134,13 @@ fn settle(
     ensures book { slots.new.keeper.book ≡ slots.old.keeper.book }
     ensures openings { slots.new.openings ≡ slots.old.openings + 1 }
     ensures holding { AreConsistent slots.new slots.new.keeper.book }
-    ensures slot { result.slot ≡ index.place + 1 }
+    ensures slot { result.slot ≡ index.index + 1 }
     ensures reading { result.reading ≡ reading }
     ensures opened { IsOpened result slots.old.keeper.board slots.old.keeper.book
         slot.sub.held.query slot.sub.held.moved slot.places slot.sub.held.backlog }
 {
     slots.taken.put(index, true);
-    let place = index.place() + 1;
+    let place = index.index() + 1;
     let asks = board.asks(&mut slots.keeper, place as u64);
     slot.asks = asks;
     let seat = sit(board, &mut slots.keeper, &slot, place as u64);
@@ -156,51 +153,70 @@ fn settle(
     }
 }
 
-/// Opens a live query in the lowest free slot.
-///
-/// Refused, the first that fits: `BadPort`, `BadBacklog`, `NoSlot` where no slot is free,
-/// `Exhausted` where the openings have reached the volume's limit on changes, `NoMemory`. A refused
-/// opening changes nothing, and isn't counted as an opening.
-pub fn open_in(
-    alloc: Global,
-    board: &Board<Identity>,
-    slots: &mut ServerSlots,
-    volume: &Volume,
-    request: &OpenRequest,
-) -> Result<Opened, Refusal>
-    requires board { slots.old.keeper.board ≡ board.now }
-    requires stands { IsConsistentWith slots.old volume.now }
-    requires limit { slots.old.openings ≤ volume.now.limit }
-    ensures board { slots.new.keeper.board ≡ slots.old.keeper.board }
-    ensures counted { OnOk result (slots.new.keeper.register.openings
-        ≡ slots.old.keeper.register.openings + 1) }
-    ensures book { slots.new.keeper.book ≡ slots.old.keeper.book }
-    ensures limit { slots.new.openings ≤ volume.now.limit }
-    ensures openings { OnOk result (slots.new.openings ≡ slots.old.openings + 1) }
-    ensures err { OnErr result (slots.new ≡ slots.old) }
-    ensures holding { AreConsistent slots.new slots.new.keeper.book }
-    ensures opened { IfOk result (λ o. IsOpened o slots.old.keeper.board slots.old.keeper.book
-        request.now.predicate.now request.now.moved request.now.port request.now.backlog) }
-
-    // The reader's floor has the keeper that gave the slot.
-    ensures keeper { IfOk result (λ o. o.reading.port.floor.book.value ≡ slots.old.keeper) }
-
-    // The first refusal that fits and no other, or the lowest free slot.
-    ensures answered { IsOpeningAnswer slots.old volume.now.limit request.now.port
-        request.now.backlog result }
+// The slot that an opening takes, the lowest that is free, or why it is refused before it takes
+// memory: by its numbers, since no slot is free, or since `limit` openings were made.
+fn slot_for(slots: &ServerSlots, limit: u64, options: &OpenOptions) -> Result<SlotIndex, Refusal>
+    requires { AreConsistent slots.now slots.now.keeper.book }
+    ensures answered { IsOpeningAnswer (λ (index : IndexOf). index.index + 1) slots.now limit
+        options.now.port options.now.backlog result }
+    ensures port { OnOk result ((0 < options.now.port) × (options.now.port ≤ 1024)) }
+    ensures left { OnOk result (slots.now.openings < limit) }
 {
-    if request.port == 0 || request.port > MAX_PLACES {
+    if options.port == 0 || options.port > MAX_PLACES {
         return Err(Refusal::BadPort);
     }
-    if request.backlog > MAX_BACKLOG {
+    if options.backlog > MAX_BACKLOG {
         return Err(Refusal::BadBacklog);
     }
     let Some(index) = lowest_free(slots) else {
         return Err(Refusal::NoSlot);
     };
-    if volume.limit() <= slots.openings {
+    if limit <= slots.openings {
         return Err(Refusal::Exhausted);
     }
-    let (slot, reading) = begin(alloc, &slots.keeper, volume, request)?;
-    Ok(settle(board, slots, index, slot, reading))
+    Ok(index)
+}
+
+impl<N: Named> ServerState<N> {
+    /// Opens a live query in the lowest free slot, over the book that the seat then knows. The seat
+    /// notes the moment of the keeper.
+    ///
+    /// The port has `options.port` places, 1 to 1,024. At most `options.backlog` messages are held
+    /// before it, up to 65,536. `options.moved` asks for moved entries too. Refused, the first that
+    /// fits: `BadPort`, `BadBacklog`, `NoSlot` where 64 are open, `Exhausted` where the openings
+    /// have reached the volume's limit on changes, `NoMemory`. A refused opening changes no slot
+    /// and isn't counted.
+    pub fn open(
+        &mut self,
+        board: &Board<Identity>,
+        seat: &mut Seat<Identity>,
+        predicate: &Predicate,
+        options: &OpenOptions,
+    ) -> Result<Opened, Refusal>
+        requires { (board.now ≡ N.board) × (seat.old.board ≡ N.board) }
+        ensures book { self.new.slots.keeper.book ≡ self.old.slots.keeper.book }
+        ensures seat { seat.new ≡ record seat.old {
+          book = self.old.slots.keeper.book;
+          moments = seat.new.moments;
+        } }
+        ensures seats { self.new.seats ≡ self.old.seats }
+        ensures later { Extends seat.new.book seat.old.book }
+        ensures opened { IfOk result (λ o.
+            IsOpened o N.board seat.new.book predicate.now options.now.moved
+            options.now.port options.now.backlog) }
+        ensures counted { OnOk result (self.new.slots.openings ≡ self.old.slots.openings + 1) }
+        ensures err { OnErr result (SameButKnown self.old.slots self.new.slots) }
+
+        // The first refusal that fits and no other, or the lowest free slot, by the keeper whose
+        // moment the seat has noted.
+        ensures over { (under : SlotsOf) × SameButKnown self.old.slots under
+            × IsOpenedOver under N.start seat.old seat.new options.now.port options.now.backlog
+            result }
+    {
+        self.note(board, seat);
+        let index = slot_for(&self.slots, self.volume.limit(), options)?;
+        let keeper = &self.slots.keeper;
+        let (slot, reading) = begin(self.alloc, keeper, &self.volume, predicate, options)?;
+        Ok(settle(board, &mut self.slots, index, slot, reading))
+    }
 }

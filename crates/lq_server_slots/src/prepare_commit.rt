@@ -58,8 +58,8 @@ pub(crate) fn ready_all(
     ensures { IsPrepared planned.now.before planned.now.change result slots.old slots.new }
 {
     let mut rest = slots.taken;
-    while let Some(index) = rest.take_one() {
-        let place = index.place() + 1;
+    while let Some(index) = rest.pop_lowest() {
+        let place = index.index() + 1;
         let keeper = &mut slots.keeper;
         ready_at(
             board,
@@ -114,8 +114,8 @@ pub(crate) fn commit_all<R: Wait>(rt: &R, slots: &mut ServerSlots, change: &Chan
     ensures served { SlotsAre IsServed slots.new.subscriptions.items slots.new.keeper.slots }
 {
     let mut rest = slots.taken;
-    while let Some(index) = rest.take_one() {
-        let place = index.place() + 1;
+    while let Some(index) = rest.pop_lowest() {
+        let place = index.index() + 1;
         commit_at(
             rt,
             &slots.keeper,

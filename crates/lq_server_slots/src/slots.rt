@@ -42,7 +42,7 @@ impl ServerSlots {
         Ok(ServerSlots {
             keeper,
             subscriptions,
-            taken: SlotSet::empty(),
+            taken: SlotSet::new(),
             openings: 0,
         })
     }
@@ -129,8 +129,8 @@ pub(crate) fn serve_all<R: Wait>(
     ensures served { SlotsAre IsServed slots.new.subscriptions.items slots.new.keeper.slots }
 {
     let mut rest = slots.taken;
-    while let Some(index) = rest.take_one() {
-        let place = index.place() + 1;
+    while let Some(index) = rest.pop_lowest() {
+        let place = index.index() + 1;
         let keeper = &mut slots.keeper;
         serve_at(
             rt,

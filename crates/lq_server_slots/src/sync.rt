@@ -1,12 +1,11 @@
-//! A reader's calls under the lock.
+//! A reader's sync under the lock, and how a slot's seat meets the keeper.
 ghost use Rattle.std.specs.Prelude.{◌≡◌, ◌<◌, ◌≤◌, length, IsSome, IsSomeAnd, Some};
-ghost use Rattle.lq_volume.specs.Book.{Extends};
 ghost use Rattle.lq_board.specs.Slot.{slot_at};
 ghost use Rattle.lq_server_slots.specs.Identity.{identity_of};
 ghost use Rattle.lq_server_slots.specs.Standing.{told_by};
 ghost use Rattle.lq_server_slots.specs.declared.subscription.Subscription.{Subscription as SubscriptionOf};
 ghost use Rattle.lq_server_slots.specs.declared.identity.Identity.{Identity as IdentityOf};
-ghost use Rattle.lq_server_slots.specs.Slots.{SlotStands, AreConsistent, KeepsSlot, KeepsSlots, SameButKnown, IsSlotMet, asks_of};
+ghost use Rattle.lq_server_slots.specs.Slots.{SlotStands, KeepsSlot, IsSlotMet, asks_of};
 ghost use Rattle.lq_server_slots.specs.Opening.{IdentityFits};
 ghost use Rattle.lq_server_slots.specs.Progress.{ShowsProgress};
 
@@ -14,7 +13,9 @@ use crate::fill_port::drain;
 use crate::ghost_copy::GhostCopy;
 use crate::identity::{Identity, Told};
 use crate::reading::Reading;
-use crate::slots::{ServerSlots, notice_slot};
+use crate::server_base::Named;
+use crate::server_state::ServerState;
+use crate::slots::notice_slot;
 use crate::subscription::Subscription;
 use lq_board::{Board, Keeper, Seat};
 use lq_update::Mark;
@@ -120,47 +121,30 @@ fn sync_at<R: Wait>(
     }
 }
 
-/// The number of changes in the keeper's book, which the seat of a slot then knows.
-pub fn meet_in(board: &Board<Identity>, slots: &mut ServerSlots, seat: &mut Seat<Identity>) -> u64
-    requires board { (slots.old.keeper.board ≡ board.now) × (seat.old.board ≡ board.now) }
-    requires seat { (0 < seat.old.slot) × IsSome seat.old.name }
-    requires holding { AreConsistent slots.old slots.old.keeper.book }
-    ensures number { result ≡ length slots.old.keeper.book.changes }
-    ensures same { SameButKnown slots.old slots.new }
-    ensures holding { AreConsistent slots.new slots.new.keeper.book }
-    ensures seat { seat.new ≡ record seat.old { book = slots.old.keeper.book } }
-    ensures known { (slot_at slots.new.keeper.slots seat.old.slot).asks ≡ seat.old.asks }
-    ensures later { Extends slots.old.keeper.book seat.old.book }
-{
-    let place = seat.slot() as usize;
-    meet_slot_at(board, &mut slots.keeper, &slots.subscriptions[place], seat)
-}
-
-/// The progress of the seat's subscription. Its port is filled.
-pub fn sync_in<R: Wait>(
-    rt: &R,
-    board: &Board<Identity>,
-    slots: &mut ServerSlots,
-    seat: &mut Seat<Identity>,
-    reading: &mut Reading,
-) -> Progress
-    requires board { (slots.old.keeper.board ≡ board.now) × (seat.old.board ≡ board.now) }
-    requires seat { (0 < seat.old.slot)
-        × IsSomeAnd seat.old.name (λ t. IdentityFits t reading.old.port) }
-    requires holding { AreConsistent slots.old slots.old.keeper.book }
-    ensures keeps { KeepsSlots slots.old slots.new }
-    ensures seat { seat.new.book ≡ slots.old.keeper.book }
-    ensures progress { (s : SubscriptionOf)
-        × ShowsProgress s seat.old seat.new reading.old reading.new result }
-{
-    let place = seat.slot() as usize;
-    let keeper = &mut slots.keeper;
-    sync_at(
-        rt,
-        board,
-        keeper,
-        &mut slots.subscriptions[place],
-        seat,
-        reading,
-    )
+impl<N: Named> ServerState<N> {
+    /// The progress of a reader's subscription. Its port is filled, and the seat knows the book.
+    ///
+    /// First the subscription ends as hung up where its reader asked for that. It takes no memory.
+    pub fn sync<R: Wait>(
+        &mut self,
+        rt: &R,
+        board: &Board<Identity>,
+        seat: &mut Seat<Identity>,
+        reading: &mut Reading,
+    ) -> Progress
+        requires board { (board.now ≡ N.board) × (seat.old.board ≡ N.board) }
+        requires seat { (0 < seat.old.slot)
+            × IsSomeAnd seat.old.name (λ t. IdentityFits t reading.old.port) }
+        ensures same { self.new.slots.keeper.book ≡ self.old.slots.keeper.book }
+        ensures openings { self.new.slots.openings ≡ self.old.slots.openings }
+        ensures seats { self.new.seats ≡ self.old.seats }
+        ensures book { seat.new.book ≡ self.old.slots.keeper.book }
+        ensures progress { (s : SubscriptionOf)
+            × ShowsProgress s seat.old seat.new reading.old reading.new result }
+    {
+        let place = seat.slot() as usize;
+        let keeper = &mut self.slots.keeper;
+        let slot = &mut self.slots.subscriptions[place];
+        sync_at(rt, board, keeper, slot, seat, reading)
+    }
 }

@@ -1,21 +1,21 @@
 use Rattle.std.proofs.Common.{refl, arith, rules}
 use Rattle.std.proofs.lemmas.Grind.{common_steps}
 use Rattle.lq_server_slots.proofs.SlotLemmas.{all_stand-alike}
-use Rattle.lq_server_slots.proofs.SyncLemmas.{slots_added, later_grown, later_same, seat_stays}
+use Rattle.lq_server_slots.proofs.SyncLemmas.{slots_added}
 use Rattle.lq_server_slots.proofs.change.add.Goals as goal
 
 pub returns-clause-made : goal.returns-clause-made
-returns-clause-made c = search (rules, later_grown, seat_stays)
+returns-clause-made c = search rules
 
 pub returns-in_err-prepare-clause-made : goal.returns-in_err-prepare-clause-made
-returns-in_err-prepare-clause-made c = search (rules, later_same, seat_stays)
+returns-in_err-prepare-clause-made c = search rules
 
 pub returns-in_err-applied-clause-made : goal.returns-in_err-applied-clause-made
-returns-in_err-applied-clause-made c = search (rules, later_same, seat_stays)
+returns-in_err-applied-clause-made c = search rules
 
 pub returns-in_err-applied-clause-volume : goal.returns-in_err-applied-clause-volume
 returns-in_err-applied-clause-volume c =
-    first_of (search rules, grind (arith, common_steps), grind (arith, seat_stays))
+    first_of (search rules, grind (arith, common_steps))
 
 pub returns-in_err-applied-clause-holding : goal.returns-in_err-applied-clause-holding
 returns-in_err-applied-clause-holding c =

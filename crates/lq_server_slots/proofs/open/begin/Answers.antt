@@ -13,11 +13,11 @@ returns-clause-begun c =
     let entries = rw c.requires.volume at c.in_ok-entries.ensures.entries in
     let reading = c.new-reading.ensures in
     begun_new c.new_subscriptions_stand.ensures _ c.new-reading.result book
-    c.args.request.now.predicate.now c.args.request.now.moved c.args.request.now.port
-    c.args.request.now.backlog c.changes-at.result
+    c.args.predicate.now c.args.options.now.moved c.args.options.now.port
+    c.args.options.now.backlog c.changes-at.result
     (record {
       query = c.of.result;
-      moved = c.args.request.now.moved;
+      moved = c.args.options.now.moved;
       opened = c.changes-at.result;
       book = c.of-2.result;
     })

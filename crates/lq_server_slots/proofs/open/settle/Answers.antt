@@ -13,8 +13,8 @@ returns-clause-holding c =
     let was = c.args.slots.now in
     let h = c.requires.holding.0 in
     let index = c.args.index in
-    let value = c.place-place.ensures.value in
-    let place = c.place-place.result + 1 in
+    let value = c.index-place.ensures.value in
+    let place = c.index-place.result + 1 in
     let s : Subscription = record {
       sub = c.args.slot.sub;
       input = c.args.slot.input;
@@ -31,11 +31,11 @@ returns-clause-holding c =
           (was.openings + 1)) book
           (settled was.keeper c.asks-asks.new.keeper c.sit-seat.new.keeper was.subscriptions.items
           place was.openings c.asks-asks.result s was.keeper.book h (omega arith)
-          (omega (arith, c.place-place.ensures.within)) (rw value c.requires.free)
+          (omega (arith, c.index-place.ensures.within)) (rw value c.requires.free)
           (ap (λ (k : KeeperToken Identity). k.slots) keeper) c.asks-asks.ensures.idle
           (ap (λ (k : KeeperToken Identity). k.slots) seated) refl b.stands
           (begun_seen c.args.slot c.args.reading was.keeper.book _ _ _ _ b) b.messages b.live),
-      marks-put was.taken.word c.put.new.self.word was.subscriptions.items index.place place
+      marks-put was.taken.word c.put.new.self.word was.subscriptions.items index.index place
           (Some s) c.requires.holding.1 h.wide index.within (omega (arith, value))
           c.put.ensures.here c.put.ensures.others,
     )

@@ -13,12 +13,12 @@ loop-index-preserved g c =
     let items = was.subscriptions.items in
     let known = was.keeper.slots in
     let old = c.loop-index.rest.word in
-    let new = c.take_one.new.self.word in
+    let new = c.pop_lowest.new.self.word in
     let index = c.in-Some.index in
-    let k = c.place-place.result + 1 in
-    let is = ap (λ n. n + 1) (sym c.place-place.ensures.value) in
+    let k = c.index-place.result + 1 in
+    let is = ap (λ n. n + 1) (sym c.index-place.ensures.value) in
     let out = c.in-Some.ensures in
-    let within = c.place-place.ensures.within in
+    let within = c.index-place.ensures.within in
     let wide = i.partly.wide in
     let t = c.commit_at.ensures in
     let read = get_or_read items k _ (omega arith) c.index_mut.ensures.value None in
@@ -27,12 +27,12 @@ loop-index-preserved g c =
       openings = i.openings;
       marks = marks-kept was.taken.word items k c.commit_at.new.slot i.marks wide (omega arith)
           (rw read at t.kept);
-      partly = partly_committed-step was.keeper items old new index.place k was.openings
+      partly = partly_committed-step was.keeper items old new index.index k was.openings
           c.args.change.now c.commit_at.new.slot i.partly index.within is out t.fits
           (rw read at t.asks);
-      served = outside-more (SlotIs IsServed) items old new index.place k c.commit_at.new.slot is
+      served = outside-more (SlotIs IsServed) items old new index.index k c.commit_at.new.slot is
           out known known wide index.within (only_self known k) t.served i.served;
-      noticed = inside-still (SlotIs IsNoticed) items old new index.place k c.commit_at.new.slot is
+      noticed = inside-still (SlotIs IsNoticed) items old new index.index k c.commit_at.new.slot is
           out known i.noticed;
     }
 

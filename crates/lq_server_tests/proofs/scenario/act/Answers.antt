@@ -10,7 +10,7 @@ use denote.Param.{param}
 use denote.Param.Send.{IsSync, sendable, param_sync, arg_sync, shr_sync}
 use denote.Param.SendFields.{declared_sync}
 use Rattle.std.specs.contracts.alloc.Global as global
-use Rattle.lq_server.specs.declared.server_base.Named.{Ghosts}
+use Rattle.lq_server_slots.specs.declared.server_base.Named.{Ghosts}
 use Rattle.lq_server.specs.contracts.server.Server as server
 use Rattle.lq_server_tests.proofs.scenario.act.Goals as goal
 

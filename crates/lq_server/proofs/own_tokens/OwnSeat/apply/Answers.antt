@@ -11,7 +11,7 @@ pub returns-clause-made : goal.returns-clause-made
 returns-clause-made g c =
     let a = c.apply.ensures in
     subst (λ (s : SeatToken Identity).
-        IfOk c.apply.result (λ t. MakesMore s c.apply.new.seat (t ∷ []))) c.self.view_is
+    IfOk c.apply.result (λ t. MakesMore s c.apply.new.seat (t ∷ []))) c.self.view_is
     (made_by c.self.inside.seat c.apply.new.seat c.args.change.now c.apply.result a.author a.ok)
 
 pub returns-clause-err : goal.returns-clause-err

@@ -4,7 +4,7 @@ use mathlib.Core.List.{IsPrefix}
 use Rattle.lq_volume.specs.Book.{Book, Extends}
 use Rattle.lq_server_slots.specs.Rule.{all_updates}
 use Rattle.lq_server_slots.specs.Reading.{Gives, known, received, is_marked}
-use Rattle.lq_server.specs.Hold.{ReaderHold}
+use Rattle.lq_server_slots.specs.Hold.{ReaderHold}
 use Rattle.lq_server.specs.Syncing.{IsSynced, IsRead}
 use Rattle.lq_server.proofs.OwnLemmas.{hold, received_front}
 use Rattle.lq_server.proofs.reader.Reader.read_waiting.Goals as goal

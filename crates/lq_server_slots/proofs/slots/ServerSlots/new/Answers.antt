@@ -8,6 +8,6 @@ returns-clause-holding c =
     let f = c.in_ok-subscriptions.ensures in (
       all_stand-none c.args.keeper c.in_ok-subscriptions.subscriptions.items c.args.keeper.book
           c.requires.unused f.wide f.none,
-      marks-none c.empty.result.word c.in_ok-subscriptions.subscriptions.items c.empty.ensures
+      marks-none c.new.result.word c.in_ok-subscriptions.subscriptions.items c.new.ensures
           f.none,
     )

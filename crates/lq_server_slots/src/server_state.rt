@@ -1,4 +1,6 @@
-//! The state under the lock.
+//! What is under the server's lock: the volume, the keeper and the slots. The invariant of
+//! `ServerState` says that they agree. Each call is what a server does in one hold of its lock;
+//! those for a change and for subscriptions are in `change`, `open`, `sync` and `close`.
 ghost use Rattle.std.specs.Prelude.{◌≡◌, ◌+◌, ◌-◌, ◌<◌, ◌≤◌, [], ◌∷◌, ◌++◌, length, IfOk, IfErr, OnOk, OnErr};
 ghost use Rattle.lq_value.specs.declared.refusal.Refusal.TheVariants.{NoSeat};
 ghost use Rattle.lq_volume.specs.Book.{Extends, state_of};
@@ -6,14 +8,13 @@ ghost use Rattle.lq_board.specs.Book.{IsFullBook};
 ghost use Rattle.lq_board.specs.Slot.{slot_at};
 ghost use Rattle.lq_board.specs.Token.{moment_of};
 ghost use Rattle.lq_server_slots.specs.Slots.{SameButKnown, AreConsistent};
-ghost use Rattle.lq_server.specs.Own.{StaysOwn};
+ghost use Rattle.lq_server_slots.specs.Own.{StaysOwn};
 
-mod subscriptions;
-mod volume;
-
+use crate::identity::Identity;
 use crate::server_base::Named;
+use crate::slots::ServerSlots;
+use crate::sync::meet_slot_at;
 use lq_board::{Board, Keeper, Seat};
-use lq_server_slots::{Identity, ServerSlots, meet_in};
 use lq_value::{Entry, Refusal};
 use lq_volume::Volume;
 use std::alloc::Global;
@@ -34,10 +35,10 @@ pub struct Found {
 /// A contract sees the slots, with the keeper and its book, the subscriptions and the number of
 /// openings, and how many seats are out.
 pub struct ServerState<N: Named> {
-    slots: ServerSlots,
-    volume: Volume,
-    seats: u64,
-    alloc: Global,
+    pub(crate) slots: ServerSlots,
+    pub(crate) volume: Volume,
+    pub(crate) seats: u64,
+    pub(crate) alloc: Global,
     of: PhantomData<N>,
 }
 
@@ -61,7 +62,7 @@ impl<N: Named> Model for ServerState<N> {
     ghost use Rattle.lq_board.specs.Book.{IsFullBook};
     ghost use Rattle.lq_server_slots.specs.contracts.slots.ServerSlots as some_slots;
     ghost use Rattle.lq_server_slots.specs.Slots.{AreConsistent};
-    ghost use Rattle.lq_server.specs.Hold.{LockHold};
+    ghost use Rattle.lq_server_slots.specs.Hold.{LockHold};
 
     ghost Value = { LockHold };
 
@@ -104,6 +105,13 @@ impl<N: Named> ServerState<N> {
             alloc,
             of: PhantomData,
         }
+    }
+
+    /// The volume, which is the state after the keeper's book.
+    pub fn volume(&self) -> &Volume
+        ensures { result.now ≡ state_of self.now.slots.keeper.book }
+    {
+        &self.volume
     }
 
     /// A seat that knows the book and made no change. It may make changes where each seat may.
@@ -157,10 +165,27 @@ impl<N: Named> ServerState<N> {
         ensures number { result ≡ length self.old.slots.keeper.book.changes }
         ensures seats { self.new.seats ≡ self.old.seats }
     {
-        if seat.slot() == 0 {
-            return board.meet(&mut self.slots.keeper, seat);
+        let place = seat.slot() as usize;
+        let keeper = &mut self.slots.keeper;
+        if place == 0 {
+            return board.meet(keeper, seat);
         }
-        meet_in(board, &mut self.slots, seat)
+        meet_slot_at(board, keeper, &self.slots.subscriptions[place], seat)
+    }
+
+    /// As `meet` for the seat of a slot. Another stays as it is.
+    pub(crate) fn meet_slot(&mut self, board: &Board<Identity>, seat: &mut Seat<Identity>)
+        requires { (board.now ≡ N.board) × (seat.old.board ≡ N.board) }
+        ensures same { SameButKnown self.old.slots self.new.slots }
+        ensures seat { seat.new ≡ record seat.old { book = seat.new.book } }
+        ensures known { 0 < seat.old.slot
+            → seat.old.asks ≤ (slot_at self.new.slots.keeper.slots seat.old.slot).asks }
+        ensures later { Extends seat.new.book seat.old.book }
+        ensures seats { self.new.seats ≡ self.old.seats }
+    {
+        if seat.slot() > 0 {
+            self.meet(board, seat);
+        }
     }
 
     /// As `meet`, and the seat notes this moment of the keeper, for contracts alone.

@@ -4,7 +4,7 @@ use Rattle.lq_board.specs.Token.{SeatToken}
 use Rattle.lq_server_slots.specs.declared.identity.Identity.{Identity}
 use Rattle.lq_server_slots.specs.Reading.{ReadingHold}
 use Rattle.lq_server_slots.specs.Opening.{IdentityFits, asks_after}
-use Rattle.lq_server.specs.Hold.{ReaderHold}
+use Rattle.lq_server_slots.specs.Hold.{ReaderHold}
 
 -- its seat belongs to its slot and its port, and has asked as often as the reader
 pub record IsOwn (r : ReaderHold) : Type 0 where

@@ -2,11 +2,12 @@
 ghost use Rattle.std.specs.Prelude.{◌≡◌, IfOk, true};
 ghost use Rattle.lq_value.specs.Refusal.{FailsOnlyForMemory};
 ghost use Rattle.lq_board.specs.Token.{counted_board};
-ghost use Rattle.lq_server.specs.Counted.{leading_seat};
+ghost use Rattle.lq_server_slots.specs.Leading.{leading_seat};
 
+use crate::identity::Identity;
 use crate::server_state::ServerState;
+use crate::slots::ServerSlots;
 use lq_board::Board;
-use lq_server_slots::{Identity, ServerSlots};
 use lq_value::Refusal;
 use lq_volume::Volume;
 use std::alloc::Global;
@@ -66,7 +67,7 @@ impl Model for Base {
     ghost use Rattle.lq_board.specs.Author.{no_register};
     ghost use Rattle.lq_board.specs.Book.{IsFullBook};
     ghost use Rattle.lq_server_slots.specs.Slots.{AreConsistent};
-    ghost use Rattle.lq_server.specs.Base.{BaseHold};
+    ghost use Rattle.lq_server_slots.specs.Hold.{BaseHold};
 
     ghost Value = { BaseHold };
 

@@ -1,0 +1,80 @@
+use Rattle.std.proofs.Common.{◌≡◌, Err, sym, ap, ◌∙◌, subst, arith, rules}
+use Rattle.lq_volume.specs.Book.{Book}
+use Rattle.lq_server_slots.specs.Applied.{IsApplied}
+use Rattle.lq_server_slots.specs.Hold.{LockHold}
+use Rattle.lq_server_slots.specs.Slots.{AreConsistent}
+use Rattle.lq_server_slots.proofs.ApplyLemmas.{applied_ok, applied_err}
+use Rattle.lq_server_slots.proofs.SlotLemmas.{before_is, grown_is}
+use Rattle.lq_server_slots.proofs.StateLemmas.{state_changed, state_kept}
+use Rattle.lq_server_slots.proofs.server_state.ServerState.apply.Goals as goal
+
+pub commit_all-requires-clause-grown : goal.commit_all-requires-clause-grown
+commit_all-requires-clause-grown g c =
+    let a = c.in-Ok.ensures in
+    let i = c.self.invariant in
+    grown_is c.self.inside.slots.keeper.book c.add.new.slots.keeper.book c.args.change.now a.made.ok
+    (rw i.1 at a.lawful) a.full
+
+pub commit_all-requires-clause-ready : goal.commit_all-requires-clause-ready
+commit_all-requires-clause-ready g c = search (rules, arith, before_is)
+
+pub commit_all-requires-clause-holding : goal.commit_all-requires-clause-holding
+commit_all-requires-clause-holding g c =
+    let a = c.in-Ok.ensures in
+    rw
+    (before_is c.self.inside.slots.keeper.book c.add.new.slots.keeper.book c.args.change.now
+    a.made.ok)
+    a.holding
+
+pub serve_all-requires-clause-number : goal.serve_all-requires-clause-number
+serve_all-requires-clause-number g c =
+    let i = c.self-in-Err.invariant in (rw i.1 at c.changes.ensures.number) ∙ i.2.number
+
+pub returns-in-Ok-clause-applied : goal.returns-in-Ok-clause-applied
+returns-in-Ok-clause-applied g c =
+    let m = c.meet_slot.ensures in
+    rw c.commit_all.ensures.keeper
+    (applied_ok c.args.change.now c.self.inside.volume c.add.new.volume
+    c.self.inside.slots.keeper.book c.add.new.slots.keeper.book c.args.seat.now c.meet_slot.new.seat
+    c.self.invariant.1 m.seat m.later _ c.add.new.seat c.in-Ok.ensures.made)
+
+pub returns-in-Err-clause-applied : goal.returns-in-Err-clause-applied
+returns-in-Err-clause-applied g c =
+    let m = c.meet_slot.ensures in
+    let e = c.meet.ensures in
+    let book : c.add.new.slots.keeper.book ≡ c.serve_all.new.slots.keeper.book =
+    sym (c.serve_all.ensures.keeps.book
+    ∙ ap (λ (h : LockHold). h.slots.keeper.book) c.self-in-Err.view_is ∙ e.same.book) in
+    subst (λ (b : Book). IsApplied c.args.change.now b c.args.seat.now c.meet.new.seat
+    (Err c.in-Err.refusal)) book
+    (applied_err c.args.change.now c.self.inside.volume c.add.new.volume
+    c.self.inside.slots.keeper.book c.add.new.slots.keeper.book c.args.seat.now c.meet_slot.new.seat
+    c.self.invariant.1 m.seat m.later c.in-Err.refusal c.add.new.seat c.meet.new.seat c.in-Err.ensures.made e.seat
+    e.later)
+
+pub invariant_of-self : goal.invariant_of-self
+invariant_of-self g c =
+    let a = c.in-Ok.ensures in
+    let f = c.commit_all.ensures in
+    let k = f.keeper in
+    state_changed g.N.Named.board g.N.Named.start c.self.inside.slots c.commit_all.new.slots
+    c.self.inside.volume c.self.invariant c.add.new.volume
+    (record {
+      board = rw k a.counts.board;
+      counted = rw k a.counts.counted;
+      openings = f.openings ∙ a.counts.openings;
+    })
+    (rw k a.volume) (rw k a.full) (rw k a.made.start) a.made.limit f.holding
+
+pub invariant_of-self-in-Err : goal.invariant_of-self-in-Err
+invariant_of-self-in-Err g c =
+    let a = c.in-Err.ensures in
+    state_changed g.N.Named.board g.N.Named.start c.self.inside.slots c.add.new.slots
+    c.self.inside.volume c.self.invariant c.add.new.volume a.counts a.volume a.full a.made.start
+    a.made.limit
+    (subst (AreConsistent c.add.new.slots) (sym a.made.err) a.holding)
+
+pub invariant_of-self-in-Err-2 : goal.invariant_of-self-in-Err-2
+invariant_of-self-in-Err-2 g c =
+    state_kept g.N.Named.board g.N.Named.start c.self-in-Err.inside.slots c.serve_all.new.slots
+    c.self-in-Err.inside.volume c.self-in-Err.invariant c.serve_all.ensures.keeps
