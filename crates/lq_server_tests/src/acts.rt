@@ -1,4 +1,4 @@
-//! The calls in the tables of the scenarios, and the answers that are wanted.
+//! The calls in the tables of the scenarios, and the answers that are expected.
 use crate::random_changes::{Draws, numbered};
 use lq_update::Cause;
 use lq_value::{AttrName, Entry, Kind, Name, Refusal, Value};
@@ -64,15 +64,15 @@ pub enum Act {
     Finish,
 }
 
-/// What a call answers.
+/// What a call answers, or is expected to answer.
 #[derive(Clone, Copy, PartialEq)]
-pub enum Told {
-    /// As is wanted: whatever it is, but `NoMemory`.
+pub enum Expected {
+    /// Whatever it is, but `NoMemory`.
     Any,
     /// change, node.
     Changed(u64, u64),
     Number(u64),
-    /// Whether just the entries wanted were found.
+    /// Whether just the expected entries were found.
     Is(bool),
     /// seq, change, node.
     Update(u64, u64, u64),
@@ -91,8 +91,8 @@ pub enum Told {
     Refused(Refusal),
 }
 
-/// A call, and the answer that is wanted.
-pub type Call = (Act, Told);
+/// A call, and the expected answer.
+pub type Call = (Act, Expected);
 
 /// Returns whether these are just the entries of the rows, in order.
 pub fn are_entries(entries: &[Entry], rows: &[Row]) -> bool {

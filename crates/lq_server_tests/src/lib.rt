@@ -1,7 +1,7 @@
 //! Tests of the threaded server: scenarios, a reader's seat, reads that wait, and the model.
 //!
-//! A `Scenario` is tables of calls (`Act`), each with the answer that is wanted (`Told`). `stage`
-//! plays it at a new server, and `Done::is_told` compares what was accepted and read with a plain
+//! A `Scenario` is tables of calls (`Act`), each with the expected answer (`Expected`). `stage`
+//! plays it at a new server, and `Done::is_right` compares what was accepted and read with a plain
 //! reference, which takes the difference of two whole results. Begin with `acts`, then `scenario`,
 //! `party` and `reference`; the tests stand in `one_thread`, `more_threads`, `scenarios`, `seats`,
 //! `waits`, `followed` and `again`.

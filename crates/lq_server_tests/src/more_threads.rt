@@ -1,5 +1,5 @@
 //! The scenarios of two threads and four, by their tables.
-use crate::acts::{Act, Row, Told};
+use crate::acts::{Act, Expected, Row};
 use crate::party::Table;
 use crate::scenario::Scenario;
 use lq_update::Cause;
@@ -9,46 +9,46 @@ const FIVE: [Row; 5] = [("a", 2), ("b", 3), ("c", 4), ("d", 5), ("e", 6)];
 const OPENED: Table = (
     1,
     &[
-        (Act::Open("name=*", 2, 10), Told::Number(1)),
-        (Act::Keep, Told::Done),
+        (Act::Open("name=*", 2, 10), Expected::Number(1)),
+        (Act::Keep, Expected::Done),
     ],
 );
 
 const FILES: Table = (
     1,
     &[
-        (Act::Create("a"), Told::Changed(1, 2)),
-        (Act::Create("b"), Told::Changed(2, 3)),
-        (Act::Create("c"), Told::Changed(3, 4)),
-        (Act::Create("d"), Told::Changed(4, 5)),
-        (Act::Create("e"), Told::Changed(5, 6)),
+        (Act::Create("a"), Expected::Changed(1, 2)),
+        (Act::Create("b"), Expected::Changed(2, 3)),
+        (Act::Create("c"), Expected::Changed(3, 4)),
+        (Act::Create("d"), Expected::Changed(4, 5)),
+        (Act::Create("e"), Expected::Changed(5, 6)),
     ],
 );
 
 const FILES_READ: Table = (
     1,
     &[
-        (Act::ReadWaiting, Told::Update(1, 1, 2)),
-        (Act::ReadWaiting, Told::Update(2, 2, 3)),
-        (Act::ReadWaiting, Told::Update(3, 3, 4)),
-        (Act::ReadWaiting, Told::Update(4, 4, 5)),
-        (Act::ReadWaiting, Told::Update(5, 5, 6)),
+        (Act::ReadWaiting, Expected::Update(1, 1, 2)),
+        (Act::ReadWaiting, Expected::Update(2, 2, 3)),
+        (Act::ReadWaiting, Expected::Update(3, 3, 4)),
+        (Act::ReadWaiting, Expected::Update(4, 4, 5)),
+        (Act::ReadWaiting, Expected::Update(5, 5, 6)),
     ],
 );
 
 pub const WINDOW_ENDED: Table = (
     1,
     &[
-        (Act::Sync, Told::Live(5, 0, 0)),
-        (Act::Result(&FIVE), Told::Is(true)),
-        (Act::Opened, Told::Number(0)),
-        (Act::Fetch("name=*", &FIVE), Told::Number(5)),
-        (Act::Find("a"), Told::Number(2)),
-        (Act::Listing(2, "a"), Told::Is(true)),
-        (Act::HangUp, Told::Done),
-        (Act::Create("f"), Told::Changed(6, 7)),
-        (Act::Read, Told::End(6, 5, Cause::HungUp)),
-        (Act::Finish, Told::Done),
+        (Act::Sync, Expected::Live(5, 0, 0)),
+        (Act::Result(&FIVE), Expected::Is(true)),
+        (Act::Opened, Expected::Number(0)),
+        (Act::Fetch("name=*", &FIVE), Expected::Number(5)),
+        (Act::Find("a"), Expected::Number(2)),
+        (Act::Listing(2, "a"), Expected::Is(true)),
+        (Act::HangUp, Expected::Done),
+        (Act::Create("f"), Expected::Changed(6, 7)),
+        (Act::Read, Expected::End(6, 5, Cause::HungUp)),
+        (Act::Finish, Expected::Done),
     ],
 );
 
@@ -59,15 +59,15 @@ pub static WINDOW: Scenario = Scenario {
     turns: &[&[OPENED], &[FILES_READ, FILES], &[WINDOW_ENDED]],
 };
 
-const FIRST_CREATES: Table = (100, &[(Act::CreateNext("a"), Told::Any)]);
+const FIRST_CREATES: Table = (100, &[(Act::CreateNext("a"), Expected::Any)]);
 
-const SECOND_CREATES: Table = (100, &[(Act::CreateNext("b"), Told::Any)]);
+const SECOND_CREATES: Table = (100, &[(Act::CreateNext("b"), Expected::Any)]);
 
 const CREATED: Table = (
     1,
     &[
-        (Act::Latest, Told::Number(200)),
-        (Act::Seat, Told::Number(200)),
+        (Act::Latest, Expected::Number(200)),
+        (Act::Seat, Expected::Number(200)),
     ],
 );
 
@@ -78,15 +78,15 @@ pub static WRITERS_CREATE: Scenario = Scenario {
     turns: &[&[FIRST_CREATES, SECOND_CREATES], &[CREATED, CREATED]],
 };
 
-const FILE: Table = (1, &[(Act::Create("a"), Told::Changed(1, 2))]);
+const FILE: Table = (1, &[(Act::Create("a"), Expected::Changed(1, 2))]);
 
-const WRITES: Table = (100, &[(Act::Write(2, 5), Told::Any)]);
+const WRITES: Table = (100, &[(Act::Write(2, 5), Expected::Any)]);
 
 const WRITTEN: Table = (
     1,
     &[
-        (Act::Latest, Told::Number(201)),
-        (Act::Seat, Told::Number(201)),
+        (Act::Latest, Expected::Number(201)),
+        (Act::Seat, Expected::Number(201)),
     ],
 );
 
@@ -100,20 +100,20 @@ pub static WRITERS_WRITE: Scenario = Scenario {
 const OPENED_WIDE: Table = (
     1,
     &[
-        (Act::Open("name=*", 1024, 1024), Told::Number(1)),
-        (Act::Keep, Told::Done),
+        (Act::Open("name=*", 1024, 1024), Expected::Number(1)),
+        (Act::Keep, Expected::Done),
     ],
 );
 
-const HANGS_UP: Table = (1, &[(Act::HangUp, Told::Done)]);
+const HANGS_UP: Table = (1, &[(Act::HangUp, Expected::Done)]);
 
 const HUNG_UP: Table = (
     1,
     &[
-        (Act::Latest, Told::Number(100)),
-        (Act::Pump, Told::Done),
-        (Act::ReadOut, Told::Over(Cause::HungUp)),
-        (Act::Finish, Told::Done),
+        (Act::Latest, Expected::Number(100)),
+        (Act::Pump, Expected::Done),
+        (Act::ReadOut, Expected::Over(Cause::HungUp)),
+        (Act::Finish, Expected::Done),
     ],
 );
 
@@ -124,30 +124,30 @@ pub static HANG_UP_BESIDE_CHANGES: Scenario = Scenario {
     turns: &[&[OPENED_WIDE], &[HANGS_UP, FIRST_CREATES], &[HUNG_UP]],
 };
 
-const CHANGES_DRAWN: Table = (1300, &[(Act::ChangeDrawn, Told::Any)]);
+const CHANGES_DRAWN: Table = (1300, &[(Act::ChangeDrawn, Expected::Any)]);
 
 /// A `close` is refused where an overrun ended the subscription before.
 const CLOSED_DRAWN: Table = (
     80,
     &[
-        (Act::OpenDrawn, Told::Any),
-        (Act::Keep, Told::Done),
-        (Act::ReadDrawn, Told::Done),
-        (Act::Close, Told::Any),
-        (Act::ReadOut, Told::Any),
-        (Act::Finish, Told::Done),
+        (Act::OpenDrawn, Expected::Any),
+        (Act::Keep, Expected::Done),
+        (Act::ReadDrawn, Expected::Done),
+        (Act::Close, Expected::Any),
+        (Act::ReadOut, Expected::Any),
+        (Act::Finish, Expected::Done),
     ],
 );
 
 const HUNG_UP_DRAWN: Table = (
     80,
     &[
-        (Act::OpenDrawn, Told::Any),
-        (Act::Keep, Told::Done),
-        (Act::ReadDrawn, Told::Done),
-        (Act::HangUp, Told::Done),
-        (Act::ReadOut, Told::Any),
-        (Act::Finish, Told::Done),
+        (Act::OpenDrawn, Expected::Any),
+        (Act::Keep, Expected::Done),
+        (Act::ReadDrawn, Expected::Done),
+        (Act::HangUp, Expected::Done),
+        (Act::ReadOut, Expected::Any),
+        (Act::Finish, Expected::Done),
     ],
 );
 

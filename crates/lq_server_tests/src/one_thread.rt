@@ -1,5 +1,5 @@
 //! The scenarios of one thread, by their tables.
-use crate::acts::{Act, Told};
+use crate::acts::{Act, Expected};
 use crate::more_threads::WINDOW_ENDED;
 use crate::party::Table;
 use crate::scenario::Scenario;
@@ -15,54 +15,54 @@ pub static EACH: Scenario = Scenario {
     turns: &[&[(
         1,
         &[
-            (Act::Latest, Told::Number(0)),
-            (Act::Find("a"), Told::Refused(Refusal::NoEntry)),
-            (Act::Listing(2, "a"), Told::Refused(Refusal::NoNode)),
-            (Act::Create("a"), Told::Changed(1, 2)),
-            (Act::Create("a"), Told::Refused(Refusal::Exists)),
-            (Act::Open("name=*", 4, 16), Told::Number(1)),
-            (Act::Slot, Told::Number(1)),
-            (Act::Opened, Told::Number(1)),
-            (Act::Result(&[("a", 2)]), Told::Is(true)),
-            (Act::LastChange, Told::Number(1)),
-            (Act::SetAttr(2, 7), Told::Changed(2, 2)),
-            (Act::Fetch("x=7", &[("a", 2)]), Told::Number(2)),
-            (Act::RemoveAttr(2), Told::Changed(3, 2)),
-            (Act::Write(2, 9), Told::Changed(4, 2)),
-            (Act::Fetch("size=9", &[("a", 2)]), Told::Number(4)),
-            (Act::Find("a"), Told::Number(2)),
-            (Act::Listing(2, "a"), Told::Is(true)),
-            (Act::Read, Told::Empty),
-            (Act::Move(2, "b"), Told::Changed(5, 2)),
-            (Act::Read, Told::Update(1, 5, 2)),
-            (Act::Settled, Told::Is(false)),
-            (Act::Read, Told::Update(2, 5, 2)),
-            (Act::Settled, Told::Is(true)),
-            (Act::LastChange, Told::Number(5)),
-            (Act::Result(&[("b", 2)]), Told::Is(true)),
-            (Act::Remove(2), Told::Changed(6, 2)),
-            (Act::Pump, Told::Done),
-            (Act::ReadWaiting, Told::Update(3, 6, 2)),
-            (Act::Sync, Told::Live(6, 0, 0)),
-            (Act::Latest, Told::Number(6)),
-            (Act::ReaderLatest, Told::Number(6)),
-            (Act::Meet, Told::Number(6)),
-            (Act::Seat, Told::Number(6)),
-            (Act::GiveBack, Told::Done),
-            (Act::Close, Told::Number(6)),
-            (Act::Read, Told::End(4, 6, Cause::Closed)),
-            (Act::ReadWaiting, Told::Ended),
-            (Act::Finish, Told::Done),
-            (Act::OpenMoved("name=*", 4, 16), Told::Number(1)),
-            (Act::Create("c"), Told::Changed(7, 3)),
-            (Act::Move(3, "d"), Told::Changed(8, 3)),
-            (Act::Read, Told::Update(1, 7, 3)),
-            (Act::Read, Told::Update(2, 8, 3)),
-            (Act::HangUp, Told::Done),
-            (Act::HangUp, Told::Done),
-            (Act::ReadWaiting, Told::End(3, 8, Cause::HungUp)),
-            (Act::Result(&[("d", 3)]), Told::Is(true)),
-            (Act::Finish, Told::Done),
+            (Act::Latest, Expected::Number(0)),
+            (Act::Find("a"), Expected::Refused(Refusal::NoEntry)),
+            (Act::Listing(2, "a"), Expected::Refused(Refusal::NoNode)),
+            (Act::Create("a"), Expected::Changed(1, 2)),
+            (Act::Create("a"), Expected::Refused(Refusal::Exists)),
+            (Act::Open("name=*", 4, 16), Expected::Number(1)),
+            (Act::Slot, Expected::Number(1)),
+            (Act::Opened, Expected::Number(1)),
+            (Act::Result(&[("a", 2)]), Expected::Is(true)),
+            (Act::LastChange, Expected::Number(1)),
+            (Act::SetAttr(2, 7), Expected::Changed(2, 2)),
+            (Act::Fetch("x=7", &[("a", 2)]), Expected::Number(2)),
+            (Act::RemoveAttr(2), Expected::Changed(3, 2)),
+            (Act::Write(2, 9), Expected::Changed(4, 2)),
+            (Act::Fetch("size=9", &[("a", 2)]), Expected::Number(4)),
+            (Act::Find("a"), Expected::Number(2)),
+            (Act::Listing(2, "a"), Expected::Is(true)),
+            (Act::Read, Expected::Empty),
+            (Act::Move(2, "b"), Expected::Changed(5, 2)),
+            (Act::Read, Expected::Update(1, 5, 2)),
+            (Act::Settled, Expected::Is(false)),
+            (Act::Read, Expected::Update(2, 5, 2)),
+            (Act::Settled, Expected::Is(true)),
+            (Act::LastChange, Expected::Number(5)),
+            (Act::Result(&[("b", 2)]), Expected::Is(true)),
+            (Act::Remove(2), Expected::Changed(6, 2)),
+            (Act::Pump, Expected::Done),
+            (Act::ReadWaiting, Expected::Update(3, 6, 2)),
+            (Act::Sync, Expected::Live(6, 0, 0)),
+            (Act::Latest, Expected::Number(6)),
+            (Act::ReaderLatest, Expected::Number(6)),
+            (Act::Meet, Expected::Number(6)),
+            (Act::Seat, Expected::Number(6)),
+            (Act::GiveBack, Expected::Done),
+            (Act::Close, Expected::Number(6)),
+            (Act::Read, Expected::End(4, 6, Cause::Closed)),
+            (Act::ReadWaiting, Expected::Ended),
+            (Act::Finish, Expected::Done),
+            (Act::OpenMoved("name=*", 4, 16), Expected::Number(1)),
+            (Act::Create("c"), Expected::Changed(7, 3)),
+            (Act::Move(3, "d"), Expected::Changed(8, 3)),
+            (Act::Read, Expected::Update(1, 7, 3)),
+            (Act::Read, Expected::Update(2, 8, 3)),
+            (Act::HangUp, Expected::Done),
+            (Act::HangUp, Expected::Done),
+            (Act::ReadWaiting, Expected::End(3, 8, Cause::HungUp)),
+            (Act::Result(&[("d", 3)]), Expected::Is(true)),
+            (Act::Finish, Expected::Done),
         ],
     )]],
 };
@@ -71,17 +71,17 @@ pub static EACH: Scenario = Scenario {
 const WINDOW_READ: Table = (
     1,
     &[
-        (Act::Open("name=*", 2, 10), Told::Number(1)),
-        (Act::Create("a"), Told::Changed(1, 2)),
-        (Act::ReadWaiting, Told::Update(1, 1, 2)),
-        (Act::Create("b"), Told::Changed(2, 3)),
-        (Act::ReadWaiting, Told::Update(2, 2, 3)),
-        (Act::Create("c"), Told::Changed(3, 4)),
-        (Act::ReadWaiting, Told::Update(3, 3, 4)),
-        (Act::Create("d"), Told::Changed(4, 5)),
-        (Act::ReadWaiting, Told::Update(4, 4, 5)),
-        (Act::Create("e"), Told::Changed(5, 6)),
-        (Act::ReadWaiting, Told::Update(5, 5, 6)),
+        (Act::Open("name=*", 2, 10), Expected::Number(1)),
+        (Act::Create("a"), Expected::Changed(1, 2)),
+        (Act::ReadWaiting, Expected::Update(1, 1, 2)),
+        (Act::Create("b"), Expected::Changed(2, 3)),
+        (Act::ReadWaiting, Expected::Update(2, 2, 3)),
+        (Act::Create("c"), Expected::Changed(3, 4)),
+        (Act::ReadWaiting, Expected::Update(3, 3, 4)),
+        (Act::Create("d"), Expected::Changed(4, 5)),
+        (Act::ReadWaiting, Expected::Update(4, 4, 5)),
+        (Act::Create("e"), Expected::Changed(5, 6)),
+        (Act::ReadWaiting, Expected::Update(5, 5, 6)),
     ],
 );
 
@@ -100,9 +100,12 @@ pub static TWO_OPENINGS: Scenario = Scenario {
     turns: &[&[(
         1,
         &[
-            (Act::Open("name=*", 1, 1), Told::Number(1)),
-            (Act::Open("name=*", 1, 1), Told::Number(2)),
-            (Act::Open("name=*", 1, 1), Told::Refused(Refusal::Exhausted)),
+            (Act::Open("name=*", 1, 1), Expected::Number(1)),
+            (Act::Open("name=*", 1, 1), Expected::Number(2)),
+            (
+                Act::Open("name=*", 1, 1),
+                Expected::Refused(Refusal::Exhausted),
+            ),
         ],
     )]],
 };
@@ -111,17 +114,17 @@ pub static TWO_OPENINGS: Scenario = Scenario {
 const USED_AFTER_HANG_UP: Table = (
     1,
     &[
-        (Act::Open("name=*", 4, 8), Told::Number(1)),
-        (Act::HangUp, Told::Done),
-        (Act::Create("a"), Told::Changed(1, 2)),
-        (Act::Read, Told::End(1, 0, Cause::HungUp)),
-        (Act::Finish, Told::Done),
-        (Act::Open("name=*", 4, 8), Told::Number(1)),
-        (Act::Opened, Told::Number(1)),
-        (Act::Create("b"), Told::Changed(2, 3)),
-        (Act::Read, Told::Update(1, 2, 3)),
-        (Act::Sync, Told::Live(2, 0, 0)),
-        (Act::Read, Told::Empty),
+        (Act::Open("name=*", 4, 8), Expected::Number(1)),
+        (Act::HangUp, Expected::Done),
+        (Act::Create("a"), Expected::Changed(1, 2)),
+        (Act::Read, Expected::End(1, 0, Cause::HungUp)),
+        (Act::Finish, Expected::Done),
+        (Act::Open("name=*", 4, 8), Expected::Number(1)),
+        (Act::Opened, Expected::Number(1)),
+        (Act::Create("b"), Expected::Changed(2, 3)),
+        (Act::Read, Expected::Update(1, 2, 3)),
+        (Act::Sync, Expected::Live(2, 0, 0)),
+        (Act::Read, Expected::Empty),
     ],
 );
 
@@ -136,17 +139,17 @@ pub static SLOT_AFTER_HANG_UP: Scenario = Scenario {
 const USED_AFTER_CLOSE: Table = (
     1,
     &[
-        (Act::Open("name=*", 4, 8), Told::Number(1)),
-        (Act::Close, Told::Number(0)),
-        (Act::HangUp, Told::Done),
-        (Act::Read, Told::End(1, 0, Cause::Closed)),
-        (Act::Finish, Told::Done),
-        (Act::Open("name=*", 4, 8), Told::Number(1)),
-        (Act::Opened, Told::Number(0)),
-        (Act::Create("a"), Told::Changed(1, 2)),
-        (Act::Read, Told::Update(1, 1, 2)),
-        (Act::Sync, Told::Live(1, 0, 0)),
-        (Act::Read, Told::Empty),
+        (Act::Open("name=*", 4, 8), Expected::Number(1)),
+        (Act::Close, Expected::Number(0)),
+        (Act::HangUp, Expected::Done),
+        (Act::Read, Expected::End(1, 0, Cause::Closed)),
+        (Act::Finish, Expected::Done),
+        (Act::Open("name=*", 4, 8), Expected::Number(1)),
+        (Act::Opened, Expected::Number(0)),
+        (Act::Create("a"), Expected::Changed(1, 2)),
+        (Act::Read, Expected::Update(1, 1, 2)),
+        (Act::Sync, Expected::Live(1, 0, 0)),
+        (Act::Read, Expected::Empty),
     ],
 );
 
@@ -161,20 +164,20 @@ pub static SLOT_AFTER_CLOSE: Scenario = Scenario {
 const DROPS: Table = (
     1,
     &[
-        (Act::Open("name=*", 1, 1), Told::Number(1)),
-        (Act::Create("a"), Told::Changed(1, 2)),
-        (Act::Create("b"), Told::Changed(2, 3)),
-        (Act::Create("c"), Told::Changed(3, 4)),
-        (Act::Open("name=*", 1, 1), Told::Number(2)),
-        (Act::Opened, Told::Number(3)),
-        (Act::Close, Told::Number(3)),
-        (Act::Close, Told::Refused(Refusal::NotOpen)),
-        (Act::Read, Told::End(1, 3, Cause::Closed)),
-        (Act::Finish, Told::Done),
-        (Act::Open("name=*", 1, 1), Told::Number(2)),
-        (Act::Finish, Told::Refused(Refusal::StillOpen)),
-        (Act::Sync, Told::Live(3, 0, 0)),
-        (Act::Read, Told::Empty),
+        (Act::Open("name=*", 1, 1), Expected::Number(1)),
+        (Act::Create("a"), Expected::Changed(1, 2)),
+        (Act::Create("b"), Expected::Changed(2, 3)),
+        (Act::Create("c"), Expected::Changed(3, 4)),
+        (Act::Open("name=*", 1, 1), Expected::Number(2)),
+        (Act::Opened, Expected::Number(3)),
+        (Act::Close, Expected::Number(3)),
+        (Act::Close, Expected::Refused(Refusal::NotOpen)),
+        (Act::Read, Expected::End(1, 3, Cause::Closed)),
+        (Act::Finish, Expected::Done),
+        (Act::Open("name=*", 1, 1), Expected::Number(2)),
+        (Act::Finish, Expected::Refused(Refusal::StillOpen)),
+        (Act::Sync, Expected::Live(3, 0, 0)),
+        (Act::Read, Expected::Empty),
     ],
 );
 
@@ -189,18 +192,21 @@ pub static READERS_DROPPED: Scenario = Scenario {
 const NUMBERS: Table = (
     1,
     &[
-        (Act::Open("size>0", 0, 1), Told::Refused(Refusal::BadPort)),
+        (
+            Act::Open("size>0", 0, 1),
+            Expected::Refused(Refusal::BadPort),
+        ),
         (
             Act::Open("size>0", 1025, 65537),
-            Told::Refused(Refusal::BadPort),
+            Expected::Refused(Refusal::BadPort),
         ),
         (
             Act::Open("size>0", 1, 65537),
-            Told::Refused(Refusal::BadBacklog),
+            Expected::Refused(Refusal::BadBacklog),
         ),
         (
             Act::Open("size>0", 0, 65537),
-            Told::Refused(Refusal::BadPort),
+            Expected::Refused(Refusal::BadPort),
         ),
     ],
 );
@@ -209,20 +215,23 @@ const NUMBERS: Table = (
 const ENDED: Table = (
     1936,
     &[
-        (Act::Open("size>0", 1, 1), Told::Number(1)),
-        (Act::Close, Told::Number(0)),
-        (Act::Read, Told::End(1, 0, Cause::Closed)),
-        (Act::Finish, Told::Done),
+        (Act::Open("size>0", 1, 1), Expected::Number(1)),
+        (Act::Close, Expected::Number(0)),
+        (Act::Read, Expected::End(1, 0, Cause::Closed)),
+        (Act::Finish, Expected::Done),
     ],
 );
 
-const STAYING: Table = (64, &[(Act::Open("size>0", 1024, 65536), Told::Any)]);
+const STAYING: Table = (64, &[(Act::Open("size>0", 1024, 65536), Expected::Any)]);
 
 const FULL: Table = (
     1,
     &[
-        (Act::Slot, Told::Number(64)),
-        (Act::Open("size>0", 1, 1), Told::Refused(Refusal::NoSlot)),
+        (Act::Slot, Expected::Number(64)),
+        (
+            Act::Open("size>0", 1, 1),
+            Expected::Refused(Refusal::NoSlot),
+        ),
     ],
 );
 
@@ -230,10 +239,13 @@ const FULL: Table = (
 const OPENINGS_RUN_OUT: Table = (
     1,
     &[
-        (Act::Close, Told::Number(0)),
-        (Act::Read, Told::End(1, 0, Cause::Closed)),
-        (Act::Finish, Told::Done),
-        (Act::Open("size>0", 1, 1), Told::Refused(Refusal::Exhausted)),
+        (Act::Close, Expected::Number(0)),
+        (Act::Read, Expected::End(1, 0, Cause::Closed)),
+        (Act::Finish, Expected::Done),
+        (
+            Act::Open("size>0", 1, 1),
+            Expected::Refused(Refusal::Exhausted),
+        ),
     ],
 );
 
@@ -255,23 +267,23 @@ pub static SLOTS: Scenario = Scenario {
 const SEATS_USED: Table = (
     1,
     &[
-        (Act::Open("size>0", 1, 1), Told::Number(1)),
-        (Act::Sync, Told::Live(0, 0, 0)),
-        (Act::Meet, Told::Number(0)),
+        (Act::Open("size>0", 1, 1), Expected::Number(1)),
+        (Act::Sync, Expected::Live(0, 0, 0)),
+        (Act::Meet, Expected::Number(0)),
     ],
 );
 
 /// Seats that are dropped. With the thread's own, and one that retires the server, they are all.
-const SEATS_DROPPED: Table = (13, &[(Act::Seat, Told::Number(0))]);
+const SEATS_DROPPED: Table = (13, &[(Act::Seat, Expected::Number(0))]);
 
 const SEATS_RUN_OUT: Table = (
     1,
     &[
-        (Act::GiveBack, Told::Done),
-        (Act::GiveBack, Told::Done),
-        (Act::Seat, Told::Number(0)),
-        (Act::Seat, Told::Refused(Refusal::NoSeat)),
-        (Act::GiveBack, Told::Refused(Refusal::NoSeat)),
+        (Act::GiveBack, Expected::Done),
+        (Act::GiveBack, Expected::Done),
+        (Act::Seat, Expected::Number(0)),
+        (Act::Seat, Expected::Refused(Refusal::NoSeat)),
+        (Act::GiveBack, Expected::Refused(Refusal::NoSeat)),
     ],
 );
 

@@ -1,7 +1,7 @@
 //! A seat and a reader of N's server, by types that keep what its calls require of them.
 ghost use Rattle.std.specs.Prelude.{◌≡◌, true};
 
-use crate::acts::{Act, Row, Told, are_entries};
+use crate::acts::{Act, Expected, Row, are_entries};
 use crate::random_changes::DrawnOpening;
 use crate::reference::{Log, text};
 use lq_board::Seat;
@@ -126,27 +126,27 @@ impl<N: Named> SeatOf<N> {
         alloc: Global,
         server: &Server<N>,
         act: &Act,
-    ) -> Result<Told, Refusal> {
+    ) -> Result<Expected, Refusal> {
         Ok(match act {
             Act::Fetch(query, rows) => self.fetch(rt, alloc, server, query, rows)?,
             Act::Find(name) => {
                 let name = Name::read(alloc, name)?;
-                Told::Number(server.find(rt, &mut self.seat, 1, &name)?)
+                Expected::Number(server.find(rt, &mut self.seat, 1, &name)?)
             }
             Act::Listing(node, name) => {
                 let listing = server.listing(rt, &mut self.seat, *node)?;
-                Told::Is(listing.dir == 1 && listing.name.as_str() == *name)
+                Expected::Is(listing.dir == 1 && listing.name.as_str() == *name)
             }
             Act::Seat => {
                 let mut other = server.seat(rt)?;
-                Told::Number(server.meet(rt, &mut self.seat, &mut other))
+                Expected::Number(server.meet(rt, &mut self.seat, &mut other))
             }
             Act::GiveBack => {
                 let other = server.seat(rt)?;
                 server.give_back(rt, other);
-                Told::Done
+                Expected::Done
             }
-            _ => Told::Number(server.latest(&mut self.seat)),
+            _ => Expected::Number(server.latest(&mut self.seat)),
         })
     }
 
@@ -158,23 +158,23 @@ impl<N: Named> SeatOf<N> {
         server: &Server<N>,
         query: &str,
         rows: &[Row],
-    ) -> Result<Told, Refusal> {
+    ) -> Result<Expected, Refusal> {
         let predicate = read(alloc, query)?;
         let found: Found = server.fetch(rt, &mut self.seat, &predicate)?;
         if are_entries(&found.entries, rows) {
-            Ok(Told::Number(found.at))
+            Ok(Expected::Number(found.at))
         } else {
-            Ok(Told::Is(false))
+            Ok(Expected::Is(false))
         }
     }
 }
 
 // What a sync answered.
-fn told_by(synced: &Synced) -> Told {
+fn sync_answer(synced: &Synced) -> Expected {
     let (change, waiting, held) = (synced.change, synced.waiting, synced.held);
     match synced.mark {
-        None => Told::Live(change, waiting, held),
-        Some(mark) => Told::Marked(change, waiting, held, mark.seq, mark.change, mark.cause),
+        None => Expected::Live(change, waiting, held),
+        Some(mark) => Expected::Marked(change, waiting, held, mark.seq, mark.change, mark.cause),
     }
 }
 
@@ -192,24 +192,24 @@ impl<N: Named> ReaderOf<N> {
         server: &Server<N>,
         seat: &mut SeatOf<N>,
         act: &Act,
-    ) -> Result<Told, Refusal> {
+    ) -> Result<Expected, Refusal> {
         Ok(match act {
             Act::Keep => {
                 self.log.begun = Some(text(alloc, &Some(self.reader.result()))?);
-                Told::Done
+                Expected::Done
             }
-            Act::ReaderLatest => Told::Number(self.reader.latest(server)),
-            Act::Meet => Told::Number(server.meet(rt, self.reader.seat(), &mut seat.seat)),
+            Act::ReaderLatest => Expected::Number(self.reader.latest(server)),
+            Act::Meet => Expected::Number(server.meet(rt, self.reader.seat(), &mut seat.seat)),
             Act::Pump => {
                 server.pump(rt, &mut self.reader);
-                Told::Done
+                Expected::Done
             }
-            Act::Sync => told_by(&server.sync(rt, &mut self.reader)),
+            Act::Sync => sync_answer(&server.sync(rt, &mut self.reader)),
             Act::HangUp => {
                 self.reader.hang_up(server);
-                Told::Done
+                Expected::Done
             }
-            Act::Close => Told::Number(server.close(rt, &mut self.reader)?),
+            Act::Close => Expected::Number(server.close(rt, &mut self.reader)?),
             Act::Read => self.log.hear(self.reader.read(rt)?)?,
             Act::ReadWaiting => self.log.hear(self.reader.read_waiting(rt, server)?)?,
             _ => return self.look(act),
@@ -217,13 +217,13 @@ impl<N: Named> ReaderOf<N> {
     }
 
     // What the reader answers without its server.
-    fn look(&self, act: &Act) -> Result<Told, Refusal> {
+    fn look(&self, act: &Act) -> Result<Expected, Refusal> {
         match act {
-            Act::Slot => Ok(Told::Number(self.reader.slot())),
-            Act::Opened => Ok(Told::Number(self.reader.opened())),
-            Act::Result(rows) => Ok(Told::Is(are_entries(self.reader.result(), rows))),
-            Act::Settled => Ok(Told::Is(self.reader.is_settled())),
-            Act::LastChange => Ok(Told::Number(self.reader.last_change())),
+            Act::Slot => Ok(Expected::Number(self.reader.slot())),
+            Act::Opened => Ok(Expected::Number(self.reader.opened())),
+            Act::Result(rows) => Ok(Expected::Is(are_entries(self.reader.result(), rows))),
+            Act::Settled => Ok(Expected::Is(self.reader.is_settled())),
+            Act::LastChange => Ok(Expected::Number(self.reader.last_change())),
             _ => Err(Refusal::OutOfStep),
         }
     }

@@ -1,5 +1,5 @@
 //! One thread of a scenario: its tokens, and the calls that it makes beside other threads.
-use crate::acts::{Act, Call, Told, change};
+use crate::acts::{Act, Call, Expected, change};
 use crate::owned_tokens::{ReaderOf, SeatOf};
 use crate::random_changes::{DrawnOpening, Draws};
 use crate::reference::{Log, Taken};
@@ -13,7 +13,7 @@ use std::sync::Wait;
 pub type Table = (usize, &'static [Call]);
 
 /// The changes that were accepted, what the kept readers have read, and the row whose answer isn't
-/// the wanted one, counted from 0.
+/// the expected one, counted from 0.
 #[derive(Drop)]
 pub struct Acted {
     pub taken: Vec<Taken>,
@@ -47,14 +47,14 @@ impl<N: Named> Drop for Party<N> {
 }
 
 impl<N: Named> Party<N> {
-    /// Makes the calls of its table, up to one whose answer isn't the wanted one.
+    /// Makes the calls of its table, up to one whose answer isn't the expected one.
     pub fn play<R: Wait>(&mut self, rt: &R, alloc: Global, server: &Server<N>) {
         let Some(table) = self.table else {
             return;
         };
         for _ in 0..table.0 {
-            for (row, (act, wanted)) in table.1.iter().enumerate() {
-                if !self.is_answered(rt, alloc, server, act, wanted) {
+            for (row, (act, expected)) in table.1.iter().enumerate() {
+                if !self.is_answered(rt, alloc, server, act, expected) {
                     self.acted.stop = Some(row);
                     return;
                 }
@@ -62,35 +62,35 @@ impl<N: Named> Party<N> {
         }
     }
 
-    /// Whether a call has the wanted answer.
+    /// Whether a call has the expected answer.
     fn is_answered<R: Wait>(
         &mut self,
         rt: &R,
         alloc: Global,
         server: &Server<N>,
         act: &Act,
-        wanted: &Told,
+        expected: &Expected,
     ) -> bool {
-        let mut told = Told::Refused(Refusal::NoMemory);
+        let mut answer = Expected::Refused(Refusal::NoMemory);
         for _ in 0..self.tries {
-            told = match self.tell(rt, alloc, server, act) {
-                Ok(told) => told,
-                Err(refusal) => Told::Refused(refusal),
+            answer = match self.answer(rt, alloc, server, act) {
+                Ok(answer) => answer,
+                Err(refusal) => Expected::Refused(refusal),
             };
-            if told != Told::Refused(Refusal::NoMemory) {
-                return told == *wanted || *wanted == Told::Any;
+            if answer != Expected::Refused(Refusal::NoMemory) {
+                return answer == *expected || *expected == Expected::Any;
             }
         }
         false
     }
 
-    fn tell<R: Wait>(
+    fn answer<R: Wait>(
         &mut self,
         rt: &R,
         alloc: Global,
         server: &Server<N>,
         act: &Act,
-    ) -> Result<Told, Refusal> {
+    ) -> Result<Expected, Refusal> {
         if let Some(change) = change(alloc, &mut self.draws, act)? {
             return self.apply(rt, server, change);
         }
@@ -118,7 +118,7 @@ impl<N: Named> Party<N> {
         alloc: Global,
         server: &Server<N>,
         act: &Act,
-    ) -> Result<Told, Refusal> {
+    ) -> Result<Expected, Refusal> {
         match &mut self.reader {
             Some(reader) => reader.ask(rt, alloc, server, &mut self.seat, act),
             None => Err(Refusal::OutOfStep),
@@ -131,14 +131,14 @@ impl<N: Named> Party<N> {
         rt: &R,
         alloc: Global,
         server: &Server<N>,
-    ) -> Result<Told, Refusal> {
+    ) -> Result<Expected, Refusal> {
         for _ in 0..self.draws.below(200) {
             if self.draws.below(4) == 0 {
                 self.ask(rt, alloc, server, &Act::Pump)?;
             }
             self.ask(rt, alloc, server, &Act::Read)?;
         }
-        Ok(Told::Done)
+        Ok(Expected::Done)
     }
 
     /// Reads up to the mark, or to the end where the mark was read before.
@@ -147,15 +147,15 @@ impl<N: Named> Party<N> {
         rt: &R,
         alloc: Global,
         server: &Server<N>,
-    ) -> Result<Told, Refusal> {
+    ) -> Result<Expected, Refusal> {
         for _ in 0..100_000 {
             match self.ask(rt, alloc, server, &Act::ReadWaiting)? {
-                Told::Update(_, _, _) => {}
-                Told::End(_, _, cause) => return Ok(Told::Over(cause)),
-                told => return Ok(told),
+                Expected::Update(_, _, _) => {}
+                Expected::End(_, _, cause) => return Ok(Expected::Over(cause)),
+                answer => return Ok(answer),
             }
         }
-        Ok(Told::Done)
+        Ok(Expected::Done)
     }
 
     /// Applies a change, and keeps it where it is accepted.
@@ -164,13 +164,13 @@ impl<N: Named> Party<N> {
         rt: &R,
         server: &Server<N>,
         change: Change,
-    ) -> Result<Told, Refusal> {
+    ) -> Result<Expected, Refusal> {
         self.acted.taken.reserve(1)?;
         let accepted = self.seat.apply(rt, server, &change)?;
         self.draws.newest = self.draws.newest.max(accepted.node);
         self.acted.taken.push(Taken { accepted, change })?;
         self.draws.made = self.acted.taken.len() as u64;
-        Ok(Told::Changed(accepted.change, accepted.node))
+        Ok(Expected::Changed(accepted.change, accepted.node))
     }
 
     fn open<R: Wait>(
@@ -179,7 +179,7 @@ impl<N: Named> Party<N> {
         alloc: Global,
         server: &Server<N>,
         act: &Act,
-    ) -> Result<Told, Refusal> {
+    ) -> Result<Expected, Refusal> {
         let asked = match act {
             Act::Open(query, port, backlog) => DrawnOpening {
                 query,
@@ -198,7 +198,7 @@ impl<N: Named> Party<N> {
         let reader = self.seat.open(rt, alloc, server, asked)?;
         let slot = reader.slot();
         self.reader = Some(reader);
-        Ok(Told::Number(slot))
+        Ok(Expected::Number(slot))
     }
 
     fn finish<R: Wait>(
@@ -206,7 +206,7 @@ impl<N: Named> Party<N> {
         rt: &R,
         alloc: Global,
         server: &Server<N>,
-    ) -> Result<Told, Refusal> {
+    ) -> Result<Expected, Refusal> {
         let Some(reader) = self.reader.take() else {
             return Err(Refusal::OutOfStep);
         };
@@ -215,7 +215,7 @@ impl<N: Named> Party<N> {
                 if log.begun.is_some() {
                     self.acted.logs.push(log)?;
                 }
-                Ok(Told::Done)
+                Ok(Expected::Done)
             }
             Err((reader, refusal)) => {
                 self.reader = Some(reader);

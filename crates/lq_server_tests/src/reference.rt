@@ -1,6 +1,6 @@
 //! The messages that readers have to read: for each accepted change, the difference of two whole
 //! results.
-use crate::acts::Told;
+use crate::acts::Expected;
 use crate::random_changes::DrawnOpening;
 use lq_desk_sub::Read;
 use lq_predicate::{Predicate, read};
@@ -170,7 +170,7 @@ fn is_line(line: Line, moved: bool, entry: &Entry, other: Option<&Entry>) -> boo
 }
 
 /// Whether a message is the one of this kind for an entry.
-fn tells(message: &Message, line: Line, entry: &Entry, other: Option<&Entry>) -> bool {
+fn is_message_of(message: &Message, line: Line, entry: &Entry, other: Option<&Entry>) -> bool {
     let is_of = match (line, &message.op, other) {
         (Line::Removed, Opcode::Removed, _) | (Line::Created, Opcode::Created, _) => true,
         (
@@ -204,58 +204,58 @@ impl Log {
     }
 
     /// What was read, and keeps it.
-    pub fn hear(&mut self, read: Read) -> Result<Told, Refusal> {
+    pub fn hear(&mut self, read: Read) -> Result<Expected, Refusal> {
         Ok(match read {
             Read::Update(message) => {
-                let told = Told::Update(message.seq, message.change, message.node);
+                let answer = Expected::Update(message.seq, message.change, message.node);
                 if self.begun.is_some() {
                     self.messages.push(message)?;
                 }
-                told
+                answer
             }
             Read::Fin(mark) => {
                 self.mark = Some(mark);
-                Told::End(mark.seq, mark.change, mark.cause)
+                Expected::End(mark.seq, mark.change, mark.cause)
             }
-            Read::Empty => Told::Empty,
-            Read::Ended => Told::Ended,
+            Read::Empty => Expected::Empty,
+            Read::Ended => Expected::Ended,
         })
     }
 
     /// Whether it began with the result at its opening, read exactly the messages up to its mark,
     /// and ended with the result there.
-    pub fn is_told(&self, alloc: Global, results: &[Vec<Entry>]) -> Result<bool, Refusal> {
+    pub fn is_right(&self, alloc: Global, results: &[Vec<Entry>]) -> Result<bool, Refusal> {
         let Some(mark) = self.mark else {
             return Ok(false);
         };
         Ok(
             self.from <= self.opened
                 && self.opened <= self.to
-                && self.are_told(results, mark)
+                && self.has_messages(results, mark)
                 && is_result(alloc, results, self.opened, &self.begun)?
                 && is_result(alloc, results, mark.change, &self.ended)?,
         )
     }
 
     /// Whether it read exactly the messages of all changes between its opening and its mark.
-    fn are_told(&self, results: &[Vec<Entry>], mark: Mark) -> bool {
-        let mut told = 0;
+    fn has_messages(&self, results: &[Vec<Entry>], mark: Mark) -> bool {
+        let mut seen = 0;
         for before in self.opened..mark.change {
-            let Some(count) = self.count(results, before, told) else {
+            let Some(count) = self.count(results, before, seen) else {
                 return false;
             };
-            told = count;
+            seen = count;
         }
-        told == self.messages.len() && mark.seq == (told as u64).saturating_add(1)
+        seen == self.messages.len() && mark.seq == (seen as u64).saturating_add(1)
     }
 
     /// How many messages there were with those of the change after this one: what left, what moved
     /// where that was asked, and what came, by rising node. `None` where one is missing.
-    fn count(&self, results: &[Vec<Entry>], before: u64, told: usize) -> Option<usize> {
+    fn count(&self, results: &[Vec<Entry>], before: u64, seen: usize) -> Option<usize> {
         let change = before.saturating_add(1);
         let old = results.get(before as usize)?;
         let new = results.get(change as usize)?;
-        let left = self.count_lines(change, Line::Removed, old, new, told)?;
+        let left = self.count_lines(change, Line::Removed, old, new, seen)?;
         let went = self.count_lines(change, Line::Moved, new, old, left)?;
         self.count_lines(change, Line::Created, new, old, went)
     }
@@ -266,14 +266,14 @@ impl Log {
         line: Line,
         entries: &[Entry],
         others: &[Entry],
-        told: usize,
+        seen: usize,
     ) -> Option<usize> {
-        let mut count = told;
+        let mut count = seen;
         for entry in entries {
             let other = other(others, entry);
             if is_line(line, self.moved, entry, other) {
                 let message = self.message(count, change)?;
-                if !tells(message, line, entry, other) {
+                if !is_message_of(message, line, entry, other) {
                     return None;
                 }
                 count = count.saturating_add(1);

@@ -34,14 +34,14 @@ impl Done {
     /// Whether the accepted changes have the numbers from 1 on, each once; a plain volume gives the
     /// same answers to them and ends as the server's did; and each reader that was kept read
     /// exactly their messages. Refused as `Volume::apply` is, or `NoMemory`.
-    pub fn is_told(&mut self, alloc: Global) -> Result<bool, Refusal> {
+    pub fn is_right(&mut self, alloc: Global) -> Result<bool, Refusal> {
         let acted = &mut self.acted;
         acted.taken.sort_by_key(|one| one.accepted.change)?;
         if self.retired.changes != acted.taken.len() as u64 {
             return Ok(false);
         }
         for query in QUERIES {
-            if !acted.are_told(alloc, query)? {
+            if !acted.are_right(alloc, query)? {
                 return Ok(false);
             }
         }
@@ -51,11 +51,11 @@ impl Done {
 
 impl Acted {
     /// Whether each reader of this query that was kept read exactly the messages of the changes.
-    fn are_told(&self, alloc: Global, query: &str) -> Result<bool, Refusal> {
+    fn are_right(&self, alloc: Global, query: &str) -> Result<bool, Refusal> {
         let mut results = Vec::new(alloc);
         find_results(alloc, query, &self.taken, &mut results)?;
         for log in &self.logs {
-            if log.query == query && !log.is_told(alloc, &results)? {
+            if log.query == query && !log.is_right(alloc, &results)? {
                 return Ok(false);
             }
         }
@@ -81,7 +81,7 @@ pub fn base_with(alloc: Global, limit: u64) -> Result<Base, Refusal>
 /// Plays a scenario at a new server, and then retires the server.
 ///
 /// What is drawn is drawn from the seed. A call that is answered `NoMemory` is made again, up to
-/// `tries` times in all. A thread stops at the first call that isn't answered as is wanted, and
+/// `tries` times in all. A thread stops at the first call that isn't answered as expected, and
 /// `Acted` has its row. Refused as `Server::seat` is, `NoMemory`, or `OutOfStep` where the scenario
 /// has no thread.
 pub fn stage<N: Named + Send + Sync, R: Threads + Wait + Sync>(
@@ -101,7 +101,7 @@ pub fn stage<N: Named + Send + Sync, R: Threads + Wait + Sync>(
     Ok(Done { acted, retired })
 }
 
-/// Plays the turns of a scenario, up to one in which a call isn't answered as is wanted.
+/// Plays the turns of a scenario, up to one in which a call isn't answered as expected.
 fn act<N: Named + Send + Sync, R: Threads + Wait + Sync>(
     rt: &R,
     alloc: Global,

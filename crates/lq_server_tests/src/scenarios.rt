@@ -33,7 +33,7 @@ fn play<R: Threads + Wait + Sync>(
             if let Some(row) = done.acted.stop {
                 return Err(Fail::from((scenario.name, row)));
             }
-            if !done.is_told(alloc)? {
+            if !done.is_right(alloc)? {
                 return Err(Fail::from(scenario.name));
             }
         }

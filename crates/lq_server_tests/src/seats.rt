@@ -125,13 +125,13 @@ fn goes_on<N: Named, R: Wait>(
     ensures { (reader.new.seat.board ≡ N.board) × IsOwn reader.new }
 {
     add(rt, alloc, server, reader.seat())?;
-    let told = is_first(reader.read(rt)?);
+    let is_read = is_first(reader.read(rt)?);
     reader.hang_up(server);
     let refused = add(rt, alloc, server, reader.seat()).err();
     let marked = is_mark(reader.read(rt)?);
     let late = server.close(rt, reader).err();
     let is_refused = refused == Some(Refusal::Exists) && late == Some(Refusal::NotOpen);
-    Ok(told && is_refused && marked)
+    Ok(is_read && is_refused && marked)
 }
 
 fn goes_on_at<N: Named, R: Wait>(rt: &R, alloc: Global, base: Base) -> Result<bool, Refusal>
