@@ -1,5 +1,5 @@
 //! The calls in the tables of the scenarios, and the answers that are expected.
-use crate::random_changes::{Draws, numbered};
+use crate::random_changes::{DrawnOpening, Draws, numbered};
 use lq_update::Cause;
 use lq_value::{AttrName, Entry, Kind, Name, Refusal, Value};
 use lq_volume::Change;
@@ -94,6 +94,15 @@ pub enum Expected {
 /// A call, and the expected answer.
 pub type Call = (Act, Expected);
 
+/// Calls that a thread makes in turn: once, or this many times.
+pub enum Table {
+    Once(&'static [Call]),
+    Times(usize, &'static [Call]),
+}
+
+/// What a call answers.
+pub type Answer = Result<Expected, Refusal>;
+
 /// Returns whether these are just the entries of the rows, in order.
 pub fn are_entries(entries: &[Entry], rows: &[Row]) -> bool {
     for (entry, (name, node)) in entries.iter().zip(rows) {
@@ -135,6 +144,22 @@ pub fn change(alloc: Global, draws: &mut Draws, act: &Act) -> Result<Option<Chan
     }))
 }
 
+/// The opening that an act asks for, if it asks for one.
+pub fn opening(draws: &mut Draws, act: &Act) -> Option<DrawnOpening> {
+    let (query, port, backlog, moved) = match act {
+        Act::Open(query, port, backlog) => (*query, *port, *backlog, false),
+        Act::OpenMoved(query, port, backlog) => (*query, *port, *backlog, true),
+        Act::OpenDrawn => return Some(draws.opening()),
+        _ => return None,
+    };
+    Some(DrawnOpening {
+        query,
+        port,
+        backlog,
+        moved,
+    })
+}
+
 /// A change that makes an empty file of this name in the root.
 pub fn file(name: Name) -> Change {
     Change::Create {
@@ -144,4 +169,13 @@ pub fn file(name: Name) -> Change {
         size: 0,
         time: 0,
     }
+}
+
+/// Changes that make empty files of these names in the root.
+pub fn files(alloc: Global, names: &[&str]) -> Result<Vec<Change>, Refusal> {
+    let mut changes = Vec::with_capacity(alloc, names.len())?;
+    for name in names {
+        changes.push(file(Name::read(alloc, name)?))?;
+    }
+    Ok(changes)
 }

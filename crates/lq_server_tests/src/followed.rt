@@ -1,26 +1,14 @@
 //! Runs lq_model's server with a reader beside it, and compares what both leave.
-use crate::acts::{Row, are_entries, file};
+use crate::acts::{Row, are_entries, files};
 use crate::scenario::base;
 use lq_model::{Followed, follow};
 use lq_predicate::read;
 use lq_update::Cause;
-use lq_value::{Name, Refusal};
-use lq_volume::Change;
-use std::alloc::Global;
 use std::marker::Brand;
 use std::test::Fail;
 
 // the result after as many changes
 const RESULTS: [&[Row]; 4] = [&[], &[("a1", 2)], &[("a1", 2)], &[("a1", 2), ("a2", 4)]];
-
-// A change that makes a file, for each of three names.
-fn files(alloc: Global) -> Result<Vec<Change>, Refusal> {
-    let mut changes = Vec::new(alloc);
-    for name in ["a1", "b", "a2"] {
-        changes.push(file(Name::read(alloc, name)?))?;
-    }
-    Ok(changes)
-}
 
 // Whether the entries are the result after the mark's change, and the volume is that after all.
 fn is_right(followed: &Followed) -> bool {
@@ -41,7 +29,7 @@ fn a_query_is_followed(rt: HostRuntime) -> Result<(), Fail> {
     let alloc = rt.alloc();
     let base = base(alloc)?;
     let predicate = read(alloc, "name='a*'")?;
-    let changes = files(alloc)?;
+    let changes = files(alloc, &["a1", "b", "a2"])?;
     let followed = follow::<Brand, _>(&rt, base, &predicate, &changes, 2)?;
     assert!(rt; is_right(&followed));
     Ok(())

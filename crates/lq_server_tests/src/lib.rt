@@ -3,8 +3,8 @@
 //! A `Scenario` is tables of calls (`Act`), each with the expected answer (`Expected`). `stage`
 //! plays it at a new server, and `Done::is_right` compares what was accepted and read with a plain
 //! reference, which takes the difference of two whole results. Begin with `acts`, then `scenario`,
-//! `party` and `reference`; the tests stand in `one_thread`, `more_threads`, `scenarios`, `seats`,
-//! `waits`, `followed` and `again`.
+//! `party`, `reader_log` and `reference`; the tests are in `scenarios`, `seats`, `waits`, `followed`
+//! and `again`, and the tables of `scenarios` in `one_thread`, `more_threads` and `fills`.
 #![tactic(auto)]
 
 #[cfg(test)]
@@ -20,11 +20,11 @@ mod more_threads;
 #[cfg(test)]
 mod one_thread;
 #[cfg(test)]
-mod owned_tokens;
-#[cfg(test)]
 mod party;
 #[cfg(test)]
 mod random_changes;
+#[cfg(test)]
+mod reader_log;
 #[cfg(test)]
 mod reference;
 #[cfg(test)]

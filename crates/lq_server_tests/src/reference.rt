@@ -1,13 +1,12 @@
 //! The messages that readers have to read: for each accepted change, the difference of two whole
 //! results.
-use crate::acts::Expected;
-use crate::random_changes::DrawnOpening;
+use crate::acts::{Answer, Expected};
 use lq_desk_sub::Read;
-use lq_predicate::{Predicate, read};
+use lq_predicate::read;
 use lq_server::Accepted;
 use lq_update::{Mark, Message, Opcode};
 use lq_value::{Entry, Refusal};
-use lq_volume::{Change, EntryRef, Volume};
+use lq_volume::{Change, Volume};
 use std::alloc::Global;
 use std::fmt::Debug;
 
@@ -21,9 +20,6 @@ pub struct Taken {
     pub change: Change,
 }
 
-/// The results of a query after each number of changes, none first.
-pub type Results = Vec<Vec<Entry>>;
-
 /// How an entry is reported.
 #[derive(Clone, Copy)]
 enum Line {
@@ -32,16 +28,16 @@ enum Line {
     Created,
 }
 
-/// One subscription: what was asked, its slot, the numbers of changes known before its opening, at
-/// it and after it, and its mark.
+/// One subscription: what was asked, the numbers of changes known before its opening, at it and
+/// after it, and its mark.
 ///
-/// Where its reader is kept, also the result that it began with, what it read up to its end, and
-/// the result then.
+/// If its reader is kept, also the result that it began with, what it read up to its end, and the
+/// result then.
 #[derive(Drop)]
 pub struct Log {
+    pub alloc: Global,
     pub query: &'static str,
     pub moved: bool,
-    pub slot: u64,
     pub from: u64,
     pub opened: u64,
     pub to: u64,
@@ -56,59 +52,30 @@ pub fn text<T: Debug>(alloc: Global, value: &T) -> Result<String, Refusal> {
     Ok(format!(in alloc; "{value:?}")?)
 }
 
-/// Whether a volume answers a change as the server did.
-fn is_answered(volume: &mut Volume, taken: &Taken) -> bool {
-    match volume.apply(&taken.change) {
-        Ok(applied) => {
-            applied.change == taken.accepted.change && applied.node == taken.accepted.node
-        }
-        Err(_) => false,
-    }
-}
-
 /// Whether a volume answers all changes as the server did.
 fn are_answered(volume: &mut Volume, taken: &[Taken]) -> bool {
-    for one in taken {
-        if !is_answered(volume, one) {
-            return false;
+    for Taken { accepted, change } in taken {
+        match volume.apply(change) {
+            Ok(applied) if (applied.change, applied.node) == (accepted.change, accepted.node) => {}
+            _ => return false,
         }
     }
     true
 }
 
-/// Whether two entries have the same attributes, in the same order.
-fn have_same_attrs(
-    alloc: Global,
-    one: &EntryRef<'_>,
-    other: &EntryRef<'_>,
-) -> Result<bool, Refusal> {
-    for index in 0..one.attr_count().max(other.attr_count()) {
-        if text(alloc, &one.attr_at(index))? != text(alloc, &other.attr_at(index))? {
-            return Ok(false);
-        }
+/// What the entry of a node shows as, with its attributes in order, or why there is none.
+fn shown_entry(alloc: Global, volume: &Volume, node: u64) -> Result<String, Refusal> {
+    let entry = match volume.entry(node) {
+        Ok(entry) => entry,
+        Err(refusal) => return text(alloc, &refusal),
+    };
+    let (dir, name, kind) = (entry.dir(), entry.name(), entry.kind());
+    let (size, time) = (entry.size(), entry.time());
+    let mut shown = format!(in alloc; "{dir} {name:?} {kind:?} {size} {time}")?;
+    for index in 0..entry.attr_count() {
+        shown.push_str(&text(alloc, &entry.attr_at(index))?)?;
     }
-    Ok(true)
-}
-
-/// Whether a node has the same entry in two volumes, or none in both.
-fn have_same_entry(
-    alloc: Global,
-    one: &Volume,
-    other: &Volume,
-    node: u64,
-) -> Result<bool, Refusal> {
-    match (one.entry(node), other.entry(node)) {
-        (Ok(entry), Ok(same)) => Ok(
-            entry.dir() == same.dir()
-                && entry.name() == same.name()
-                && entry.kind() == same.kind()
-                && entry.size() == same.size()
-                && entry.time() == same.time()
-                && have_same_attrs(alloc, &entry, &same)?,
-        ),
-        (Err(refusal), Err(same)) => Ok(refusal == same),
-        _ => Ok(false),
-    }
+    Ok(shown)
 }
 
 /// Whether a plain volume answers these changes as the server did, and the volume that is left has
@@ -117,37 +84,24 @@ pub fn is_left(alloc: Global, left: &Volume, taken: &[Taken]) -> Result<bool, Re
     let mut volume = Volume::new(alloc, LIMIT);
     let answered = are_answered(&mut volume, taken);
     for node in 0..taken.len() as u64 + 2 {
-        if !have_same_entry(alloc, &volume, left, node)? {
+        if shown_entry(alloc, &volume, node)? != shown_entry(alloc, left, node)? {
             return Ok(false);
         }
     }
     Ok(answered && left.changes() == volume.changes())
 }
 
-/// Adds what a query finds in a volume after each number of changes, none first.
-fn put_results(
-    volume: &mut Volume,
-    predicate: &Predicate,
-    taken: &[Taken],
-    results: &mut Results,
-) -> Result<(), Refusal> {
-    results.push(volume.fetch(predicate)?)?;
+/// What a query finds after each number of changes, none first.
+pub fn results_of(alloc: Global, query: &str, taken: &[Taken]) -> Result<Vec<Vec<Entry>>, Refusal> {
+    let predicate = read(alloc, query)?;
+    let mut volume = Volume::new(alloc, LIMIT);
+    let mut results = Vec::new(alloc);
+    results.push(volume.fetch(&predicate)?)?;
     for one in taken {
         volume.apply(&one.change)?;
-        results.push(volume.fetch(predicate)?)?;
+        results.push(volume.fetch(&predicate)?)?;
     }
-    Ok(())
-}
-
-/// Adds what a query finds after each number of changes, none first.
-pub fn find_results(
-    alloc: Global,
-    query: &str,
-    taken: &[Taken],
-    results: &mut Results,
-) -> Result<(), Refusal> {
-    let predicate = read(alloc, query)?;
-    put_results(&mut Volume::new(alloc, LIMIT), &predicate, taken, results)
+    Ok(results)
 }
 
 /// The entry of the same node in another result.
@@ -187,24 +141,8 @@ fn is_message_of(message: &Message, line: Line, entry: &Entry, other: Option<&En
 }
 
 impl Log {
-    /// The log of a subscription that isn't opened yet.
-    pub fn new(alloc: Global, asked: DrawnOpening) -> Log {
-        Log {
-            query: asked.query,
-            moved: asked.moved,
-            slot: 0,
-            from: 0,
-            opened: 0,
-            to: 0,
-            mark: None,
-            begun: None,
-            messages: Vec::new(alloc),
-            ended: None,
-        }
-    }
-
     /// What was read, and keeps it.
-    pub fn hear(&mut self, read: Read) -> Result<Expected, Refusal> {
+    pub fn hear(&mut self, read: Read) -> Answer {
         Ok(match read {
             Read::Update(message) => {
                 let answer = Expected::Update(message.seq, message.change, message.node);
@@ -224,7 +162,7 @@ impl Log {
 
     /// Whether it began with the result at its opening, read exactly the messages up to its mark,
     /// and ended with the result there.
-    pub fn is_right(&self, alloc: Global, results: &[Vec<Entry>]) -> Result<bool, Refusal> {
+    pub fn is_right(&self, results: &[Vec<Entry>]) -> Result<bool, Refusal> {
         let Some(mark) = self.mark else {
             return Ok(false);
         };
@@ -232,8 +170,8 @@ impl Log {
             self.from <= self.opened
                 && self.opened <= self.to
                 && self.has_messages(results, mark)
-                && is_result(alloc, results, self.opened, &self.begun)?
-                && is_result(alloc, results, mark.change, &self.ended)?,
+                && self.is_result(results, self.opened, &self.begun)?
+                && self.is_result(results, mark.change, &self.ended)?,
         )
     }
 
@@ -294,17 +232,17 @@ impl Log {
         let is_next = message.change == change && message.seq == next as u64;
         (is_next && message.last == is_last).then_some(message)
     }
-}
 
-/// Whether this was shown of the result after that many changes.
-fn is_result(
-    alloc: Global,
-    results: &[Vec<Entry>],
-    number: u64,
-    shown: &Option<String>,
-) -> Result<bool, Refusal> {
-    let Some(shown) = shown else {
-        return Ok(false);
-    };
-    Ok(text(alloc, &results.get(number as usize))? == *shown)
+    /// Whether this was shown of the result after that many changes.
+    fn is_result(
+        &self,
+        results: &[Vec<Entry>],
+        number: u64,
+        shown: &Option<String>,
+    ) -> Result<bool, Refusal> {
+        let Some(shown) = shown else {
+            return Ok(false);
+        };
+        Ok(text(self.alloc, &results.get(number as usize))? == *shown)
+    }
 }

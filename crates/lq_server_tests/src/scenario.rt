@@ -1,10 +1,10 @@
 //! A scenario: parties at one server, each in a thread of its own, turn by turn.
 ghost use Rattle.std.specs.Prelude.{◌≡◌, ◌≤◌, true};
 
-use crate::owned_tokens::SeatOf;
-use crate::party::{Acted, Party, Table};
-use crate::random_changes::{Draws, QUERIES};
-use crate::reference::{LIMIT, find_results, is_left};
+use crate::acts::Table;
+use crate::party::{Acted, Party};
+use crate::random_changes::QUERIES;
+use crate::reference::{LIMIT, is_left, results_of};
 use lq_server::{Base, Named, Retired, Server, servers_may_be_shared};
 use lq_value::Refusal;
 use lq_volume::Volume;
@@ -12,15 +12,13 @@ use std::alloc::Global;
 use std::sync::Wait;
 use std::thread::{Threads, for_each_mut};
 
-/// The calls of each of `threads` threads, turn by turn; they are played `rounds` times.
+/// The tables of each thread, one for each turn; the first thread has one for every turn.
 ///
-/// The tables of a turn are played side by side, by the first threads. One that waits stands before
-/// those that it waits for: where no thread can be made it is played after them.
+/// The tables of a turn are played side by side. A thread that waits comes before those that it
+/// waits for: if no thread can be made it is played after them.
 pub struct Scenario {
     pub name: &'static str,
-    pub threads: usize,
-    pub rounds: usize,
-    pub turns: &'static [&'static [Table]],
+    pub threads: &'static [&'static [Table]],
 }
 
 /// What the callers of a server did, and what the server left when it ended.
@@ -52,10 +50,9 @@ impl Done {
 impl Acted {
     /// Whether each reader of this query that was kept read exactly the messages of the changes.
     fn are_right(&self, alloc: Global, query: &str) -> Result<bool, Refusal> {
-        let mut results = Vec::new(alloc);
-        find_results(alloc, query, &self.taken, &mut results)?;
+        let results = results_of(alloc, query, &self.taken)?;
         for log in &self.logs {
-            if log.query == query && !log.is_right(alloc, &results)? {
+            if log.query == query && !log.is_right(&results)? {
                 return Ok(false);
             }
         }
@@ -101,7 +98,7 @@ pub fn stage<N: Named + Send + Sync, R: Threads + Wait + Sync>(
     Ok(Done { acted, retired })
 }
 
-/// Plays the turns of a scenario, up to one in which a call isn't answered as expected.
+/// Plays the turns of a scenario.
 fn act<N: Named + Send + Sync, R: Threads + Wait + Sync>(
     rt: &R,
     alloc: Global,
@@ -113,16 +110,16 @@ fn act<N: Named + Send + Sync, R: Threads + Wait + Sync>(
     requires { N.board.free ≡ true }
 {
     let mut parties = gather(rt, alloc, server, tries, seed, scenario)?;
-    for turn in scenario.turns {
-        for (place, party) in parties.iter_mut().enumerate() {
-            party.table = turn.get(place);
-        }
+    let Some(first) = scenario.threads.first() else {
+        return Err(Refusal::OutOfStep);
+    };
+    for _ in 0..first.len() {
         servers_may_be_shared::<N>();
         for_each_mut(
             rt,
             &mut parties,
             4,
-            &|_, party: &mut Party<N>| { party.play(rt, alloc, server) },
+            &|_, party: &mut Party<N>| { party.play(rt, server) },
         );
     }
     match parties.pop() {
@@ -146,23 +143,9 @@ fn gather<N: Named, R: Wait>(
         Ok(parties) => parties,
         Err(_) => Vec::with_capacity(alloc, 4)?,
     };
-    for place in 0..scenario.threads {
-        parties.push(Party {
-            seat: SeatOf::new(rt, server)?,
-            reader: None,
-            draws: Draws {
-                state: (seed as u64).wrapping_mul(4) ^ place as u64,
-                newest: 1,
-                made: 0,
-            },
-            table: None,
-            tries,
-            acted: Acted {
-                taken: Vec::new(alloc),
-                logs: Vec::new(alloc),
-                stop: None,
-            },
-        })?;
+    for (place, tables) in scenario.threads.iter().enumerate() {
+        let state = (seed as u64).wrapping_mul(4) ^ place as u64;
+        parties.push(Party::new(rt, alloc, server, tables, tries, state)?)?;
     }
     Ok(parties)
 }

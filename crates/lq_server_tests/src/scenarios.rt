@@ -8,6 +8,7 @@ use crate::one_thread::{
 };
 use crate::reference::LIMIT;
 use crate::scenario::{Scenario, base, base_with, stage};
+use crate::seats::run_out;
 use lq_server::{Base, Named, Server};
 use lq_value::Refusal;
 use std::alloc::Global;
@@ -16,95 +17,95 @@ use std::sync::Wait;
 use std::test::Fail;
 use std::thread::Threads;
 
-/// Plays scenarios, each at servers of its own, whose volumes take `limit` changes: whether each is
-/// answered as its tables say.
-fn play<R: Threads + Wait + Sync>(
+/// Plays a scenario this many times, each at a server of its own, whose volume takes `limit`
+/// changes: whether it is answered as its tables say.
+fn play_rounds<R: Threads + Wait + Sync>(
     rt: &R,
     alloc: Global,
     limit: u64,
-    scenarios: &[&Scenario],
+    rounds: usize,
+    scenario: &Scenario,
 ) -> Result<(), Fail>
     requires { (1 ≤ limit) × (limit ≤ 1000000000000) }
 {
-    for scenario in scenarios {
-        for round in 0..scenario.rounds {
-            let base = base_with(alloc, limit)?;
-            let mut done = stage::<Brand, _>(rt, alloc, base, 1, round, scenario)?;
-            if let Some(row) = done.acted.stop {
-                return Err(Fail::from((scenario.name, row)));
-            }
-            if !done.is_right(alloc)? {
-                return Err(Fail::from(scenario.name));
-            }
+    for round in 0..rounds {
+        let base = base_with(alloc, limit)?;
+        let mut done = stage::<Brand, _>(rt, alloc, base, 1, round, scenario)?;
+        if let Some(row) = done.acted.stop {
+            return Err(Fail::from((scenario.name, row)));
         }
+        if !done.is_right(alloc)? {
+            return Err(Fail::from(scenario.name));
+        }
+    }
+    Ok(())
+}
+
+/// Plays scenarios, each once.
+fn play<R: Threads + Wait + Sync>(
+    rt: &R,
+    alloc: Global,
+    scenarios: &[&Scenario],
+) -> Result<(), Fail> {
+    for scenario in scenarios {
+        play_rounds(rt, alloc, LIMIT, 1, scenario)?;
     }
     Ok(())
 }
 
 #[test]
 fn each_call_answers(rt: HostRuntime) -> Result<(), Fail> {
-    play(&rt, rt.alloc(), LIMIT, &[&EACH])
+    play(&rt, rt.alloc(), &[&EACH])
 }
 
 #[test]
 fn slots_and_openings_run_out(rt: HostRuntime) -> Result<(), Fail> {
-    play(&rt, rt.alloc(), LIMIT, &[&SLOTS])
+    play(&rt, rt.alloc(), &[&SLOTS])
 }
 
 #[test]
 fn each_call_notices_and_fills(rt: HostRuntime) -> Result<(), Fail> {
-    play(&rt, rt.alloc(), LIMIT, &[&REFUSED, &ROOM, &ENDS, &COUNTED])
+    play(&rt, rt.alloc(), &[&REFUSED, &ROOM, &ENDS, &COUNTED])
 }
 
 #[test]
 fn drawn_schedules_are_answered(rt: HostRuntime) -> Result<(), Fail> {
-    play(&rt, rt.alloc(), LIMIT, &[&DRAWN])
+    play_rounds(&rt, rt.alloc(), LIMIT, 3, &DRAWN)
 }
 
 #[test]
 fn scenario_two_writers(rt: HostRuntime) -> Result<(), Fail> {
-    play(&rt, rt.alloc(), LIMIT, &[&WRITERS_CREATE, &WRITERS_WRITE])
+    play(&rt, rt.alloc(), &[&WRITERS_CREATE, &WRITERS_WRITE])
 }
 
 #[test]
 fn scenario_threaded_window(rt: HostRuntime) -> Result<(), Fail> {
-    play(&rt, rt.alloc(), LIMIT, &[&WINDOW])
+    play(&rt, rt.alloc(), &[&WINDOW])
 }
 
 #[test]
 fn scenario_slot_reuse_on_server(rt: HostRuntime) -> Result<(), Fail> {
-    play(
-        &rt,
-        rt.alloc(),
-        LIMIT,
-        &[&SLOT_AFTER_HANG_UP, &SLOT_AFTER_CLOSE],
-    )
+    play(&rt, rt.alloc(), &[&SLOT_AFTER_HANG_UP, &SLOT_AFTER_CLOSE])
 }
 
 #[test]
 fn scenario_hang_up_races_changes(rt: HostRuntime) -> Result<(), Fail> {
-    play(&rt, rt.alloc(), LIMIT, &[&HANG_UP_BESIDE_CHANGES])
+    play_rounds(&rt, rt.alloc(), LIMIT, 20, &HANG_UP_BESIDE_CHANGES)
 }
 
-// Whether 16 seats are given, no 17th, and one more after one is given back.
+// Whether 16 seats are given, no 17th, and one more after one comes back.
 fn seats_run_out<N: Named, R: Wait>(rt: &R, base: Base) -> Result<bool, Refusal>
     requires { (base.board ≡ N.board) × (base.volume ≡ N.start) }
 {
     let server: Server<N> = Server::new(base);
     let seat = server.seat(rt)?;
-    for _ in 0..15 {
-        server.seat(rt)?;
-    }
-    let refused = server.seat(rt).err();
-    server.give_back(rt, seat);
-    server.seat(rt)?;
-    Ok(refused == Some(Refusal::NoSeat))
+    run_out(rt, &server, seat, 15)
 }
 
 #[test]
 fn scenario_seats_and_drops(rt: HostRuntime) -> Result<(), Fail> {
     let seats = base(rt.alloc())?;
     assert!(rt; seats_run_out::<Brand, _>(&rt, seats)?);
-    play(&rt, rt.alloc(), LIMIT, &[&SEATS, &READERS_DROPPED])?;
-    play(&rt, rt.alloc(), 2, &[&TWO_OPENINGS])
+    play(&rt, rt.alloc(), &[&SEATS, &READERS_DROPPED])?;
+    play_rounds(&rt, rt.alloc(), 2, 1, &TWO_OPENINGS)
 }

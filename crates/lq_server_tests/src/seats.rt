@@ -163,12 +163,24 @@ fn a_counted_server_counts_a_readers_seat(rt: HostRuntime) -> Result<(), Fail> {
     Ok(())
 }
 
-/// Takes this many seats and drops them, so that they stay out. Refused: `NoSeat`.
-fn take_seats<N: Named, R: Wait>(rt: &R, server: &Server<N>, number: u64) -> Result<(), Refusal> {
+/// Whether this many more seats are given, no other, and one in place of a seat that comes back. A
+/// dropped seat stays out.
+pub fn run_out<N: Named, R: Wait>(
+    rt: &R,
+    server: &Server<N>,
+    seat: Seat,
+    number: u64,
+) -> Result<bool, Refusal>
+    requires { (seat.board ≡ N.board) × (seat.slot ≡ 0) }
+{
     for _ in 0..number {
         server.seat(rt)?;
     }
-    Ok(())
+    let refused = server.seat(rt).err();
+    server.give_back(rt, seat);
+    server.seat(rt)?;
+    let again = server.seat(rt).err();
+    Ok(refused == Some(Refusal::NoSeat) && again == Some(Refusal::NoSeat))
 }
 
 /// Whether 15 seats can be out beside the leading seat, and one more in place of that.
@@ -176,12 +188,7 @@ fn seats_beside_a_leading_one<N: Named, R: Wait>(rt: &R, base: Base) -> Result<b
     requires { (N.board ≡ counted_board base.board) × (base.volume ≡ N.start) }
 {
     let (server, head): (Server<N>, Seat) = Server::counted(base);
-    take_seats(rt, &server, 15)?;
-    let refused = server.seat(rt).err();
-    server.give_back(rt, head);
-    take_seats(rt, &server, 1)?;
-    let again = server.seat(rt).err();
-    Ok(refused == Some(Refusal::NoSeat) && again == Some(Refusal::NoSeat))
+    run_out(rt, &server, head, 15)
 }
 
 #[test]

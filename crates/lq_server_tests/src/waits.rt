@@ -2,11 +2,11 @@
 ghost use Rattle.std.specs.Prelude.{◌≡◌, true};
 ghost use Rattle.lq_server.specs.Own.{IsOwn};
 
-use crate::acts::file;
+use crate::acts::files;
 use crate::scenario::base;
 use lq_predicate::{Predicate, read};
 use lq_server::{Base, Named, Read, Reader, Seat, Server, Work, join_over, map_over};
-use lq_value::{Name, Refusal};
+use lq_value::Refusal;
 use lq_volume::Change;
 use std::alloc::Global;
 use std::marker::Brand;
@@ -21,7 +21,8 @@ const FETCHES: u64 = 400;
 /// The most fetches until a reader has come. Where no thread can be made it comes last.
 const MOST_FETCHES: u64 = 1_000_000;
 
-/// A reader that says that it comes, and then waits for this many messages.
+/// A reader that says that it comes, and then reads this many messages by waiting: how many come in
+/// their order.
 #[derive(Drop)]
 struct Waits<'a> {
     reader: Reader,
@@ -38,16 +39,22 @@ impl<'a> Work for Waits<'a> {
 
     fn work<N: Named, R: Wait>(self, rt: &R, server: &Server<N>) -> Result<u64, Refusal> {
         let Waits {
-            reader,
+            mut reader,
             messages,
             has_come,
         } = self;
         has_come.store(true, Ordering::SeqCst);
-        count_waiting(rt, server, reader, messages)
+        for count in 0..messages {
+            match reader.read_waiting(rt, server)? {
+                Read::Update(message) if message.seq == count + 1 => {}
+                _ => return Ok(count),
+            }
+        }
+        Ok(messages)
     }
 }
 
-/// A writer that fetches until a reader has come and once more, before it makes its changes.
+/// A writer that fetches until a reader has come and then `FETCHES` times, and makes its changes.
 #[derive(Drop)]
 struct Writes<'a> {
     seat: Seat,
@@ -59,7 +66,7 @@ struct Writes<'a> {
 impl<'a> Work for Writes<'a> {
     type Given = Result<u64, Refusal>;
 
-    ghost can = { λ writes board. (writes.seat.board ≡ board) × (writes.seat.slot ≡ 0)
+    ghost can = { λ writes board. (writes.seat.board ≡ board)
         × (writes.seat.author.signs ≡ true) };
 
     ghost gives = { λ _ _ _. Unit {0} };
@@ -71,84 +78,21 @@ impl<'a> Work for Writes<'a> {
             changes,
             has_come,
         } = self;
-        fetch_until(rt, server, &mut seat, predicate, has_come)?;
-        fetch_often(rt, server, &mut seat, predicate)?;
-        apply_all(rt, server, &mut seat, changes)?;
+        let mut left = FETCHES;
+        for _ in 0..MOST_FETCHES {
+            if has_come.load(Ordering::SeqCst) {
+                left = left.saturating_sub(1);
+            }
+            if left == 0 {
+                break;
+            }
+            server.fetch(rt, &mut seat, predicate)?;
+        }
+        for change in changes {
+            server.apply(rt, &mut seat, change)?;
+        }
         Ok(server.latest(&mut seat))
     }
-}
-
-/// How many messages come in their order, each by one read that waits, `messages` at most.
-fn count_waiting<N: Named, R: Wait>(
-    rt: &R,
-    server: &Server<N>,
-    mut reader: Reader,
-    messages: u64,
-) -> Result<u64, Refusal>
-    requires { (reader.seat.board ≡ N.board) × IsOwn reader }
-{
-    for count in 0..messages {
-        match reader.read_waiting(rt, server)? {
-            Read::Update(message) if message.seq == count + 1 => {}
-            _ => return Ok(count),
-        }
-    }
-    Ok(messages)
-}
-
-fn fetch_until<N: Named, R: Wait>(
-    rt: &R,
-    server: &Server<N>,
-    seat: &mut Seat,
-    predicate: &Predicate,
-    has_come: &AtomicBool,
-) -> Result<(), Refusal>
-    requires { (seat.old.board ≡ N.board) × (seat.old.slot ≡ 0)
-        × (seat.old.author.signs ≡ true) }
-    ensures { (seat.new.board ≡ N.board) × (seat.new.slot ≡ 0)
-        × (seat.new.author.signs ≡ true) }
-{
-    for _ in 0..MOST_FETCHES {
-        if has_come.load(Ordering::SeqCst) {
-            return Ok(());
-        }
-        server.fetch(rt, seat, predicate)?;
-    }
-    Ok(())
-}
-
-fn fetch_often<N: Named, R: Wait>(
-    rt: &R,
-    server: &Server<N>,
-    seat: &mut Seat,
-    predicate: &Predicate,
-) -> Result<(), Refusal>
-    requires { (seat.old.board ≡ N.board) × (seat.old.slot ≡ 0)
-        × (seat.old.author.signs ≡ true) }
-    ensures { (seat.new.board ≡ N.board) × (seat.new.slot ≡ 0)
-        × (seat.new.author.signs ≡ true) }
-{
-    for _ in 0..FETCHES {
-        server.fetch(rt, seat, predicate)?;
-    }
-    Ok(())
-}
-
-fn apply_all<N: Named, R: Wait>(
-    rt: &R,
-    server: &Server<N>,
-    seat: &mut Seat,
-    changes: &[Change],
-) -> Result<(), Refusal>
-    requires { (seat.old.board ≡ N.board) × (seat.old.slot ≡ 0)
-        × (seat.old.author.signs ≡ true) }
-    ensures { (seat.new.board ≡ N.board) × (seat.new.slot ≡ 0)
-        × (seat.new.author.signs ≡ true) }
-{
-    for change in changes {
-        server.apply(rt, seat, change)?;
-    }
-    Ok(())
 }
 
 /// How many messages a reader got that waited for them beside the changes.
@@ -215,20 +159,11 @@ fn look_thrice<N: Named + Send + Sync, R: Threads + Wait + Sync>(
     map_over(rt, &server, works)
 }
 
-/// Five files.
-fn files(alloc: Global) -> Result<Vec<Change>, Refusal> {
-    let mut changes = Vec::with_capacity(alloc, 5)?;
-    for name in ["a", "b", "c", "d", "e"] {
-        changes.push(file(Name::read(alloc, name)?))?;
-    }
-    Ok(changes)
-}
-
 #[test]
 fn a_read_waits_for_the_next_change(rt: HostRuntime) -> Result<(), Fail> {
     let base = base(rt.alloc())?;
     let predicate = read(rt.alloc(), "name=*")?;
-    let changes = files(rt.alloc())?;
+    let changes = files(rt.alloc(), &["a", "b", "c", "d", "e"])?;
     let waited = wait_beside::<Brand, _>(&rt, base, &predicate, &changes)?;
     assert!(rt; waited == 5);
     Ok(())
