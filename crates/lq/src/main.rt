@@ -8,10 +8,10 @@ use std::process::ExitCode;
 use std::{env, io};
 
 /// The status of a run that had no memory, for its words or for its stack.
-const NO_MEMORY: u8 = 1;
+const EXIT_NO_MEMORY: u8 = 1;
 
 /// The status of a run with a word that is not UTF-8.
-const USAGE: u8 = 2;
+const EXIT_USAGE: u8 = 2;
 
 /// The stack that is taken before all else, in bytes: more than any script was seen to take, of
 /// which `threads` takes the most.
@@ -23,11 +23,11 @@ fn main(rt: HostRuntime) -> ExitCode {
         Ok(words) => words,
         Err(error) if error.kind() == io::ErrorKind::OutOfMemory => {
             let _ = faults.write(b"lq: no memory\n");
-            return ExitCode::from(NO_MEMORY);
+            return ExitCode::from(EXIT_NO_MEMORY);
         }
         Err(_) => {
             let _ = faults.write(b"lq: usage\n");
-            return ExitCode::from(USAGE);
+            return ExitCode::from(EXIT_USAGE);
         }
     };
     let mut reader = Host::new(rt.stdin());

@@ -9,7 +9,7 @@ use Rattle.lq_volume.specs.Book.{Book}
 use Rattle.lq_board.specs.Known.{KnownSlot, Author, Register, Sitting, Keeping, TokenView, Keeper, Seat, Pair, Spent}
 use Rattle.lq_board.specs.Author.{no_author}
 use Rattle.lq_board.specs.Slot.{unused, slot_at}
-use Rattle.lq_board.specs.View.{plain, of_no_slot}
+use Rattle.lq_board.specs.View.{slotless_sitting, of_no_slot}
 use Rattle.lq_board.specs.Rule.{CameBack, Sits, SeatFits, ViewFits, Roll, Owns, BoardState, BoardRule, IsKept}
 use Rattle.lq_board.proofs.BookLemmas.{extends_self}
 
@@ -157,7 +157,7 @@ module _ {M : Type 0} where
       (λ i. ((sym is i).0, (sym are i).0)) join
 
   -- a seat of no slot came back that knew all
-  pub came_self : (book : Book) → CameBack {M = M} book (plain book no_author) unused
+  pub came_self : (book : Book) → CameBack {M = M} book (slotless_sitting book no_author) unused
   came_self book = (extends_self book, λ (lt : 0 < 0). absurd (omega arith))
 
   -- a seat's slot, where its word is known

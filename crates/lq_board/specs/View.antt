@@ -10,8 +10,8 @@ use Rattle.lq_board.specs.Slot.{unused, unused_slots, slot_at, gone_out, go_out,
 
 module _ {M : Type 0} where
   -- a seat of no slot
-  abbrev pub plain : Book → Author → Sitting M
-  plain book author =
+  abbrev pub slotless_sitting : Book → Author → Sitting M
+  slotless_sitting book author =
       record { slot = 0; book = book; asks = 0; name = None; author = author; moments = [] }
 
   -- a keeper to which no seat came back since the latest one went out
@@ -21,7 +21,7 @@ module _ {M : Type 0} where
         book = book;
         slots = slots;
         register = register;
-        back = plain book no_author;
+        back = slotless_sitting book no_author;
         was = unused;
       }
 
@@ -38,16 +38,16 @@ module _ {M : Type 0} where
 
   abbrev pub sitting_of : TokenView M → Sitting M
   sitting_of (Seat w) = w
-  sitting_of _ = plain no_book no_author
+  sitting_of _ = slotless_sitting no_book no_author
 
   -- two seats, the first of no slot, while a call compares them
   abbrev pub first_sitting : TokenView M → Sitting M
   first_sitting (Pair a b) = a
-  first_sitting _ = plain no_book no_author
+  first_sitting _ = slotless_sitting no_book no_author
 
   abbrev pub second_of : TokenView M → Sitting M
   second_of (Pair a b) = b
-  second_of _ = plain no_book no_author
+  second_of _ = slotless_sitting no_book no_author
 
   abbrev pub paired : TokenView M → TokenView M → TokenView M
   paired v w = Pair (sitting_of v) (sitting_of w)
@@ -84,14 +84,14 @@ module _ {M : Type 0} where
       let k = keeping_of v in
       let moment : Moment M =
       record { book = k.book; slots = k.slots; openings = k.register.openings } in
-      Seat (record (plain k.book (new_author k.register)) { moments = moment ∷ [] })
+      Seat (record (slotless_sitting k.book (new_author k.register)) { moments = moment ∷ [] })
 
   -- the keeper and the seat after the leading seat is split off
   abbrev pub led : TokenView M → TokenView M
   led v = keeper (keeping_of v).book (keeping_of v).slots leader_register
 
   abbrev pub lead_of : TokenView M → TokenView M
-  lead_of v = Seat (plain (keeping_of v).book leader)
+  lead_of v = Seat (slotless_sitting (keeping_of v).book leader)
 
   -- the keeper and the seat after a slot's new seat is split off, under this name
   abbrev pub with_slot_seat : ℕ → Option M → TokenView M → TokenView M
@@ -103,7 +103,7 @@ module _ {M : Type 0} where
   seated slot name v =
       let k = keeping_of v in
       let asks = (slot_at k.slots slot).asks in
-      Seat (record (plain k.book (new_author k.register)) { slot = slot; asks = asks; name = name })
+      Seat (record (slotless_sitting k.book (new_author k.register)) { slot = slot; asks = asks; name = name })
 
   -- the keeper and the seat after the latest seat that came back is split off again, under this
   -- name

@@ -9,7 +9,7 @@ ghost use Rattle.lq_board.specs.Meeting.{GoesOut, WasOut};
 ghost use Rattle.lq_board.specs.Slot.{unused_slots, slot_at, come_back, counted};
 ghost use Rattle.lq_board.specs.Token.{counted_board, moment_of};
 
-use crate::step_types::{Ask, Back, Check, Count, Lead, Plain, See};
+use crate::step_types::{Ask, Back, Check, Count, Lead, See, Slotless};
 use crate::token_views::{Law, TokenView};
 use crate::tokens::{Keeper, Seat};
 use atomic_table::Table;
@@ -131,7 +131,7 @@ impl<M> Board<M> {
         } }
     {
         Seat {
-            token: Some(self.table.shared.split_seat::<Plain>(&mut keeper.token)),
+            token: Some(self.table.shared.split_seat::<Slotless>(&mut keeper.token)),
             slot: 0,
         }
     }

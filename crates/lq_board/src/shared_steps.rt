@@ -6,7 +6,7 @@ ghost use Rattle.lq_volume.specs.Change.{after, IsLawful};
 ghost use Rattle.lq_board.specs.Author.{with_opening, new_author, with_author, with_change};
 ghost use Rattle.lq_board.specs.Book.{IsFullBook};
 ghost use Rattle.lq_board.specs.Slot.{slot_at, gone_out};
-ghost use Rattle.lq_board.specs.View.{sitting_of, plain, IsSeat};
+ghost use Rattle.lq_board.specs.View.{sitting_of, slotless_sitting, IsSeat};
 ghost use Rattle.lq_board.specs.Meeting.{GoesOutAgain};
 
 use crate::board::Board;
@@ -26,7 +26,7 @@ impl<M> Board<M> {
             ≡ keeper.old.board }
         ensures free { keeper.old.register.free ≡ keeper.old.board.free }
         ensures view { IsSeat result.me (
-            record (plain keeper.old.book (new_author keeper.old.register)) {
+            record (slotless_sitting keeper.old.book (new_author keeper.old.register)) {
               slot = slot;
               asks = (slot_at keeper.old.slots slot).asks;
               name = W.name;

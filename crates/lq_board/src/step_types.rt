@@ -74,9 +74,9 @@ impl<M> Play<u8, TokenView<M>> for Ask {
 }
 
 // Makes a new seat of no slot.
-pub(crate) struct Plain;
+pub(crate) struct Slotless;
 
-impl<M> Split<TokenView<M>> for Plain {
+impl<M> Split<TokenView<M>> for Slotless {
     ghost use Rattle.lq_board.specs.View.{with_new_seat, copy_of};
 
     ghost left = { with_new_seat };

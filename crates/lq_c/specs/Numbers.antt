@@ -35,10 +35,10 @@ abbrev pub next_status : Bool → ℕ
 next_status there = if there then 0 else 4
 
 -- the next entry of the latest result; any other is refused
-abbrev pub NextOf : Bool → SessionState → SessionState → ℕ → RowOut → RowOut → Type 0
-NextOf true old new status before after =
+abbrev pub GivesNext : Bool → SessionState → SessionState → ℕ → RowOut → RowOut → Type 0
+GivesNext true old new status before after =
     (there : Bool) × (status ≡ next_status there) × GivesRow old new there before after old.entries
-NextOf false old new status before after = (status ≡ 40) × (new ≡ old) × (after ≡ before)
+GivesNext false old new status before after = (status ≡ 40) × (new ≡ old) × (after ≡ before)
 
 -- ---- pushes
 

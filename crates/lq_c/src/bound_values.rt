@@ -9,7 +9,7 @@ ghost use Rattle.lq_c.specs.Numbers.{made_after, shown_after};
 
 use crate::handle::Lq;
 use crate::numbers::number_result;
-use crate::outs::{Fetched, Opening};
+use crate::outs::{FetchedResult, OpeningResult};
 use lq_embed::{OpenOptions, quote_text};
 
 /// As `quote_text`.
@@ -62,7 +62,7 @@ pub extern "C" fn lqp_open_bound(
     made: &mut u64,
     formula: &[u8],
     options: &OpenOptions,
-    out: &mut Opening,
+    out: &mut OpeningResult,
 ) -> u32
     ensures opens { OpensBound (held_state handle.old) (held_state handle.new) options.now
         formula.now result out.old.opening out.new.opening }
@@ -81,7 +81,7 @@ pub extern "C" fn lqp_fetch_bound(
     handle: &mut Lq,
     made: &mut u64,
     formula: &[u8],
-    out: &mut Fetched,
+    out: &mut FetchedResult,
 ) -> u32
     ensures fetches { FetchesBound (held_state handle.old) (held_state handle.new) formula.now
         result out.old.fetched out.new.fetched }

@@ -10,7 +10,7 @@ ghost use Rattle.lq_c.specs.Numbers.{made_after, shown_after};
 
 use crate::handle::Lq;
 use crate::numbers::number_result;
-use crate::outs::Opening;
+use crate::outs::OpeningResult;
 use lq_embed::{MessageOut, OpenOptions};
 
 /// As `Embedded::open_by`, whose status it answers; `made` counts its result.
@@ -20,7 +20,7 @@ pub extern "C" fn lqp_open(
     made: &mut u64,
     formula: &[u8],
     options: &OpenOptions,
-    out: &mut Opening,
+    out: &mut OpeningResult,
 ) -> u32
     ensures opens { OpensBy (held_state handle.old) (held_state handle.new)
         (held_state handle.old).pushed options.now
@@ -66,13 +66,13 @@ pub extern "C" fn lqp_hang_up(handle: &mut Lq, slot: u64) -> u32
     handle.served_mut().embedded.hang_up(slot)
 }
 
-/// As `Embedded::end`, whose status it answers.
+/// As `Embedded::close`, whose status it answers.
 #[unsafe(no_mangle)]
 pub extern "C" fn lqp_close(handle: &mut Lq, slot: u64, change: &mut u64) -> u32
     ensures { Ends (held_state handle.old) (held_state handle.new) (Close slot) result change.old
         change.new }
 {
-    handle.served_mut().embedded.end(slot, change)
+    handle.served_mut().embedded.close(slot, change)
 }
 
 /// As `Embedded::finish`, whose status it answers.

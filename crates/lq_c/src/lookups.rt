@@ -10,7 +10,7 @@ ghost use Rattle.lq_c.specs.Numbers.{made_after, shown_after};
 
 use crate::handle::Lq;
 use crate::numbers::number_result;
-use crate::outs::{Fetched, Rebuilt};
+use crate::outs::{FetchedResult, RebuiltResult};
 use lq_embed::InfoOut;
 
 /// As `Embedded::fetch`, whose status it answers; `made` counts its result.
@@ -19,7 +19,7 @@ pub extern "C" fn lqp_fetch(
     handle: &mut Lq,
     made: &mut u64,
     formula: &[u8],
-    out: &mut Fetched,
+    out: &mut FetchedResult,
 ) -> u32
     ensures fetches { Fetches (held_state handle.old) (held_state handle.new)
         (held_state handle.old).pushed
@@ -53,7 +53,12 @@ pub extern "C" fn lqp_find_path(handle: &mut Lq, dir: u64, path: &[u8], node: &m
 
 /// As `Embedded::rebuilt`, whose status it answers; `made` counts its result.
 #[unsafe(no_mangle)]
-pub extern "C" fn lqp_result(handle: &mut Lq, made: &mut u64, slot: u64, out: &mut Rebuilt) -> u32
+pub extern "C" fn lqp_result(
+    handle: &mut Lq,
+    made: &mut u64,
+    slot: u64,
+    out: &mut RebuiltResult,
+) -> u32
     ensures rebuilds { Rebuilds (held_state handle.old) (held_state handle.new)
         (Ok (Look (look.Rebuilt slot))) result out.old.rebuilt out.new.rebuilt }
     ensures made { made.new ≡ made_after result made.old }

@@ -5,7 +5,7 @@ use lq_embed::{FetchedOut, OpeningOut, RebuiltOut};
 /// An opened query.
 #[repr(C)]
 #[derive(Drop)]
-pub struct Opening {
+pub struct OpeningResult {
     pub opening: OpeningOut,
     pub result: u64,
 }
@@ -13,7 +13,7 @@ pub struct Opening {
 /// A fetch.
 #[repr(C)]
 #[derive(Drop)]
-pub struct Fetched {
+pub struct FetchedResult {
     pub fetched: FetchedOut,
     pub result: u64,
 }
@@ -21,7 +21,7 @@ pub struct Fetched {
 /// A slot's rebuilt result.
 #[repr(C)]
 #[derive(Drop)]
-pub struct Rebuilt {
+pub struct RebuiltResult {
     pub rebuilt: RebuiltOut,
     pub result: u64,
 }

@@ -15,7 +15,7 @@ ghost use Rattle.lq_c.specs.Numbers.{PushesIn, after_take, has_room, made_after,
 
 use crate::handle::Lq;
 use crate::numbers::{MISUSE, count_push, count_taken, has_room, number_result};
-use crate::outs::{Fetched, Opening};
+use crate::outs::{FetchedResult, OpeningResult};
 use lq_embed::{OpenOptions, Push};
 
 /// As `Embedded::push`, whose status it answers; 40 where `pushes`, the count of those that were
@@ -119,7 +119,7 @@ pub extern "C" fn lqp_open_pushed(
     made: &mut u64,
     pushes: &mut u32,
     options: &OpenOptions,
-    out: &mut Opening,
+    out: &mut OpeningResult,
 ) -> u32
     ensures opens { OpensBy (held_state handle.old) (held_state handle.new)
         (left_by (held_state handle.old).pushed (only_part (held_state handle.old).pushed.items))
@@ -144,7 +144,7 @@ pub extern "C" fn lqp_fetch_pushed(
     handle: &mut Lq,
     made: &mut u64,
     pushes: &mut u32,
-    out: &mut Fetched,
+    out: &mut FetchedResult,
 ) -> u32
     ensures fetches { Fetches (held_state handle.old) (held_state handle.new)
         (left_by (held_state handle.old).pushed (only_part (held_state handle.old).pushed.items))

@@ -1,6 +1,6 @@
 //! The entries of a handle's latest result.
 ghost use Rattle.lq_c.specs.Held.{held_state};
-ghost use Rattle.lq_c.specs.Numbers.{NextOf, TakesOf, is_latest};
+ghost use Rattle.lq_c.specs.Numbers.{GivesNext, TakesOf, is_latest};
 
 use crate::handle::Lq;
 use crate::numbers::{MISUSE, is_latest};
@@ -32,7 +32,7 @@ pub extern "C" fn lqp_take(
 /// As `Embedded::next_entry`: 0, 4 where no entry is left, or 40 as `lqp_take`.
 #[unsafe(no_mangle)]
 pub extern "C" fn lqp_next(handle: &mut Lq, made: u64, number: u64, out: &mut RowOut) -> u32
-    ensures { NextOf (is_latest made number) (held_state handle.old) (held_state handle.new) result
+    ensures { GivesNext (is_latest made number) (held_state handle.old) (held_state handle.new) result
         out.old out.new }
 {
     if !is_latest(made, number) {

@@ -19,7 +19,7 @@ use Rattle.lq_desk_world.specs.World.{Subscribed, Ending, covered_by, covered, u
 use Rattle.lq_desk_world.specs.Events.{Took, reading_if, acting}
 use Rattle.lq_desk_world.specs.Fair.{IsFair}
 use Rattle.lq_desk_sub.specs.Held.{ended_by, with_messages}
-use Rattle.lq_desk.specs.Slot.{slot_after, is_read, read_if}
+use Rattle.lq_desk.specs.Slot.{slot_after, is_mark_read, read_if}
 use Rattle.lq_desk.specs.Act.{act_of}
 use Rattle.lq_desk.specs.DeskState.{held_for, slot_for}
 use Rattle.lq_desk.proofs.ListLemmas.{get-between}
@@ -34,7 +34,7 @@ read-alike : (t p l k n : ℕ) (o : Option Ending) → p ≤ l → l ≡ t + len
 read-alike t p l k n o put list taken wait = grind (arith, nat_tests)
 
 -- all is read in the slot just where it is over in the world
-is_read-same : (b : Book) (s : Subscribed) → IsFair b s → is_read (slot_for b s) ≡ is_over b s
+is_read-same : (b : Book) (s : Subscribed) → IsFair b s → is_mark_read (slot_for b s) ≡ is_over b s
 is_read-same b s f = read-alike (length (updates_due b s)) s.put (length (whole b s)) s.taken _
     s.end f.put (simp (length-append, length-map)) f.taken (queue-length b s f)
 

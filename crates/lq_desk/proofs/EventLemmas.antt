@@ -7,7 +7,7 @@ use Rattle.std.proofs.lemmas.Option.{slice_get-map, slice_get_within}
 use Rattle.lq_desk_world.specs.declared.event.Event.{Event}
 use Rattle.lq_desk_world.specs.declared.event.Event.TheVariants.{Put, Notice}
 use Rattle.lq_desk_world.specs.Events.{Answer}
-use Rattle.lq_desk_world.specs.Turns.{places_at, puts, after_events}
+use Rattle.lq_desk_world.specs.Turns.{places_at, put_events, after_events}
 use Rattle.lq_desk.specs.Slot.{KeptSlot, notice_slot, after_put, after_puts, filled, noticed}
 use Rattle.lq_desk.specs.DeskState.{DeskState, kept_at, kept_outcome}
 use Rattle.lq_desk.specs.KeptTurn.{slot_port, kept_ports, kept_after}
@@ -54,20 +54,20 @@ module _ (k : DeskState) (slot : ℕ) (s : KeptSlot) (is : kept_at k slot ≡ So
 
 -- several puts are those puts
 pub puts-taken : (n : ℕ) (k : DeskState) (slot : ℕ) (s : KeptSlot) → kept_at k slot ≡ Some s
-    → kept_after k (puts slot n) ≡ with_kept k slot (Some (after_puts n s))
+    → kept_after k (put_events slot n) ≡ with_kept k slot (Some (after_puts n s))
 puts-taken zero k slot s is =
     ap (at-slots k) (sym (set-same k.slots (slot - 1) (Some s) (slot-there k.slots slot s is)))
 puts-taken (suc n) k slot s is =
     let t = after_put s in
     let first : (kept_outcome k (Put slot)).1 ≡ with_kept k slot (Some t) = rw (is, put-some s) in
-    ap (λ j. kept_after j (puts slot n)) first
+    ap (λ j. kept_after j (put_events slot n)) first
     ∙ (puts-taken n (with_kept k slot (Some t)) slot t (kept-set k slot s is t)
     ∙ ap (at-slots k) (set-set k.slots (slot - 1) (Some t) (Some (after_puts n t))))
 
 -- as many puts as its port has places fill it, after it was altered
 pub filled-taken : (k : DeskState) (slot : ℕ) (s t : KeptSlot) → kept_at k slot ≡ Some s
     → t.port ≡ s.port
-    → kept_after (with_kept k slot (Some t)) (puts slot (places_at (kept_ports k) slot))
+    → kept_after (with_kept k slot (Some t)) (put_events slot (places_at (kept_ports k) slot))
     ≡ with_kept k slot (Some (filled t))
 filled-taken k slot s t is port =
     rw (places-taken k slot s is, ← port) (puts-taken t.port (with_kept k slot (Some t)) slot t

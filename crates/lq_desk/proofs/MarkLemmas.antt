@@ -14,7 +14,7 @@ use Rattle.lq_desk_sub.specs.SlotSet.{has}
 use Rattle.lq_desk_sub.specs.Visits.{Visits}
 use Rattle.lq_desk.specs.Slot.{KeptSlot, PreparedSlot, slot_of, can_move, close_if, filled, has_work, is_ending, noticed, passes, read_if}
 use Rattle.lq_desk.specs.Act.{close_turn, read_turn}
-use Rattle.lq_desk.specs.Words.{ArePlaces, AreWatched, IsMarked}
+use Rattle.lq_desk.specs.Words.{ArePlaces, AreWatched, MarksPassing}
 use Rattle.lq_desk.proofs.ListLemmas.{get-put}
 use Rattle.lq_desk.proofs.PassLemmas.{visits-from}
 use Rattle.lq_desk.proofs.PutLemmas.{KeepsSub, filled-ends, filled-still, noticed-still}
@@ -23,7 +23,7 @@ use Rattle.lq_desk.proofs.WatchLemmas.{watched-from, watched-left}
 
 -- a slot that isn't in the set fails the test
 pub unmarked : (test : KeptSlot → Bool) (set : ℕ) (xs : List (Option PreparedSlot)) (i : ℕ)
-    (x : PreparedSlot) → IsMarked test set (map kept_slot xs) → slice_get xs i ≡ Some (Some x)
+    (x : PreparedSlot) → MarksPassing test set (map kept_slot xs) → slice_get xs i ≡ Some (Some x)
     → has set i ≡ false → test (slot_of x) ≡ false
 unmarked test set xs i x marked found none = false_from_ne_true (test (slot_of x))
     (λ is. both_ways _ none (marked i (slot_of x) (kept-there xs i x found) is))
@@ -60,7 +60,7 @@ module _ {S : Type 0} (allows : S → ℕ → PreparedSlot → Type 0)
         → (test (slot_of x) ≡ true → has old i ≡ true) → test (slot_of y) ≡ true
         → has new i ≡ true)
         → ((i : ℕ) → p i ≡ false → has old i ≡ true → has new i ≡ true)
-        → IsMarked test old (map kept_slot xs) → IsMarked test new (map kept_slot ys)
+        → MarksPassing test old (map kept_slot xs) → MarksPassing test new (map kept_slot ys)
     marked-passed test old new visited left marked i k found is =
         let f = kept-from i k found in
         let was = marked i (slot_of f.0) f.2 in
@@ -120,8 +120,8 @@ places-none ends moves w = record {
 -- a set goes on marking the slots, after another thing was written at a place
 marked-set : (test : KeptSlot → Bool) (old new : ℕ) (ks : List (Option KeptSlot)) (place : ℕ)
     (o : Option KeptSlot) → ((i : ℕ) → i ≢ place → has new i ≡ has old i)
-    → (passes test o ≡ true → has new place ≡ true) → IsMarked test old ks
-    → IsMarked test new (slice_set ks place o)
+    → (passes test o ≡ true → has new place ≡ true) → MarksPassing test old ks
+    → MarksPassing test new (slice_set ks place o)
 marked-set test old new ks place o others here marked i k found is =
     elim (get-put ks place i o (Some k) found) [
       | inl there ↦ rw there.0 (here (rw (← there.1) is))

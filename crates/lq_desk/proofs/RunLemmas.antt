@@ -2,7 +2,7 @@
 use Rattle.std.proofs.Common.{◌≡◌, List, [], ◌∷◌, ◌++◌, refl, ap, length, suc, inl}
 use Rattle.lq_desk_world.specs.World.{World}
 use Rattle.lq_desk_world.specs.declared.event.Event.{Event}
-use Rattle.lq_desk_world.specs.Events.{Answer, answer, next, outcome}
+use Rattle.lq_desk_world.specs.Events.{Answer, answer_to, next, outcome}
 use Rattle.lq_desk_world.specs.Runs.{Step, Run}
 use Rattle.lq_desk_world.specs.Turns.{after_events}
 
@@ -29,4 +29,4 @@ pub run-along : (w : World) (events : List Event) → (answers : List Answer)
 run-along w [] = ([], refl, refl)
 run-along w (e ∷ events) =
     let rest = run-along (next w e) events in
-    (answer w e ∷ rest.0, ap suc rest.1, (next w e, inl (refl, refl), rest.2))
+    (answer_to w e ∷ rest.0, ap suc rest.1, (next w e, inl (refl, refl), rest.2))

@@ -17,7 +17,7 @@ use Rattle.lq_desk_world.specs.declared.event.Event.{Event}
 use Rattle.lq_desk_world.specs.declared.event.Event.TheVariants.{Change, Open, Put, Take, HangUp, Notice, Close, Finish}
 use Rattle.lq_desk_world.specs.declared.event.Act.{Act}
 use Rattle.lq_desk_world.specs.declared.event.Act.TheVariants as act
-use Rattle.lq_desk_world.specs.Events.{Answer, Refused, changing, opening, opened_now, open_refusal, at_slot, acting, act_outcome, answer, next}
+use Rattle.lq_desk_world.specs.Events.{Answer, Refused, changing, opening, opened_now, open_refusal, at_slot, acting, act_outcome, answer_to, next}
 use Rattle.lq_desk_world.specs.Runs.{MayRunOut, Step}
 use Rattle.lq_desk_world.specs.Fair.{IsFair, IsFairSlot, IsFairWorld}
 use Rattle.lq_desk_world.specs.Laws.{RefusalsLeaveWorlds, RunsKeepWorldsFair}
@@ -143,7 +143,7 @@ module _ (count : ChangesCount) where
 
     -- each event is answered alike
     outcome-same : (w : World) (e : Event) → IsFairWorld w
-        → kept_outcome (kept_of w) e ≡ (answer w e, kept_of (next w e))
+        → kept_outcome (kept_of w) e ≡ (answer_to w e, kept_of (next w e))
     outcome-same w (Change c) fair = changing-same w c fair (refused_by (state_of w.book) c)
     outcome-same w (Open q port backlog moved) fair =
         ap (open_if (kept_of w) (fresh_slot q moved (state_of w.book).number port backlog))
@@ -159,11 +159,11 @@ module _ (count : ChangesCount) where
     -- and where fair worlds stay fair, what is kept shows a world, and the next after each event
     pub kept-shows : RunsKeepWorldsFair → KeptShowsWorlds
     kept-shows stays k w e shows =
-        let same : kept_outcome k e ≡ (answer w e, kept_of (next w e)) =
+        let same : kept_outcome k e ≡ (answer_to w e, kept_of (next w e)) =
         rw shows.kept (outcome-same w e shows.fair) in (
           ap (λ (r : Answer × DeskState). r.0) same,
           record {
-            fair = stays w (next w e) (e ∷ []) (answer w e ∷ []) shows.fair
+            fair = stays w (next w e) (e ∷ []) (answer_to w e ∷ []) shows.fair
                 (next w e, inl (refl, refl), refl);
             kept = ap (λ (r : Answer × DeskState). r.1) same;
           },
@@ -172,7 +172,7 @@ module _ (count : ChangesCount) where
 -- ---- the world after an event, by its answer
 
 -- where the answer is the world's, it is the next world
-pub stepped-next : RefusalsLeaveWorlds → (w : World) (e : Event) (a : Answer) → a ≡ answer w e
+pub stepped-next : RefusalsLeaveWorlds → (w : World) (e : Event) (a : Answer) → a ≡ answer_to w e
     → stepped w e a ≡ next w e
 stepped-next law w e (Refused r) is = sym (law w e r (sym is))
 stepped-next law w e _ is = refl
@@ -194,7 +194,7 @@ pub moves : KeptShowsWorlds → RefusalsLeaveWorlds → (old new : DeskState) (w
     → Step w e a (stepped w e a) × Shows new (stepped w e a)
 moves alike law old new w e a (inl done) shows =
     let same = alike old w e shows in
-    let is : a ≡ answer w e = done.0 ∙ same.0 in
+    let is : a ≡ answer_to w e = done.0 ∙ same.0 in
     let to = stepped-next law w e a is in
     (inl (is, to), rw (to, done.1) same.1)
 moves alike law old new w e a (inr ran) shows =

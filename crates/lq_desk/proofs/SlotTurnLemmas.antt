@@ -5,7 +5,7 @@ use Rattle.lq_update.specs.declared.mark.Cause.TheVariants.{Closed}
 use Rattle.lq_desk_world.specs.declared.event.Event.{Event}
 use Rattle.lq_desk_world.specs.declared.event.Event.TheVariants.{Take, Notice, Close}
 use Rattle.lq_desk_world.specs.Events.{Answer}
-use Rattle.lq_desk_world.specs.Turns.{places_at, puts}
+use Rattle.lq_desk_world.specs.Turns.{places_at, put_events}
 use Rattle.lq_desk_sub.specs.Held.{is_live, ended_by}
 use Rattle.lq_desk.specs.Slot.{KeptSlot, close_if, close_slot, filled, noticed}
 use Rattle.lq_desk.specs.Act.{close_turn, read_turn}
@@ -30,7 +30,7 @@ pub read-events : (k : DeskState) (slot : ℕ)
 read-events k slot = by (kept_at k slot) refl
   where
     places : List Event
-    places = puts slot (places_at (kept_ports k) slot)
+    places = put_events slot (places_at (kept_ports k) slot)
 
     by : (o : Option KeptSlot) → kept_at k slot ≡ o
         → kept_outcome (kept_after (kept_outcome k (Notice slot)).1 places) (Take slot)
@@ -38,7 +38,7 @@ read-events k slot = by (kept_at k slot) refl
     by None is =
         let still : (kept_outcome k (Notice slot)).1 ≡ k = rw is in
         ap (λ j. kept_outcome (kept_after j places) (Take slot)) still
-        ∙ (ap (λ n. kept_outcome (kept_after k (puts slot n)) (Take slot)) (places-free k slot is)
+        ∙ (ap (λ n. kept_outcome (kept_after k (put_events slot n)) (Take slot)) (places-free k slot is)
         ∙ rw is)
     by (Some s) is =
         let u = noticed k.volume.number s in
@@ -51,13 +51,13 @@ read-events k slot = by (kept_at k slot) refl
 pub close-events : (k : DeskState) (slot : ℕ) → (
   (kept_outcome (kept_outcome k (Notice slot)).1 (Close slot)).0,
   kept_after (kept_outcome (kept_outcome k (Notice slot)).1 (Close slot)).1
-      (puts slot (places_at (kept_ports k) slot)),
+      (put_events slot (places_at (kept_ports k) slot)),
 )
     ≡ at_kept k slot (close_turn k.volume.number)
 close-events k slot = by (kept_at k slot) refl
   where
     places : List Event
-    places = puts slot (places_at (kept_ports k) slot)
+    places = put_events slot (places_at (kept_ports k) slot)
 
     close : DeskState → Answer × DeskState
     close j = (

@@ -13,11 +13,11 @@ use Rattle.lq_desk_world.specs.declared.event.Event.{Event}
 use Rattle.lq_desk_world.specs.declared.event.Event.TheVariants.{Change, Take, Notice, Close}
 use Rattle.lq_desk_world.specs.Events.{Answer, Refused, outcome, next}
 use Rattle.lq_desk_world.specs.Laws.{RefusalsLeaveWorlds}
-use Rattle.lq_desk_world.specs.Turns.{turn_of, ports_of, at_slot_of, at_each, one_notice, puts, notices, all_puts, after_events, carried_out, turn_outcome}
+use Rattle.lq_desk_world.specs.Turns.{turn_of, ports_of, at_slot_of, at_each, one_notice, put_events, notices, all_puts, after_events, carried_out, turn_outcome}
 use Rattle.lq_desk.specs.Slot.{KeptSlot, filled, noticed, slot_after}
 use Rattle.lq_desk.specs.Act.{close_turn, read_turn}
 use Rattle.lq_desk.specs.DeskState.{DeskState, KeptStep, Shows, slot_for, kept_at, at_kept, kept_outcome, change_if}
-use Rattle.lq_desk.specs.Turn.{TurnRuns, stepped, turned}
+use Rattle.lq_desk.specs.Turn.{TurnRuns, stepped, world_after_turn}
 use Rattle.lq_desk.specs.KeptTurn.{slot_port, kept_ports, kept_turn, kept_turn_outcome, kept_after, TurnStep}
 use Rattle.lq_desk.specs.Laws.{KeptShowsWorlds}
 use Rattle.lq_desk.proofs.ListLemmas.{get-seam, map-slots}
@@ -80,7 +80,7 @@ noticed-all k = sym (each-does one_notice (noticed k.volume.number) k
 -- puts at all slots fill each
 pub filled-all : (k : DeskState)
     → record k { slots = map (option_map filled) k.slots } ≡ kept_after k (all_puts (kept_ports k))
-filled-all k = sym (each-does puts filled k
+filled-all k = sym (each-does put_events filled k
     (λ ks slot s. puts-taken s.port (at-slots k ks) slot s) [] k.slots)
 
 -- ---- whole turns
@@ -178,9 +178,9 @@ module _ (alike : KeptShowsWorlds) where
   module _ (law : RefusalsLeaveWorlds) where
     -- what is so of a turn that was carried out from a state that shows a world
     pub record Went (w : World) (e : Event) (a : Answer) (l : DeskState) : Type 0 where
-      pub shows : Shows l (turned w e a)
-      pub runs : TurnRuns w e a (turned w e a)
-      pub outcome : (a ≡ Refused NoMemory) ⊎ ((a, turned w e a) ≡ turn_outcome w e)
+      pub shows : Shows l (world_after_turn w e a)
+      pub runs : TurnRuns w e a (world_after_turn w e a)
+      pub outcome : (a ≡ Refused NoMemory) ⊎ ((a, world_after_turn w e a) ≡ turn_outcome w e)
 
     -- a turn of a desk
     pub turn-went : (k l : DeskState) (w : World) (e : Event) (a : Answer) → TurnStep k e a l
@@ -203,7 +203,7 @@ module _ (alike : KeptShowsWorlds) where
             before = first.0;
             after = last.0;
             place = first.1;
-            run = run-join w mid (turned w e a) t.before first.0 (t.event ∷ t.after)
+            run = run-join w mid (world_after_turn w e a) t.before first.0 (t.event ∷ t.after)
                 (a ∷ last.0) first.2 (to, moved.0, last.2);
           };
           outcome = elim moved.0 [

@@ -68,13 +68,13 @@ abbrev pub put_slot : KeptSlot → Answer × Option KeptSlot
 put_slot k = put_if k (nat_lt (length k.queue) k.port) (next_parcel k.held)
 
 -- whether its mark was put into the port, and the port is empty
-abbrev pub is_read : KeptSlot → Bool
-is_read k = k.held.mark_out && (length k.queue == 0)
+abbrev pub is_mark_read : KeptSlot → Bool
+is_mark_read k = k.held.mark_out && (length k.queue == 0)
 
 -- a read of the first parcel, if there is one
 abbrev pub read_if : KeptSlot → Option Parcel → Answer × Option KeptSlot
 read_if k (Some p) = (Took p, Some (record k { queue = drop 1 k.queue }))
-read_if k None = (if is_read k then Ended else Empty, Some k)
+read_if k None = (if is_mark_read k then Ended else Empty, Some k)
 
 -- a read from the port
 abbrev pub read_slot : KeptSlot → Answer × Option KeptSlot
@@ -109,7 +109,7 @@ finish_if k false = (Refused StillOpen, Some k)
 
 -- a finish
 abbrev pub finish_slot : KeptSlot → Answer × Option KeptSlot
-finish_slot k = finish_if k (is_read k)
+finish_slot k = finish_if k (is_mark_read k)
 
 -- ---- which slots have work to do, and their contents afterwards
 

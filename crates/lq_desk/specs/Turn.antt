@@ -25,5 +25,5 @@ abbrev pub carried_to : World → Turn → Answer → World
 carried_to w t a = after_events outcome (stepped (after_events outcome w t.before) t.event
     a) t.after
 
-abbrev pub turned : World → Event → Answer → World
-turned w e a = carried_to w (turn_of (ports_of w) e) a
+abbrev pub world_after_turn : World → Event → Answer → World
+world_after_turn w e a = carried_to w (turn_of (ports_of w) e) a

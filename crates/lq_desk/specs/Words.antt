@@ -12,8 +12,8 @@ use Rattle.lq_desk.specs.declared.slots.Preparation.{Preparation}
 use Rattle.lq_desk.specs.Slot.{KeptSlot, PreparedSlot, can_move, is_ending, slot_of}
 
 -- a set has the place of each slot that passes a test
-abbrev pub IsMarked : {T : Type 0} → (T → Bool) → ℕ → List (Option T) → Type 0
-IsMarked {T} test set slots = (i : ℕ) (x : T) → slice_get slots i ≡ Some (Some x) → test x ≡ true
+abbrev pub MarksPassing : {T : Type 0} → (T → Bool) → ℕ → List (Option T) → Type 0
+MarksPassing {T} test set slots = (i : ℕ) (x : T) → slice_get slots i ≡ Some (Some x) → test x ≡ true
     → has set i ≡ true
 
 -- the change has no message for a slot whose bit is clear in this word
@@ -29,8 +29,8 @@ AreWatched w ks = (c : Change) → PassOver c (slots_for w c) ks
 -- parcel; and all are watched
 pub record ArePlaces (ending movable : ℕ) (w : Watch) (ks : List (Option KeptSlot)) : Type 0 where
   pub wide : length ks ≡ 64
-  pub ends : IsMarked is_ending ending ks
-  pub moves : IsMarked can_move movable ks
+  pub ends : MarksPassing is_ending ending ks
+  pub moves : MarksPassing can_move movable ks
   pub watched : AreWatched w ks
 
 -- ---- the messages of a change

@@ -18,7 +18,7 @@ use std::alloc::Global;
 use std::marker::Model;
 
 /// The most places of a port.
-const MAX_PORT: u64 = 1024;
+const MAX_PLACES: u64 = 1024;
 
 /// The volume, the slots, and the number of openings so far.
 ///
@@ -164,7 +164,7 @@ impl Engine {
             options.now.backlog)) }
         ensures err { OnErr result (self.new ≡ self.old) }
     {
-        if options.port < 1 || options.port > MAX_PORT {
+        if options.port < 1 || options.port > MAX_PLACES {
             return Err(Refusal::BadPort);
         }
         if options.backlog > MAX_BACKLOG {

@@ -48,7 +48,7 @@ impl Model for Slot {
 
 impl Slot {
     ghost use Rattle.lq_desk_world.specs.Events.{Moved, Noticed};
-    ghost use Rattle.lq_desk.specs.Slot.{PreparedSlot, fresh_slot, put_slot, read_slot, notice_slot, is_read};
+    ghost use Rattle.lq_desk.specs.Slot.{PreparedSlot, fresh_slot, put_slot, read_slot, notice_slot, is_mark_read};
     ghost use Rattle.lq_desk.specs.Reply.{answer_of_read};
 
     /// A new subscription after `at` changes, with an empty port. Refused: `NoMemory`.
@@ -185,7 +185,7 @@ impl Slot {
 
     /// Whether its mark was put into the port, and the port is empty.
     pub fn is_read(&self) -> bool
-        ensures { result ≡ is_read (slot_of self.now) }
+        ensures { result ≡ is_mark_read (slot_of self.now) }
     {
         self.sub.is_marked() && self.queue.is_empty()
     }

@@ -8,7 +8,7 @@ ghost use Rattle.std.specs.Coded.{codes};
 ghost use Rattle.lq_predicate.specs.QueryCode.{coded_query};
 ghost use Rattle.lq_desk_world.specs.World.{World, first_world};
 ghost use Rattle.lq_desk.specs.Reply.{answer_of};
-ghost use Rattle.lq_desk.specs.Turn.{stepped, turned};
+ghost use Rattle.lq_desk.specs.Turn.{stepped, world_after_turn};
 
 use crate::reply::Reply;
 use lq_desk_world::Event;
@@ -45,7 +45,7 @@ impl Witness {
     /// The world after a turn whose event got this answer.
     #[inline(always)]
     pub fn turn(_before: &Witness, _event: &Event, _reply: &Reply) -> Witness
-        ensures { result.world ≡ turned _before.now.world _event.now (answer_of _reply.now) }
+        ensures { result.world ≡ world_after_turn _before.now.world _event.now (answer_of _reply.now) }
     {
         Witness {}
     }

@@ -83,14 +83,14 @@ abbrev pub held_after : State → Change → Held → Held
 held_after s c h = after_messages h (messages_due s c h) s.number
 
 -- with the messages of the change made ready
-abbrev pub prepared : State → Change → Prepared → Prepared
-prepared s c p = record p { ready = messages_due s c p.held; before = s.number }
+abbrev pub prepared_for : State → Change → Prepared → Prepared
+prepared_for s c p = record p { ready = messages_due s c p.held; before = s.number }
 
 -- If a live subscription has messages of the change, they are made ready; else what is held stays,
 -- and what was made ready before is of no use.
 pub record IsReadied (s : State) (c : Change) (told : Bool) (old new : Prepared) : Type 0 where
   pub any : told ≡ (is_live old.held && nat_lt 0 (length (messages_due s c old.held)))
-  pub ready : told ≡ true → new ≡ prepared s c old
+  pub ready : told ≡ true → new ≡ prepared_for s c old
   pub held : new.held ≡ old.held
   pub lent : new.lent ≡ old.lent
 

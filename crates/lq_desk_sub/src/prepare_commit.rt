@@ -12,7 +12,7 @@ use lq_volume::{Change, Planned, Volume};
 use std::alloc::AllocError;
 
 impl Sub {
-    ghost use Rattle.lq_desk_sub.specs.Held.{IsReadied, is_live, prepared, committed};
+    ghost use Rattle.lq_desk_sub.specs.Held.{IsReadied, is_live, prepared_for, committed};
 
     /// Makes the messages of an accepted change to a volume, and room for them. The messages held
     /// stay the same.
@@ -24,7 +24,7 @@ impl Sub {
         requires live { IsTrue (is_live self.old.held) }
         requires lawful { IsLawful volume.now change.now }
         ensures refused { FailsOnlyForMemory result }
-        ensures ok { OnOk result (self.new ≡ prepared volume.now change.now self.old) }
+        ensures ok { OnOk result (self.new ≡ prepared_for volume.now change.now self.old) }
         ensures err { OnErr result (self.new ≡ self.old) }
     {
         let planned = volume.plan(change)?;
@@ -43,7 +43,7 @@ impl Sub {
         ensures refused { FailsOnlyForMemory result }
         ensures any { IfOk result (λ any. any ≡ nat_lt 0 (length self.new.ready)) }
         ensures ok { OnOk result
-            (self.new ≡ prepared planned.now.before planned.now.change self.old) }
+            (self.new ≡ prepared_for planned.now.before planned.now.change self.old) }
         ensures err { OnErr result (self.new ≡ self.old) }
     {
         let told = self.prepare_if_any(planned)?;
@@ -93,7 +93,7 @@ impl Sub {
             (node_of planned.now.before planned.now.change)) }
         ensures any { IfOk result (λ any. any ≡ nat_lt 0 (length self.new.ready)) }
         ensures ok { OnOk result
-            (self.new ≡ prepared planned.now.before planned.now.change self.old) }
+            (self.new ≡ prepared_for planned.now.before planned.now.change self.old) }
         ensures err { OnErr result (self.new ≡ self.old) }
     {
         let matches = Matches {

@@ -19,13 +19,13 @@ use Rattle.lq_desk_world.specs.Headline.{ReadersAreTold}
 use Rattle.lq_desk_world.specs.World.{World, Subscribed, first_world, subscribed_at}
 use Rattle.lq_desk_world.specs.declared.event.Event.{Event}
 use Rattle.lq_desk_world.specs.declared.event.Event.TheVariants.{Change, Open, Put, Take, HangUp, Notice, Close, Finish}
-use Rattle.lq_desk_world.specs.Events.{Answer, Changed, Opened, Moved, Took, Empty, Ended, Asked, Noticed, Shut, Finished, Refused, answer, next}
+use Rattle.lq_desk_world.specs.Events.{Answer, Changed, Opened, Moved, Took, Empty, Ended, Asked, Noticed, Shut, Finished, Refused, answer_to, next}
 use Rattle.lq_desk_world.specs.Laws.{IsStill, PutsUntilStill}
 
 -- what events are answered, one after another
 abbrev answers_from : World → List Event → List Answer
 answers_from w [] = []
-answers_from w (e ∷ events) = answer w e ∷ answers_from (next w e) events
+answers_from w (e ∷ events) = answer_to w e ∷ answers_from (next w e) events
 
 -- what events are answered from the first world on
 abbrev answers_to : List Event → List Answer

@@ -15,7 +15,7 @@ use Rattle.lq_desk_world.specs.declared.event.Event.{Event}
 use Rattle.lq_desk_world.specs.declared.event.Event.TheVariants.{Change, Open, Put, Take, HangUp, Notice, Close, Finish}
 use Rattle.lq_desk_world.specs.declared.event.Act.{Act}
 use Rattle.lq_desk_world.specs.declared.event.Act.TheVariants as act
-use Rattle.lq_desk_world.specs.Events.{Answer, Finished, Refused, acting, at_slot, changing, event_at, finishing_if, open_refusal, opened_now, opening, outcome, reading, putting_if, reading_if, noticing_if, closing_if}
+use Rattle.lq_desk_world.specs.Events.{Answer, Finished, Refused, acting, at_slot, changing, event_at, finishing_if, open_refusal, opened_now, opening, outcome, read_outcome, putting_if, reading_if, noticing_if, closing_if}
 use Rattle.lq_desk_world.specs.Runs.{Step}
 use Rattle.lq_desk_world.specs.Fair.{IsFair, IsFairSlot, IsFairWorld}
 use Rattle.lq_desk_world.specs.Headline.{read_by, frees}
@@ -76,7 +76,7 @@ acting-passes b s slot act.Take h =
     let own : (slot == slot) ≡ true = grind (arith, nat_tests) in
     inr (
       refl,
-      subst (λ x. Leaves b s (if x then (reading b s).0 ∷ [] else []) (reading b s).1)
+      subst (λ x. Leaves b s (if x then (read_outcome b s).0 ∷ [] else []) (read_outcome b s).1)
           (sym own) (reading-leaves b s h),
     )
 acting-passes b s slot act.HangUp h = inr (refl, hanging_up-leaves b s h)

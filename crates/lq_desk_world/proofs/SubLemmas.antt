@@ -16,7 +16,7 @@ use Rattle.lq_update.specs.declared.parcel.Parcel.{Parcel}
 use Rattle.lq_update.specs.declared.parcel.Parcel.TheVariants.{Update, Fin}
 use Rattle.lq_update.specs.Updates.{updates_of, step_of}
 use Rattle.lq_update.specs.Laws.{UpdatesJoin}
-use Rattle.lq_desk_world.specs.World.{Subscribed, Ending, covered_by, covered, updates_due, mark_behind, whole, held, is_live, is_over, with_end, news, change_overruns, overrun_if, after_change}
+use Rattle.lq_desk_world.specs.World.{Subscribed, Ending, covered_by, covered, updates_due, mark_behind, whole, waiting_count, is_live, is_over, with_end, news, change_overruns, overrun_if, after_change}
 use Rattle.lq_desk_world.specs.Events.{Answer, Took, Ended}
 use Rattle.lq_desk_world.specs.Fair.{IsFair}
 use Rattle.lq_desk_world.specs.Headline.{parcels_in}
@@ -265,7 +265,7 @@ module _ (join : UpdatesJoin) where
           held = λ is.
               let list : s.put ≤ length us = omega
               (arith, h.put, ap length (whole-live b s live), length-map us (λ m. Update m)) in
-              fits (held b s) (news b c s) (held d s) s.backlog room (h.held is) (omega (
+              fits (waiting_count b s) (news b c s) (waiting_count d s) s.backlog room (h.held is) (omega (
                 arith,
                 before,
                 after,

@@ -10,7 +10,7 @@ use Rattle.lq_update.specs.declared.mark.Cause.TheVariants.{HungUp, Closed}
 use Rattle.lq_update.specs.declared.parcel.Parcel.{Parcel}
 use Rattle.lq_update.specs.declared.parcel.Parcel.TheVariants.{Fin}
 use Rattle.lq_desk_world.specs.World.{Subscribed, Ending, updates_due, mark_behind, whole, is_live, is_over, with_end, with_hang_up_asked, one_more_put, one_more_taken, can_put, first_in_port, in_port, to_come}
-use Rattle.lq_desk_world.specs.Events.{Ended, Empty, putting_if, putting, reading_if, reading, hanging_up, noticing_if, noticing, closing_if, closing}
+use Rattle.lq_desk_world.specs.Events.{Ended, Empty, putting_if, putting, reading_if, read_outcome, hanging_up, noticing_if, noticing, closing_if, closing}
 use Rattle.lq_desk_world.specs.Fair.{IsFair}
 use Rattle.lq_desk_world.proofs.ListLemmas.{take-one_more}
 use Rattle.lq_desk_world.proofs.SubLemmas.{Keeps, Leaves, Reads, keeps-counts, keeps-end, keeps-self, live-none, over-from, over-true, parcels}
@@ -107,7 +107,7 @@ first-given false o p is = absurd (let no : ⊥ = cc in no)
 
 -- a read gives the reads of a fair subscription its answer
 pub reading-leaves : (b : Book) (s : Subscribed) → IsFair b s
-    → Leaves b s ((reading b s).0 ∷ []) (reading b s).1
+    → Leaves b s ((read_outcome b s).0 ∷ []) (read_outcome b s).1
 reading-leaves b s h = by (first_in_port b s) refl
   where
     idle : (x : Bool) → is_over b s ≡ x → Reads b s b s ((if x then Ended else Empty) ∷ [])

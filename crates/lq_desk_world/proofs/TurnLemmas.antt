@@ -15,8 +15,8 @@ use Rattle.lq_desk_world.specs.declared.event.Event.{Event}
 use Rattle.lq_desk_world.specs.declared.event.Event.TheVariants.{Change, Open, Put, Take, Notice, Close, Finish}
 use Rattle.lq_desk_world.specs.declared.event.Act.{Act}
 use Rattle.lq_desk_world.specs.declared.event.Act.TheVariants as act
-use Rattle.lq_desk_world.specs.Events.{Answer, Moved, Refused, acting, answer, at_slot, event_at, next, outcome, putting, putting_if}
-use Rattle.lq_desk_world.specs.Turns.{after_events, at_each, notices, one_notice, places_at, places_in, ports_of, puts, turn_of, turn_outcome}
+use Rattle.lq_desk_world.specs.Events.{Answer, Moved, Refused, acting, answer_to, at_slot, event_at, next, outcome, putting, putting_if}
+use Rattle.lq_desk_world.specs.Turns.{after_events, at_each, notices, one_notice, places_at, places_in, ports_of, put_events, turn_of, turn_outcome}
 use Rattle.lq_desk_world.specs.Fair.{IsFairSlot, IsFairWorld}
 use Rattle.lq_desk_world.specs.Laws.{EachUntilStill, IsStill, PutsThenStill, PutsUntilStill, TurnsFillPorts, TurnsPutUntilStill}
 use Rattle.lq_desk_world.proofs.ListLemmas.{all-get, each_bool, map-set_same, slice_get-set_here, slice_get-set_other, slice_set-same}
@@ -78,7 +78,7 @@ put-taken w i s true is at =
     )
 
 -- each put
-put-cases : (w : World) (k : ℕ) → PutCases w (Put k) (answer w (Put k)) (next w (Put k))
+put-cases : (w : World) (k : ℕ) → PutCases w (Put k) (answer_to w (Put k)) (next w (Put k))
 put-cases w k = outcome-cases w (PutCases w) refused (λ c none. tt)
     (λ q port backlog moved none. tt) acted (Put k)
   where
@@ -100,14 +100,14 @@ still-next w k h = elim (put-cases w k) [
 ]
 
 -- and so do several
-puts-stay : (n : ℕ) (w : World) (k : ℕ) → IsStill w k → after_events outcome w (puts k n) ≡ w
+puts-stay : (n : ℕ) (w : World) (k : ℕ) → IsStill w k → after_events outcome w (put_events k n) ≡ w
 puts-stay zero w k h = refl
 puts-stay (suc n) w k h =
-    ap (λ v. after_events outcome v (puts k n)) (still-next w k h) ∙ puts-stay n w k h
+    ap (λ v. after_events outcome v (put_events k n)) (still-next w k h) ∙ puts-stay n w k h
 
 -- the answer to a put goes by the book and its slot
 answer-same : (w v : World) (k : ℕ) → v.book ≡ w.book → subscribed_at v k ≡ subscribed_at w k
-    → answer v (Put k) ≡ answer w (Put k)
+    → answer_to v (Put k) ≡ answer_to w (Put k)
 answer-same w v k book same = ap (λ o. (at_slot v k o (putting v.book)).0) same
     ∙ (ap (λ b. (at_slot v k (subscribed_at w k) (putting b)).0) book ∙ by (subscribed_at w k))
   where
@@ -121,7 +121,7 @@ put-keeps : (w : World) (j k : ℕ) → IsStill w k → IsStill (next w (Put j))
 put-keeps w j k h = elim (put-cases w j) [
   | inl stays ↦ subst (λ v. IsStill v k) (sym stays.1) h
   | inr moves ↦ elim (cases_eq k j) [
-    | inl same ↦ absurd (h (ap (λ i. answer w (Put i)) same ∙ moves.0))
+    | inl same ↦ absurd (h (ap (λ i. answer_to w (Put i)) same ∙ moves.0))
     | inr other ↦ λ is. h (sym (answer-same w _ k moves.2 (moves.3 k other)) ∙ is)
   ]
 ]
@@ -213,7 +213,7 @@ notices-stay n (None ∷ ports) = notices-stay (n + 1) ports
 notices-stay n (Some p ∷ ports) = (tt, notices-stay (n + 1) ports)
 
 -- and so are puts
-puts-keep : (k n : ℕ) → AllByRecursion Stays (puts k n)
+puts-keep : (k n : ℕ) → AllByRecursion Stays (put_events k n)
 puts-keep k zero = tt
 puts-keep k (suc n) = (tt, puts-keep k n)
 
@@ -274,7 +274,7 @@ module _ (join : UpdatesJoin) where
 
   -- as many puts as the port has room for are puts until nothing moves
   until-still : (n : ℕ) (w : World) (k : ℕ) → IsFairWorld w → gap_at w k ≤ n
-      → PutsUntilStill k w (after_events outcome w (puts k n))
+      → PutsUntilStill k w (after_events outcome w (put_events k n))
   until-still zero w k fair h = elim (put-cases w k) [
     | inl stays ↦ (zero, (stays.0, sym stays.1))
     | inr moves ↦ absurd (omega (arith, moves.1 fair, h))
@@ -290,13 +290,13 @@ module _ (join : UpdatesJoin) where
   -- so are the puts of all slots from some index on
   each-until : (ports : List (Option ℕ)) (m : ℕ) (w : World) → IsFairWorld w
       → ((i : ℕ) → slice_get ports i ≡ slice_get (ports_of w) (m + i))
-      → EachUntilStill (m + 1) ports w (after_events outcome w (at_each puts (m + 1) ports))
+      → EachUntilStill (m + 1) ports w (after_events outcome w (at_each put_events (m + 1) ports))
   each-until [] m w fair h = refl
   each-until (None ∷ ports) m w fair h = each-until ports (m + 1) w fair (λ i. h (suc i)
       ∙ ap (slice_get (ports_of w)) (let e : m + suc i ≡ m + 1 + i = omega arith in e))
   each-until (Some p ∷ ports) m w fair h =
-      let u = after_events outcome w (puts (m + 1) p) in
-      let stays = events-stay (puts (m + 1) p) w fair (puts-keep (m + 1) p) in
+      let u = after_events outcome w (put_events (m + 1) p) in
+      let stays = events-stay (put_events (m + 1) p) w fair (puts-keep (m + 1) p) in
       let first : m + 0 ≡ m = omega arith in
       let places : p ≡ places_in (option_flatten (slice_get (ports_of w) m)) =
       ap (λ o. places_in (option_flatten o)) (h zero ∙ ap (slice_get (ports_of w)) first) in
@@ -307,7 +307,7 @@ module _ (join : UpdatesJoin) where
         until-still p w (m + 1) fair
             (omega (arith, ap gap_in (at-index w m), gap-places w.slots m, places)),
         subst (λ v. EachUntilStill (m + 1 + 1) ports u v)
-            (sym (after_events-append w (puts (m + 1) p) (at_each puts (m + 1 + 1) ports))) rest,
+            (sym (after_events-append w (put_events (m + 1) p) (at_each put_events (m + 1 + 1) ports))) rest,
       )
 
   -- the puts of a turn are puts until nothing moves
@@ -316,7 +316,7 @@ module _ (join : UpdatesJoin) where
     where
       own : (slot : ℕ) (events : List Event) → AllByRecursion Stays events
           → PutsUntilStill slot (after_events outcome w events) (after_events outcome
-          (after_events outcome w events) (puts slot (places_at (ports_of w) slot)))
+          (after_events outcome w events) (put_events slot (places_at (ports_of w) slot)))
       own slot events all =
           let v = after_events outcome w events in
           let stays = events-stay events w fair all in

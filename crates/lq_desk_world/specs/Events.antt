@@ -111,8 +111,8 @@ abbrev pub reading_if : Book → Subscribed → Option Parcel → Answer × Opti
 reading_if b s (Some p) = (Took p, Some (one_more_taken s))
 reading_if b s None = (if is_over b s then Ended else Empty, Some s)
 
-abbrev pub reading : Book → Subscribed → Answer × Option Subscribed
-reading b s = reading_if b s (first_in_port b s)
+abbrev pub read_outcome : Book → Subscribed → Answer × Option Subscribed
+read_outcome b s = reading_if b s (first_in_port b s)
 
 -- a request to end
 abbrev pub hanging_up : Subscribed → Answer × Option Subscribed
@@ -145,7 +145,7 @@ finishing b s = finishing_if s (is_over b s)
 -- what an act does at a taken slot
 abbrev pub acting : Book → Act → Subscribed → Answer × Option Subscribed
 acting b act.Put = putting b
-acting b act.Take = reading b
+acting b act.Take = read_outcome b
 acting b act.HangUp = hanging_up
 acting b act.Notice = noticing b
 acting b act.Close = closing b
@@ -184,8 +184,8 @@ outcome w (Notice slot) = act_outcome w slot act.Notice
 outcome w (Close slot) = act_outcome w slot act.Close
 outcome w (Finish slot) = act_outcome w slot act.Finish
 
-abbrev pub answer : World → Event → Answer
-answer w e = (outcome w e).0
+abbrev pub answer_to : World → Event → Answer
+answer_to w e = (outcome w e).0
 
 abbrev pub next : World → Event → World
 next w e = (outcome w e).1

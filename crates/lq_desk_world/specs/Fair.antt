@@ -2,7 +2,7 @@
 use Rattle.std.specs.Prelude.{◌≡◌, ◌+◌, ◌≤◌, length, true, Option, Some, None}
 use Rattle.std.specs.List.{AllByRecursion}
 use Rattle.lq_volume.specs.Book.{Book, number_of}
-use Rattle.lq_desk_world.specs.World.{World, Subscribed, covered, whole, held, is_live}
+use Rattle.lq_desk_world.specs.World.{World, Subscribed, covered, whole, waiting_count, is_live}
 
 pub record IsFair (b : Book) (s : Subscribed) : Type 0 where
   -- in rising order: the book's start, the opening, the last change covered, the book's last change
@@ -19,7 +19,7 @@ pub record IsFair (b : Book) (s : Subscribed) : Type 0 where
   pub most : s.port ≤ 1024
   pub backlog : s.backlog ≤ 65536
   -- while it is live, at most its backlog is held
-  pub held : is_live s ≡ true → held b s ≤ s.backlog
+  pub held : is_live s ≡ true → waiting_count b s ≤ s.backlog
 
 abbrev pub IsFairSlot : Book → Option Subscribed → Type 0
 IsFairSlot b None = Unit {0}

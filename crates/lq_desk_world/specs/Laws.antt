@@ -8,7 +8,7 @@ use Rattle.lq_volume.specs.Book.{Book, state_of}
 use Rattle.lq_desk_world.specs.World.{World, Subscribed, first_world, whole, in_port, to_come}
 use Rattle.lq_desk_world.specs.declared.event.Event.{Event}
 use Rattle.lq_desk_world.specs.declared.event.Event.TheVariants.{Change, Open, Put, Take, Notice, Close}
-use Rattle.lq_desk_world.specs.Events.{Answer, Opened, Moved, Refused, answer, next, outcome}
+use Rattle.lq_desk_world.specs.Events.{Answer, Opened, Moved, Refused, answer_to, next, outcome}
 use Rattle.lq_desk_world.specs.Runs.{Run}
 use Rattle.lq_desk_world.specs.Turns.{after_events, notices, ports_of, turn_of, turn_outcome}
 use Rattle.lq_desk_world.specs.Fair.{IsFair, IsFairWorld}
@@ -27,7 +27,7 @@ RunsKeepWorldsFair = (w end : World) (events : List Event) (answers : List Answe
 -- a refused event leaves the world unchanged
 abbrev pub RefusalsLeaveWorlds : Type 0
 RefusalsLeaveWorlds =
-    (w : World) (e : Event) (r : Refusal) → answer w e ≡ Refused r → next w e ≡ w
+    (w : World) (e : Event) (r : Refusal) → answer_to w e ≡ Refused r → next w e ≡ w
 
 -- the whole list is what was taken, then what is in the port, then what is held, then a mark that
 -- wasn't put yet
@@ -37,7 +37,7 @@ ListsArePassedOn = (b : Book) (s : Subscribed) → IsFair b s
 
 -- nothing moves into the port of a slot
 abbrev pub IsStill : World → ℕ → Type 0
-IsStill w slot = answer w (Put slot) ≡ Moved true → ⊥
+IsStill w slot = answer_to w (Put slot) ≡ Moved true → ⊥
 
 -- A turn puts until nothing moves: after a change into any port; after a close and before a read
 -- into the port of that slot.
@@ -53,7 +53,7 @@ TurnsFillPorts = (w : World) → IsFairWorld w →
 abbrev pub PutsThenStill : ℕ → ℕ → World → World → Type 0
 PutsThenStill slot zero w v = IsStill w slot × (v ≡ next w (Put slot))
 PutsThenStill slot (suc n) w v =
-    (answer w (Put slot) ≡ Moved true) × PutsThenStill slot n (next w (Put slot)) v
+    (answer_to w (Put slot) ≡ Moved true) × PutsThenStill slot n (next w (Put slot)) v
 
 -- puts at a slot until nothing moves: all but the last one move a parcel
 abbrev pub PutsUntilStill : ℕ → World → World → Type 0

@@ -6,7 +6,7 @@ use Rattle.lq_volume.specs.Book.{state_of}
 use Rattle.lq_desk_world.specs.World.{World}
 use Rattle.lq_desk_world.specs.declared.event.Event.{Event}
 use Rattle.lq_desk_world.specs.declared.event.Event.TheVariants.{Change, Open}
-use Rattle.lq_desk_world.specs.Events.{Answer, Refused, answer, next, open_refusal}
+use Rattle.lq_desk_world.specs.Events.{Answer, Refused, answer_to, next, open_refusal}
 
 -- a change and an opening that nothing else refuses may run out of memory
 abbrev pub MayRunOut : World → Event → Type 0
@@ -17,7 +17,7 @@ MayRunOut w e = ⊥
 -- one event has its outcome, or memory runs out and the world stays the same
 abbrev pub Step : World → Event → Answer → World → Type 0
 Step w e a v =
-    ((a ≡ answer w e) × (v ≡ next w e)) ⊎ (MayRunOut w e × (a ≡ Refused NoMemory) × (v ≡ w))
+    ((a ≡ answer_to w e) × (v ≡ next w e)) ⊎ (MayRunOut w e × (a ≡ Refused NoMemory) × (v ≡ w))
 
 -- one answer for each event, one step after another
 abbrev pub Run : World → List Event → List Answer → World → Type 0

@@ -36,15 +36,15 @@ one_notice slot port = Notice slot ∷ []
 
 -- As many puts as the port has places. They lead where puts until nothing moves lead, since a put
 -- that moves nothing changes nothing: the law `turns_put_until_still` (`Laws`).
-abbrev pub puts : ℕ → ℕ → List Event
-puts slot port = replicate port (Put slot)
+abbrev pub put_events : ℕ → ℕ → List Event
+put_events slot port = replicate port (Put slot)
 
 -- a notice of each taken slot's end, if it was asked for, and puts that fill each port
 abbrev pub notices : List (Option ℕ) → List Event
 notices ports = at_each one_notice 1 ports
 
 abbrev pub all_puts : List (Option ℕ) → List Event
-all_puts ports = at_each puts 1 ports
+all_puts ports = at_each put_events 1 ports
 
 -- ---- turns
 
@@ -60,14 +60,14 @@ abbrev pub turn_of : List (Option ℕ) → Event → Turn
 turn_of ports (Change c) =
     record { before = notices ports; event = Change c; after = all_puts ports }
 turn_of ports (Take slot) = record {
-  before = Notice slot ∷ puts slot (places_at ports slot);
+  before = Notice slot ∷ put_events slot (places_at ports slot);
   event = Take slot;
   after = [];
 }
 turn_of ports (Close slot) = record {
   before = Notice slot ∷ [];
   event = Close slot;
-  after = puts slot (places_at ports slot);
+  after = put_events slot (places_at ports slot);
 }
 turn_of ports e = record { before = []; event = e; after = [] }
 

@@ -72,8 +72,8 @@ in_port b s = drop s.taken (take s.put (whole b s))
 abbrev pub waiting : Book → Subscribed → List Message
 waiting b s = drop s.put (updates_due b s)
 
-abbrev pub held : Book → Subscribed → ℕ
-held b s = length (waiting b s)
+abbrev pub waiting_count : Book → Subscribed → ℕ
+waiting_count b s = length (waiting b s)
 
 -- what is still to be put: the updates held, then the mark if it has ended and this isn't put
 abbrev pub to_come : Book → Subscribed → List Parcel
@@ -115,7 +115,7 @@ news b c s = length (step_of s.query s.moved (state_of b) c (length (updates_due
 
 -- whether these are more than its backlog has room for
 abbrev pub change_overruns : Book → Change_ → Subscribed → Bool
-change_overruns b c s = nat_lt 0 (news b c s) && nat_lt s.backlog (held b s + news b c s)
+change_overruns b c s = nat_lt 0 (news b c s) && nat_lt s.backlog (waiting_count b s + news b c s)
 
 abbrev pub overrun_if : Book → Subscribed → Bool → Subscribed
 overrun_if b s true = with_end s Overrun (number_of b)

@@ -7,7 +7,7 @@ use Rattle.lq_value.specs.declared.op.Op.{Op}
 use Rattle.lq_value.specs.declared.op.Op.TheVariants.{Eq, Ne, Lt, Le, Gt, Ge}
 use Rattle.lq_value.specs.declared.value.Value.{Value}
 use Rattle.lq_predicate_formula.specs.Bytes.{is_space}
-use Rattle.lq_predicate_formula.specs.Tokens.{EndsWord, HasTokens, IsBlank, IsToken, IsUnquoted, Placed, Token, Yields, bare, opens, closes, bang, ands, ors, op, word, lone, cut}
+use Rattle.lq_predicate_formula.specs.Tokens.{IsAfterWord, HasTokens, IsBlank, IsToken, IsUnquoted, Placed, Token, Yields, bare, opens, closes, bang, ands, ors, op, word, lone, cut}
 use Rattle.lq_embed.specs.declared.parameters.Parameter.{Parameter}
 use Rattle.lq_embed.specs.BoundFormula.{first_missing, literal_at}
 use Rattle.lq_embed.specs.BoundTokens.{raw_for, token_for, tokens_with}
@@ -205,7 +205,7 @@ kept end place cut inside part rest other fine (inl u) s = absurd (let no : ⊥ 
 -- what may follow an unmarked word ends it
 pub word_end : (t : Placed) (inside at : ℕ) (part rest raw : List ℕ) → t.raw_place ≡ t.place
     → t.place ≡ at → t.raw_place ≡ at + inside → t.token ≡ word raw
-    → IsToken t.token inside part rest → (part ≡ raw) × EndsWord rest
+    → IsToken t.token inside part rest → (part ≡ raw) × IsAfterWord rest
 word_end t inside at part rest raw same place raw_place is (inl u) =
     let w = subst (λ (k : Token). IsUnquoted k part rest) is u.1 in (w.0, w.1.2)
 word_end t inside at part rest raw same place raw_place is (inr q) =

@@ -8,7 +8,7 @@ use Rattle.lq_value.specs.declared.op.Op.{Op}
 use Rattle.lq_value.specs.declared.value.Value.{Value}
 use Rattle.lq_value.specs.declared.value.Value.TheVariants.{Text, Int32, Int64, UInt32, UInt64}
 use Rattle.lq_predicate_formula.specs.Bytes.{ends_word}
-use Rattle.lq_predicate_formula.specs.Tokens.{AreSigns, EndsWord, IsNotNext, IsToken, word, plain}
+use Rattle.lq_predicate_formula.specs.Tokens.{AreSigns, IsAfterWord, IsNotNext, IsToken, word, plain}
 use Rattle.lq_embed.specs.BoundTokens.{raw_for}
 use Rattle.lq_embed.specs.Quoting.{literal_for}
 use Rattle.lq_embed.proofs.MeantLemmas.{stays_inside}
@@ -25,8 +25,8 @@ abbrev pub NoEquals : List ℕ → Type 0
 NoEquals other = (b : ℕ) × (cs : List ℕ) × (other ≡ b ∷ cs) × ((b == 61) ≡ false)
 
 -- a word ends before the other text too
-pub ends_word_same : (rest other : List ℕ) → SameStart rest other → EndsWord rest → EndsWord other
-ends_word_same rest other (inl same) ends = subst EndsWord (sym same) ends
+pub ends_word_same : (rest other : List ℕ) → SameStart rest other → IsAfterWord rest → IsAfterWord other
+ends_word_same rest other (inl same) ends = subst IsAfterWord (sym same) ends
 ends_word_same rest other (inr (b, bs, cs, r, o, k)) (inl none) =
     absurd (let bad : ⊥ = cc in bad)
 ends_word_same rest other (inr (b, bs, cs, r, o, inl clear)) (inr (inl slash)) =
@@ -134,13 +134,13 @@ abbrev pub IsLiteral : List ℕ → List ℕ → List ℕ → Type 0
 IsLiteral raw part rest = (inside : ℕ) × IsToken (word raw) inside part rest
 
 -- a number is a word
-number_token : (bytes rest : List ℕ) → AreNumber bytes → EndsWord rest
+number_token : (bytes rest : List ℕ) → AreNumber bytes → IsAfterWord rest
     → IsLiteral bytes bytes rest
 number_token bytes rest are ends =
     (0, inl (refl, (refl, (number_signs bytes are.0, are.1, ends))))
 
 -- the literal of a value is one token
-pub literal_token : (o : Op) (value : Value) (rest : List ℕ) → EndsWord rest
+pub literal_token : (o : Op) (value : Value) (rest : List ℕ) → IsAfterWord rest
     → IsLiteral (raw_for o value) (literal_for o value) rest
 literal_token o (Text text) rest ends =
     (1, inr (refl, (_, refl, (34, inl refl, stays_inside o text, refl))))

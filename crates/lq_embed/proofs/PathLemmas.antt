@@ -12,7 +12,7 @@ use Rattle.lq_volume.specs.Lookup.{find_refusals}
 use Rattle.lq_volume.specs.State.{Record, node_in}
 use Rattle.lq_script_request.specs.declared.request.Request.TheVariants.{Look}
 use Rattle.lq_script_request.specs.declared.request.Look.TheVariants.{Find}
-use Rattle.lq_script_desk.specs.Answered.{Responds, answered, found_answer}
+use Rattle.lq_script_desk.specs.Answered.{Responds, line_outcome, found_answer}
 use Rattle.lq_script_desk.specs.Response.{Response, Refuses, Found}
 use Rattle.lq_embed.proofs.CallLemmas.{finds-as}
 use Rattle.lq_embed.specs.Calls.{FindsNode}
@@ -178,7 +178,7 @@ there-refused es dir name e ok = absurd (coded e ok)
 
 -- the response to the request of a name, whatever the tests of its bytes give
 named-there : (old : SessionState) (dir : ℕ) (name : List ℕ) (long utf8 valid : Bool)
-    → IsThere (answered old.session (if long then Err BadName
+    → IsThere (line_outcome old.session (if long then Err BadName
     else (if utf8 then (if valid then Ok (Look (Find dir name)) else Err BadName)
     else Err NotUtf8))).0
     (volume_in old).records dir name

@@ -13,7 +13,7 @@ use Rattle.lq_script_request.specs.declared.request.Request.TheVariants.{Event, 
 use Rattle.lq_script_desk.specs.Response.{Response, Fetched, Rebuilt, Refuses}
 use Rattle.lq_script_desk.specs.Session.{Session}
 use Rattle.lq_script_desk.specs.Keeps.{without_fold}
-use Rattle.lq_script_desk.specs.Answered.{Responds, answered}
+use Rattle.lq_script_desk.specs.Answered.{Responds, line_outcome}
 use Rattle.lq_script_desk.specs.Turned.{Turned}
 use Rattle.lq_embed.specs.declared.out_structs.AppliedOut.{AppliedOut}
 use Rattle.lq_embed.specs.declared.out_structs.OpeningOut.{OpeningOut}
@@ -148,8 +148,8 @@ pub record Rebuilds (old new : SessionState) (q : Result Request Refusal) (statu
 -- the entry of a node
 pub record ShowsEntry (old new : SessionState) (q : Result Request Refusal) (status : ℕ)
     (before after : InfoOut) : Type 0 where
-  pub code : status ≡ response_status (answered old.session q).0
-  pub out : after ≡ info_after (answered old.session q).0 before
+  pub code : status ≡ response_status (line_outcome old.session q).0
+  pub out : after ≡ info_after (line_outcome old.session q).0 before
   pub stays : new ≡ old
 
 -- ---- pushes

@@ -28,15 +28,15 @@ use Rattle.lq_embed.specs.declared.out_structs.AttrOut.{AttrOut}
 -- ---- texts
 
 -- room with a NUL at its front, if it isn't empty
-abbrev pub ended : List ℕ → List ℕ
-ended [] = []
-ended (byte ∷ room) = 0 ∷ room
+abbrev pub nul_at_front : List ℕ → List ℕ
+nul_at_front [] = []
+nul_at_front (byte ∷ room) = 0 ∷ room
 
 -- a text at the front of room, and a NUL after it, if they fit; room that is smaller than the text
 -- stays
 abbrev pub text_put : List ℕ → List ℕ → List ℕ
 text_put text room =
-    if nat_le (length text) (length room) then text ++ ended (drop (length text) room) else room
+    if nat_le (length text) (length room) then text ++ nul_at_front (drop (length text) room) else room
 
 -- ---- changes and openings
 

@@ -10,7 +10,7 @@ use Rattle.lq_desk_world.specs.declared.event.Event.TheVariants.{Open}
 use Rattle.lq_script_request.specs.declared.request.Request.{Request}
 use Rattle.lq_script_request.specs.declared.request.Request.TheVariants.{Event, Look}
 use Rattle.lq_script_request.specs.declared.request.Look.TheVariants.{Fetch}
-use Rattle.lq_script_request.specs.Request.{Given, given_text, asks_create, asks_move, asks_set, asks_unset, asks_open, asks_find, asks_fetch, request_for}
+use Rattle.lq_script_request.specs.Request.{SetValue, given_text, asks_create, asks_move, asks_set, asks_unset, asks_open, asks_find, asks_fetch, request_for}
 use Rattle.lq_embed.specs.Numbers.{kind_numbered}
 
 -- the outcome of a call whose text has to be UTF-8
@@ -33,7 +33,7 @@ abbrev pub set_text_request : ℕ → List ℕ → List ℕ → Result Request R
 set_text_request node attr text =
     in_utf8 attr (in_utf8 text (request_for (asks_set node attr (given_text text))))
 
-abbrev pub set_request : ℕ → List ℕ → Given → Result Request Refusal
+abbrev pub set_request : ℕ → List ℕ → SetValue → Result Request Refusal
 set_request node attr value = in_utf8 attr (request_for (asks_set node attr value))
 
 abbrev pub unset_request : ℕ → List ℕ → Result Request Refusal

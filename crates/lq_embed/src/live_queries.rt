@@ -80,7 +80,7 @@ impl Embedded {
     /// memory.
     ///
     /// Refused: `NotOpen` where the slot is free, or its subscription has ended.
-    pub fn end(&mut self, slot: u64, change: &mut u64) -> u32
+    pub fn close(&mut self, slot: u64, change: &mut u64) -> u32
         ensures { Ends (holds self.old) (holds self.new) (Close slot) result change.old change.new }
     {
         ended(&self.session.turn(&Event::Close(slot)), change)

@@ -13,10 +13,10 @@ use lq_script_request::RawRequest;
 use lq_value::Refusal;
 
 /// The places of each port: a caller without threads can't tell them from the backlog.
-const PORT: u64 = 1;
+const DEFAULT_PORT: u64 = 1;
 
 /// The backlog that 0 stands for.
-const BACKLOG: u64 = 65536;
+const DEFAULT_BACKLOG: u64 = 65536;
 
 impl Embedded {
     /// Opens a live query of a formula in the lowest free slot, with a port of one place. Its
@@ -33,7 +33,7 @@ impl Embedded {
         };
         let reply = self.answer_request(&RawRequest::Open {
             query,
-            port: PORT,
+            port: DEFAULT_PORT,
             backlog: backlog_of(options.backlog),
             moved: options.moved,
         });
@@ -60,7 +60,7 @@ impl Embedded {
         };
         let reply = self.session.turn(&Event::Open {
             predicate,
-            port: PORT,
+            port: DEFAULT_PORT,
             backlog: backlog_of(options.backlog),
             moved: options.moved,
         });
@@ -83,5 +83,9 @@ impl Embedded {
 fn backlog_of(backlog: u64) -> u64
     ensures { result ≡ backlog_of backlog }
 {
-    if backlog == 0 { BACKLOG } else { backlog }
+    if backlog == 0 {
+        DEFAULT_BACKLOG
+    } else {
+        backlog
+    }
 }

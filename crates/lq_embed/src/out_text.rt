@@ -1,6 +1,6 @@
 //! Copies a text into the caller's memory with a NUL after it, as C expects.
 ghost use Rattle.std.specs.Prelude.{◌≡◌, length};
-ghost use Rattle.lq_embed.specs.Outs.{ended, text_put};
+ghost use Rattle.lq_embed.specs.Outs.{nul_at_front, text_put};
 
 /// Copies a text to the start of `out`, and answers its size. Where there is room after it, a NUL
 /// comes there; where `out` is smaller nothing is copied. It takes no memory.
@@ -19,7 +19,7 @@ pub fn put_text(out: &mut [u8], text: &[u8]) -> usize
 
 // Puts a NUL at the front of `out`, where there is room.
 pub(crate) fn put_nul(out: &mut [u8])
-    ensures { out.new ≡ ended out.old }
+    ensures { out.new ≡ nul_at_front out.old }
 {
     if !out.is_empty() {
         out[0] = 0;

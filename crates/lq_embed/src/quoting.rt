@@ -10,7 +10,7 @@ use itoa::{Buffer, Integer};
 use lq_value::{Op, Refusal, Value};
 
 /// The most bytes of a text.
-const MAX_TEXT: usize = 4096;
+const MAX_VALUE_TEXT: usize = 4096;
 
 /// Writes a text to the start of `out` as a literal that means just this text after `==`, `=` and
 /// `!=`, and answers the literal's size: between `"` marks, with `\` before each `*`, `?`, `[`, `\`
@@ -20,7 +20,7 @@ pub fn quote_text(text: &[u8], out: &mut [u8]) -> usize
     ensures size { result ≡ quoted_size text.now }
     ensures text { out.new ≡ quoted_put text.now out.old }
 {
-    if text.len() > MAX_TEXT {
+    if text.len() > MAX_VALUE_TEXT {
         return 0;
     }
     let size = quoted_size(text);

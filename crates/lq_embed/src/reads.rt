@@ -22,8 +22,8 @@ impl Embedded {
             got.old got.new }
     {
         let mut count = 0;
-        for place in out.iter_mut() {
-            match self.read_one(slot, place) {
+        for message in out.iter_mut() {
+            match self.read_one(slot, message) {
                 Err(refusal) => return status(refusal),
                 Ok(false) => break,
                 Ok(true) => count += 1,
@@ -56,7 +56,7 @@ impl Embedded {
         ensures { Drops (holds self.old) (holds self.new) slot result }
     {
         let mut covered = 0;
-        self.end(slot, &mut covered);
+        self.close(slot, &mut covered);
         for _ in 0..u64::MAX {
             if !self.skip_message(slot) {
                 break;

@@ -13,8 +13,8 @@ impl Embedded {
         ensures { TakesRows (holds self.old) (holds self.new) result out.old out.new }
     {
         let mut count = 0;
-        for place in out.iter_mut() {
-            if !self.next_entry(place) {
+        for row in out.iter_mut() {
+            if !self.next_entry(row) {
                 break;
             }
             count += 1;

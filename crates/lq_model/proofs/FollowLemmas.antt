@@ -16,7 +16,7 @@ use Rattle.lq_server_slots.specs.declared.delivery.Delivery.{Delivery}
 use Rattle.lq_server_slots.specs.declared.delivery.Opening.{Opening}
 use Rattle.lq_server_slots.specs.Laws.{BooksExtendOn, StatesStay}
 use Rattle.lq_server_slots.specs.Rule.{query_of, mark_in}
-use Rattle.lq_server_slots.specs.Reading.{known, mark_read}
+use Rattle.lq_server_slots.specs.Reading.{known_book, mark_read}
 use Rattle.lq_server_slots.specs.Opening.{IdentityFits, asks_after}
 use Rattle.lq_server.specs.declared.server.Synced.{Synced}
 use Rattle.lq_server.specs.declared.server.Retired.{Retired}
@@ -77,7 +77,7 @@ followed stay on states start q board begun port backlog first old new x one z c
       ap (λ (g : Opening). g.moved) floor,
       ap (λ (g : Opening). g.opened) floor,
     ) in
-    let b : Book = known new.reading in
+    let b : Book = known_book new.reading in
     let book : Book = new.seat.book in
     let k = some_there (mark_read old.reading) out.marked in
     let mark : Mark = k.0 in

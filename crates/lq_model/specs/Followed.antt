@@ -14,7 +14,7 @@ use Rattle.lq_update.specs.declared.mark.Mark.{Mark}
 use Rattle.lq_update.specs.Updates.{updates_of}
 use Rattle.lq_server_slots.specs.declared.identity.Identity.{Identity}
 use Rattle.lq_server_slots.specs.Rule.{query_of}
-use Rattle.lq_server_slots.specs.Reading.{known, received, mark_read}
+use Rattle.lq_server_slots.specs.Reading.{known_book, received, mark_read}
 use Rattle.lq_server_slots.specs.Hold.{ReaderHold}
 use Rattle.lq_server_slots.specs.Own.{IsOwn}
 use Rattle.lq_server.specs.Retired.{IsRetired}
@@ -57,7 +57,7 @@ pub record IsFollowed (start : State) (q : Query) (changes : List Change) (f : F
   pub book : Book
   pub lawful : IsFullBook book
   pub number : f.synced.change ≡ length book.changes
-  pub knows : Extends book (known f.reader.reading)
+  pub knows : Extends book (known_book f.reader.reading)
   -- it has read its mark, which is the mark that the last sync answered
   pub mark : Mark
   pub read : mark_read f.reader.reading ≡ Some mark

@@ -13,7 +13,7 @@ use Rattle.std.specs.Prelude.{Result, Ok, Err}
 use Rattle.lq_predicate_formula.specs.Tokens.{Token, bare}
 use Rattle.lq_predicate_formula.specs.Query.{Query, queries, both_of, either_of}
 use Rattle.lq_predicate_formula.specs.Literals.{literal_of, pattern_literal}
-use Rattle.lq_predicate_formula.specs.Grammar.{Reading, Follows, IsAnd, IsOr, IsComparison, IsNot, nesting}
+use Rattle.lq_predicate_formula.specs.Grammar.{Reading, MoreParts, IsAnd, IsOr, IsComparison, IsNot, nesting}
 use Rattle.lq_predicate_formula.specs.Canonical.{canonical, depth, comparisons}
 use Rattle.lq_predicate_formula.specs.Faults.{Reads}
 use Rattle.lq_predicate_formula.specs.PredicateLimits.{is_formed, are_formed, part_count, is_predicate}
@@ -68,7 +68,7 @@ comparison_formed ts q (a, o, l, name, literal, is, named, read, said) =
 
 -- parts that are read one by one as formed are formed
 follows_formed : (P : Reading) → Forms P → (sep : Token) (ts : List Token) (qs : List Query)
-    → Follows P sep ts qs → are_formed (queries qs) ≡ true
+    → MoreParts P sep ts qs → are_formed (queries qs) ≡ true
 follows_formed P h sep ts [] f = refl
 follows_formed P h sep ts (q ∷ qs) (a, b, is, here, others) =
     ap (λ t. t && are_formed (queries qs)) (h a q here) ∙ follows_formed P h sep b qs others

@@ -5,7 +5,7 @@ use Rattle.std.proofs.lemmas.Bool.{le-leb, lt-leb}
 use Rattle.lq_predicate_formula.specs.Canonical.{canonical, depth}
 use Rattle.lq_predicate_formula.specs.Capped.{capped}
 use Rattle.lq_predicate_formula.specs.Faults.{HasOneReading, IsFaulty, IsReading, Reads, most_bytes, most_depth}
-use Rattle.lq_predicate_formula.specs.Machine.{MachineState, step}
+use Rattle.lq_predicate_formula.specs.Machine.{MachineState, step_token}
 use Rattle.lq_predicate_formula.specs.MachineReading.{finished, pattern_fault}
 use Rattle.lq_predicate_formula.specs.Query.{Query}
 use Rattle.lq_predicate_formula.specs.Tokens.{HasOneTokenList, Placed, Yields}
@@ -18,7 +18,7 @@ use Rattle.lq_predicate.proofs.SoFarLemmas.{SoFar, place_fits, stops}
 
 -- the machine refuses the token
 abbrev pub Refuses : {E : Type 0} → MachineState → Placed → Stop (Option ℕ) E → Type 0
-Refuses s t (Fault f) = (step s t.token ≡ None) × (pattern_fault s.expected t.token ≡ f)
+Refuses s t (Fault f) = (step_token s t.token ≡ None) × (pattern_fault s.expected t.token ≡ f)
 Refuses s t (Failed e) = ⊤
 
 module _ {E : Type 0} (text : List ℕ) (place : ℕ) (rest : List ℕ) (s : MachineState) (count : ℕ)

@@ -7,7 +7,7 @@ use Rattle.lq_predicate_formula.specs.Words.{WordIs, WordsAre}
 use Rattle.lq_predicate_formula.specs.Tokens.{HasOneTokenList, HasTokens, IsBlank, Placed, Yields, bare}
 use Rattle.lq_predicate_formula.specs.Query.{Query}
 use Rattle.lq_predicate_formula.specs.Grammar.{nesting}
-use Rattle.lq_predicate_formula.specs.Machine.{MachineState, start, step, finished_query}
+use Rattle.lq_predicate_formula.specs.Machine.{MachineState, start, step_token, finished_query}
 use Rattle.lq_predicate_formula.specs.Faults.{IsFaulty, IsReading, most_bytes, most_comparisons}
 use Rattle.lq_predicate_formula.specs.Laws.{MachineReads}
 use Rattle.lq_predicate_formula.specs.MachineReading.{after_token, fault_place, finished, pattern_fault, place_at, read_tokens, word_count}
@@ -44,7 +44,7 @@ starts text machine_reads h = record {
 -- one token, and the others behind it
 one_token : (end : ℕ) (s : MachineState) (count : ℕ) (t : Placed) (ts : List Placed)
     → read_tokens end s count (t ∷ ts)
-    ≡ after_token (fault_place end s.expected t) t (step s t.token)
+    ≡ after_token (fault_place end s.expected t) t (step_token s t.token)
     (count + word_count t.token) (λ s'. read_tokens end s' (count + word_count t.token) ts)
 unfolding read_tokens
 one_token end s count t ts = refl
@@ -88,7 +88,7 @@ module _ (text : List ℕ) (place : ℕ) (rest : List ℕ) (s : MachineState) (c
 
   module _ (t : Placed) (next : ℕ) (behind : List ℕ) (y : Yields place rest t next behind) where
     -- the reading goes on from what the machine makes of the next token
-    reads_on : (o : Option MachineState) → step s t.token ≡ o → (ts : List Placed)
+    reads_on : (o : Option MachineState) → step_token s t.token ≡ o → (ts : List Placed)
         → HasTokens next behind ts
         → IsReading text (after_token (fault_place (length text) s.expected t) t o
         (count + word_count t.token)
@@ -101,7 +101,7 @@ module _ (text : List ℕ) (place : ℕ) (rest : List ℕ) (s : MachineState) (c
         (h.reads (t ∷ ts) (next, behind, y, has))
 
     -- one token more
-    pub goes_on : (s' : MachineState) (n : ℕ) → step s t.token ≡ Some s'
+    pub goes_on : (s' : MachineState) (n : ℕ) → step_token s t.token ≡ Some s'
         → n ≡ count + word_count t.token → n ≤ 512 → next + length behind ≡ place + length rest
         → WordIs IsUtf8 t.token → SoFar text next behind s' n
     goes_on s' n k same few room word = record {
@@ -123,14 +123,14 @@ module _ (text : List ℕ) (place : ℕ) (rest : List ℕ) (s : MachineState) (c
 
     module _ (others : HasOneTokenList next behind) where
       -- where the machine refuses the token, the text has the token's fault
-      pub stops : (k : Option ℕ) → step s t.token ≡ None → pattern_fault s.expected t.token ≡ k
+      pub stops : (k : Option ℕ) → step_token s t.token ≡ None → pattern_fault s.expected t.token ≡ k
           → IsFaulty text (place_at (length text) t t.token k)
       stops k none f = subst (IsFaulty text)
           (ap (place_at (length text) t t.token) f)
           (reads_on None none others.tokens others.has)
 
       -- it is a word too many
-      pub one_too_many : (s' : MachineState) (n : ℕ) → step s t.token ≡ Some s'
+      pub one_too_many : (s' : MachineState) (n : ℕ) → step_token s t.token ≡ Some s'
           → n ≡ count + word_count t.token → 512 < n → IsFaulty text t.place
       one_too_many s' n k same many = subst (λ b. IsReading text
           (if b then read_tokens (length text) s' (count + word_count t.token) others.tokens

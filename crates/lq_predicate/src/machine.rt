@@ -14,7 +14,7 @@ use lq_value::Op;
 use std::mem;
 
 /// How deep parentheses and `!` may nest.
-const NESTING: usize = 64;
+const MAX_DEPTH: usize = 64;
 
 // What comes next.
 #[derive(Drop)]
@@ -37,7 +37,7 @@ pub(crate) struct Frame<P> {
 // The formulas that are begun, from the outside in, and how many more may nest.
 #[derive(Drop)]
 pub(crate) struct Frames<P> {
-    pub(crate) below: ArrayVec<Frame<P>, NESTING>,
+    pub(crate) below: ArrayVec<Frame<P>, MAX_DEPTH>,
     pub(crate) top: Frame<P>,
     pub(crate) room: usize,
 }
@@ -48,7 +48,7 @@ pub(crate) fn new_frames<B: Builder>() -> Frames<B::Parts>
     Frames {
         below: ArrayVec::new(),
         top: new_frame::<B>(),
-        room: NESTING,
+        room: MAX_DEPTH,
     }
 }
 
@@ -109,7 +109,7 @@ fn at_operand<B: Builder>(
                 return Err(Stop::Fault(None));
             }
             let outer = mem::replace(&mut frames.top, new_frame::<B>());
-            // At most `NESTING` formulas are begun, so there is a place for this one.
+            // At most `MAX_DEPTH` formulas are begun, so there is a place for this one.
             let Ok(()) = frames.below.try_push(outer) else {
                 return Err(Stop::Fault(None));
             };

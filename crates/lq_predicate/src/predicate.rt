@@ -126,7 +126,7 @@ impl Predicate {
         if !fit_joined(self.tree(), other.tree()) {
             return Ok(None);
         }
-        let parts = self.beside(other)?;
+        let parts = self.both_copies(other)?;
         Ok(Some(Predicate::of(self.alloc, Tree::both(parts))))
     }
 
@@ -144,12 +144,12 @@ impl Predicate {
         if !fit_joined(self.tree(), other.tree()) {
             return Ok(None);
         }
-        let parts = self.beside(other)?;
+        let parts = self.both_copies(other)?;
         Ok(Some(Predicate::of(self.alloc, Tree::either(parts))))
     }
 
     // The trees of both predicates, in a list.
-    fn beside(&self, other: &Predicate) -> Result<Vec<Tree>, Refusal>
+    fn both_copies(&self, other: &Predicate) -> Result<Vec<Tree>, Refusal>
         ensures refused { FailsOnlyForMemory result }
         ensures value { IfOk result (λ parts. parts.items ≡ self.now ∷ other.now ∷ []) }
     {

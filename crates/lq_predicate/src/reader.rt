@@ -21,10 +21,10 @@ use lq_value::Refusal;
 use std::alloc::{AllocError, Global};
 
 /// The most bytes of a formula, and of a predicate's canonical text.
-const MOST_BYTES: usize = 4096;
+const MAX_FORMULA: usize = 4096;
 
 /// How deep a predicate may be.
-const MOST_DEPTH: usize = 64;
+const MAX_DEPTH: usize = 64;
 
 /// The predicate that a formula writes, with BQuery's operators.
 ///
@@ -81,15 +81,15 @@ fn build_tree(alloc: Global, formula: &str) -> Result<Tree, Stop<u64, AllocError
 fn fault_place(formula: &str) -> Option<u64>
     ensures { IsFaultOf formula.now result }
 {
-    if formula.len() > MOST_BYTES {
-        return Some(MOST_BYTES as u64);
+    if formula.len() > MAX_FORMULA {
+        return Some(MAX_FORMULA as u64);
     }
     let mut frames = new_frames::<Sizes>();
     let whole = match read_text(&Sizes, &mut frames, formula) {
         Ok(size) => size,
         Err(Stop::Fault(place)) => return Some(place),
     };
-    if whole.depth > MOST_DEPTH || whole.bytes > MOST_BYTES {
+    if whole.depth > MAX_DEPTH || whole.bytes > MAX_FORMULA {
         return Some(formula.len() as u64);
     }
     None

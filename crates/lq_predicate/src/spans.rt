@@ -1,6 +1,6 @@
 //! The numbers that a predicate compares sizes and times with.
 ghost use Rattle.std.specs.Prelude.{◌≡◌, pos};
-ghost use Rattle.lq_predicate_formula.specs.Span.{is_beside};
+ghost use Rattle.lq_predicate_formula.specs.Span.{is_outside};
 ghost use Rattle.lq_predicate.specs.Spans.{spans_of};
 
 use crate::predicate::Predicate;
@@ -29,7 +29,7 @@ impl Spans {
     /// Whether two sizes are both below all numbers that the predicate compares sizes with, or both
     /// above them.
     pub fn is_beside_sizes(&self, from: u64, to: u64) -> bool
-        ensures { result ≡ is_beside self.now.sizes (pos from) (pos to) }
+        ensures { result ≡ is_outside self.now.sizes (pos from) (pos to) }
     {
         self.sizes.is_beside(from as i128, to as i128)
     }
@@ -37,7 +37,7 @@ impl Spans {
     /// Whether two times are both below all numbers that the predicate compares `last_modified`
     /// with, or both above them.
     pub fn is_beside_times(&self, from: i64, to: i64) -> bool
-        ensures { result ≡ is_beside self.now.times from to }
+        ensures { result ≡ is_outside self.now.times from to }
     {
         self.times.is_beside(from as i128, to as i128)
     }

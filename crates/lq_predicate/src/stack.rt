@@ -16,7 +16,7 @@ use std::alloc::Global;
 use std::marker::Model;
 
 /// The most bytes of a pushed text.
-const MAX_TEXT: usize = 4096;
+const MAX_VALUE_TEXT: usize = 4096;
 
 /// A stack that takes attributes, values and operators in postfix order, as BQuery does, and gives
 /// a predicate.
@@ -98,7 +98,7 @@ impl Stack {
             (refusal_at self.old.pushes (text_pushed text.now self.old)) }
         ensures err { OnErr result (self.new ≡ self.old) }
     {
-        if self.pushes == u64::MAX || text.len() > MAX_TEXT {
+        if self.pushes == u64::MAX || text.len() > MAX_VALUE_TEXT {
             return Err(self.misfit());
         }
         let operand = Operand::read(*self.items.allocator(), text)?;

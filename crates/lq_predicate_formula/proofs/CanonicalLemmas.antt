@@ -9,7 +9,7 @@ use Rattle.lq_value.specs.declared.op.Op.{Op}
 use Rattle.lq_value.specs.declared.op.Op.TheVariants.{Eq, Ne, Lt, Le, Gt, Ge}
 use Rattle.lq_value.specs.Name.{is_attr_name}
 use Rattle.lq_predicate_formula.specs.Bytes.{ends_word}
-use Rattle.lq_predicate_formula.specs.Tokens.{Token, opens, closes, bang, ands, ors, op, word, Placed, bare, plain, AreSigns, EndsWord, HasTokens, IsNotNext, IsOp, IsToken, IsUnquoted, Yields}
+use Rattle.lq_predicate_formula.specs.Tokens.{Token, opens, closes, bang, ands, ors, op, word, Placed, bare, plain, AreSigns, IsAfterWord, HasTokens, IsNotNext, IsOp, IsToken, IsUnquoted, Yields}
 use Rattle.lq_predicate_formula.specs.Query.{Query, Compare, Not, And, Or, Queries, no_more, and_then}
 use Rattle.lq_predicate_formula.specs.Canonical.{attr_then, in_marks, is_bare_byte, literal_text, op_text, others_written, parts_written, quoted, written}
 use Rattle.lq_predicate_formula.specs.Limits.{AreProper, IsGoodLiteral, IsProper}
@@ -107,7 +107,7 @@ bare_signs (b ∷ bs) e =
 
 -- the name of an attribute, written bare or between marks, is one word
 attr_by : (name rest : List ℕ) (ts : List Token) (t : Bool) → is_attr_name name ≡ true
-    → list_all is_bare_byte name ≡ t → EndsWord rest → Lexes rest ts
+    → list_all is_bare_byte name ≡ t → IsAfterWord rest → Lexes rest ts
     → Lexes (if t then name ++ rest else in_marks (quoted name) rest)
     (word (if t then name else quoted name) ∷ ts)
 attr_by name rest ts true named e h k =
@@ -123,7 +123,7 @@ no_equals rest = is_not_next 61 (34 ∷ rest) refl
 
 -- the text of an operator before a quotation mark is that operator, and a word before it ends there
 op_is : (o : Op) (rest : List ℕ)
-    → EndsWord (op_text o ++ 34 ∷ rest) × IsOp o (op_text o) (34 ∷ rest)
+    → IsAfterWord (op_text o ++ 34 ∷ rest) × IsOp o (op_text o) (34 ∷ rest)
 op_is Eq rest = (inr (inr (61, 61 ∷ 34 ∷ rest, refl, refl)), inl refl)
 op_is Ne rest = (inr (inr (33, 61 ∷ 34 ∷ rest, refl, refl)), refl)
 op_is Lt rest = (inr (inr (60, 34 ∷ rest, refl, refl)), (refl, no_equals rest))

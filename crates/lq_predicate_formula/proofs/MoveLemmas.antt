@@ -8,7 +8,7 @@ use Rattle.lq_predicate_formula.specs.Tokens.{Token, opens, closes, bang, ands, 
 use Rattle.lq_predicate_formula.specs.Literals.{name_of, literal_of}
 use Rattle.lq_predicate_formula.specs.Query.{Query, Compare, both_of}
 use Rattle.lq_predicate_formula.specs.Grammar.{nesting}
-use Rattle.lq_predicate_formula.specs.Machine.{Frame, Expected, operand, after_attr, after_op, after_operand, MachineState, completed, empty_frame, run, said_by, start, step, steps}
+use Rattle.lq_predicate_formula.specs.Machine.{Frame, Expected, operand, after_attr, after_op, after_operand, MachineState, completed, empty_frame, run_tokens, said_by, start, step_token, steps}
 
 -- a state by its parts
 abbrev pub at : Expected → List Frame → Frame → ℕ → MachineState
@@ -59,7 +59,7 @@ to {x} {y} {s} {t} e m = subst (Move x t) (same_Some y s e) m
 
 -- a step that is taken is a move, by the parts of its state
 moved : (p : Expected) (below : List Frame) (f : Frame) (n : ℕ) (t : Token) (s : MachineState)
-    → step (at p below f n) t ≡ Some s → Move (at p below f n) t s
+    → step_token (at p below f n) t ≡ Some s → Move (at p below f n) t s
 moved operand below f (suc n) opens s e = to e (enter below f n)
 moved operand below f (suc n) bang s e = to e (deny below f n)
 moved operand below f n (word w) s e =
@@ -75,7 +75,7 @@ moved after_operand (g ∷ below) f n closes s e = to e (leave g below f n)
 moved p below f n t s e = absurd (none-some s e)
 
 -- a step that is taken is a move
-pub move : (x : MachineState) (t : Token) (s : MachineState) → step x t ≡ Some s → Move x t s
+pub move : (x : MachineState) (t : Token) (s : MachineState) → step_token x t ≡ Some s → Move x t s
 move x t s e = moved x.expected x.below x.top x.room t s e
 
 -- ---- steps over two lists
@@ -90,7 +90,7 @@ pub split_steps : (ts us : List Token) (x s : MachineState) → steps x (ts ++ u
     → (y : MachineState) × (steps x ts ≡ Some y) × (steps y us ≡ Some s)
 split_steps [] us x s e = (x, refl, e)
 split_steps (t ∷ ts) us x s e =
-    let h = led (λ y. steps y (ts ++ us)) (step x t) s e in
+    let h = led (λ y. steps y (ts ++ us)) (step_token x t) s e in
     let k = split_steps ts us h.0 s h.2 in
     (k.0, ap (option_and_then (λ y. steps y ts)) h.1 ∙ k.1, k.2)
 
@@ -99,7 +99,7 @@ pub steps_on : (ts us : List Token) (x s : MachineState) → steps x ts ≡ Some
     → steps x (ts ++ us) ≡ steps s us
 steps_on [] us x s e = ap (λ y. steps y us) (same_Some x s e)
 steps_on (t ∷ ts) us x s e =
-    let h = led (λ y. steps y ts) (step x t) s e in
+    let h = led (λ y. steps y ts) (step_token x t) s e in
     ap (option_and_then (λ y. steps y (ts ++ us))) h.1 ∙ steps_on ts us h.0 s h.2
 
 -- an option that is passed on as `Some` is itself
@@ -109,23 +109,23 @@ same_some (Some s) = refl
 
 -- one token more
 pub steps_push : (ts : List Token) (t : Token) (x s : MachineState) → steps x ts ≡ Some s
-    → steps x (ts ++ t ∷ []) ≡ step s t
-steps_push ts t x s e = steps_on ts (t ∷ []) x s e ∙ same_some (step s t)
+    → steps x (ts ++ t ∷ []) ≡ step_token s t
+steps_push ts t x s e = steps_on ts (t ∷ []) x s e ∙ same_some (step_token s t)
 
 -- where steps lead to a state, tokens after them run as from that state
 pub steps_run : (ts : List Token) (x s : MachineState) (rest : List Token) → steps x ts ≡ Some s
-    → run x (ts ++ rest) ≡ run s rest
-steps_run [] x s rest e = ap (λ y. run y rest) (same_Some x s e)
+    → run_tokens x (ts ++ rest) ≡ run_tokens s rest
+steps_run [] x s rest e = ap (λ y. run_tokens y rest) (same_Some x s e)
 steps_run (t ∷ ts) x s rest e =
-    let h = led (λ y. steps y ts) (step x t) s e in
-    ap (option_and_then (λ y. run y (ts ++ rest))) h.1 ∙ steps_run ts h.0 s rest h.2
+    let h = led (λ y. steps y ts) (step_token x t) s e in
+    ap (option_and_then (λ y. run_tokens y (ts ++ rest))) h.1 ∙ steps_run ts h.0 s rest h.2
 
 -- tokens that begin what is read lead to a state
 pub comes : (ts rest : List Token) (x : MachineState) (q : Query)
-    → run x (ts ++ rest) ≡ Some q → (s : MachineState) × (steps x ts ≡ Some s)
+    → run_tokens x (ts ++ rest) ≡ Some q → (s : MachineState) × (steps x ts ≡ Some s)
 comes [] rest x q e = (x, refl)
 comes (t ∷ ts) rest x q e =
-    let h = led (λ y. run y (ts ++ rest)) (step x t) q e in
+    let h = led (λ y. run_tokens y (ts ++ rest)) (step_token x t) q e in
     let c = comes ts rest h.0 q h.2 in
     (c.0, ap (option_and_then (λ y. steps y ts)) h.1 ∙ c.1)
 
@@ -145,7 +145,7 @@ pub last_move : (front : List Token) (t : Token) (s : MachineState)
     → steps (start nesting) (front ++ t ∷ []) ≡ Some s → (x : MachineState) × Move x t s
 last_move front t s e =
     let d = split_steps front (t ∷ []) (start nesting) s e in
-    (d.0, move d.0 t s (sym (same_some (step d.0 t)) ∙ d.2))
+    (d.0, move d.0 t s (sym (same_some (step_token d.0 t)) ∙ d.2))
 
 -- the operator whose literal is awaited at a place
 abbrev op_of_expected : Expected → Option Op

@@ -6,7 +6,7 @@ use Rattle.lq_predicate_formula.specs.Tokens.{HasTokens, Placed, bare}
 use Rattle.lq_predicate_formula.specs.Query.{Query}
 use Rattle.lq_predicate_formula.specs.Canonical.{canonical, comparisons, depth}
 use Rattle.lq_predicate_formula.specs.Grammar.{IsFormula, nesting}
-use Rattle.lq_predicate_formula.specs.Machine.{start, run, finished_query}
+use Rattle.lq_predicate_formula.specs.Machine.{start, run_tokens, finished_query}
 use Rattle.lq_predicate_formula.specs.Faults.{AreFine, HasOneReading, IsFaultOf, too_long, at_token, ends_early, too_much, IsReading, Reads, most_bytes, most_comparisons, most_depth}
 use Rattle.lq_predicate_formula.specs.MachineReading.{finished, machine_reading, read_tokens}
 use Rattle.lq_predicate_formula.proofs.TokenLemmas.{one_token_list, tokens_same}
@@ -38,7 +38,7 @@ formula_fine : (end : ℕ) (ts : List Placed) (q : Query) → IsFormula nesting 
 formula_fine end ts q h few =
     let goes = formula_runs nesting (bare ts) q h in
     let s = comes (bare ts) [] (start nesting) q
-    (ap (run (start nesting)) (append-nil (bare ts)) ∙ goes) in
+    (ap (run_tokens (start nesting)) (append-nil (bare ts)) ∙ goes) in
     let counted = formula_words nesting (bare ts) q h in
     fine_of end ts s.0 s.1 (omega arith)
 
@@ -129,7 +129,7 @@ module _ (text : List ℕ) (ts : List Placed) (has : HasTokens 0 text ts) where
   formula_whole : (p : Passes (length text) ts) (q : Query) → IsFormula nesting (bare ts) q
       → finished_query p.s ≡ Some q
   formula_whole p q h = sym (steps_run (bare ts) (start nesting) p.s [] p.seen.goes)
-      ∙ ap (run (start nesting)) (append-nil (bare ts)) ∙ formula_runs nesting (bare ts) q h
+      ∙ ap (run_tokens (start nesting)) (append-nil (bare ts)) ∙ formula_runs nesting (bare ts) q h
 
   -- where the tokens are no formula, the reading is the end of the text
   none_whole : (p : Passes (length text) ts) (o : Option Query) → finished_query p.s ≡ o

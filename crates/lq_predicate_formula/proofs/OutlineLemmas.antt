@@ -5,7 +5,7 @@ use Rattle.std.proofs.lemmas.List.{map-append}
 use Rattle.std.proofs.lemmas.Option.{none-some, option_and_then_some, same_Some}
 use Rattle.lq_value.specs.declared.op.Op.TheVariants.{Eq}
 use Rattle.lq_predicate_formula.specs.Tokens.{Token, opens, closes, bang, ands, ors, op, word}
-use Rattle.lq_predicate_formula.specs.Machine.{Expected, operand, after_attr, after_op, after_operand, MachineState, start, step, steps}
+use Rattle.lq_predicate_formula.specs.Machine.{Expected, operand, after_attr, after_op, after_operand, MachineState, start, step_token, steps}
 use Rattle.lq_predicate_formula.specs.Faults.{CanStand, kind_of, op_count}
 use Rattle.lq_predicate_formula.specs.MachineReading.{word_count}
 use Rattle.lq_predicate_formula.proofs.CompleteLemmas.{formula_runs}
@@ -84,7 +84,7 @@ pub steps_outline : (ts : List Token) (x s : MachineState) → steps x ts ≡ So
     → outline_steps (outline_of x) (map kind_of ts) ≡ Some (outline_of s)
 steps_outline [] x s e = ap (option_map outline_of) e
 steps_outline (t ∷ ts) x s e =
-    let h = led (λ y. steps y ts) (step x t) s e in
+    let h = led (λ y. steps y ts) (step_token x t) s e in
     ap (option_and_then (λ o. outline_steps o (map kind_of ts))) (move_keeps (move x t h.0 h.1)).0
     ∙ steps_outline ts h.0 s h.2
 

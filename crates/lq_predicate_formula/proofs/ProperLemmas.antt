@@ -13,7 +13,7 @@ use Rattle.lq_value.specs.Source.{pattern_of}
 use Rattle.lq_predicate_formula.specs.Tokens.{Token, closes, ands, ors}
 use Rattle.lq_predicate_formula.specs.Query.{Query, queries, both_of, either_of}
 use Rattle.lq_predicate_formula.specs.Literals.{literal_of, name_of, pattern_literal, unescaped}
-use Rattle.lq_predicate_formula.specs.Grammar.{Reading, Follows, Parts, IsAnd, IsOr, IsComparison, IsNot, IsFormula}
+use Rattle.lq_predicate_formula.specs.Grammar.{Reading, MoreParts, Parts, IsAnd, IsOr, IsComparison, IsNot, IsFormula}
 use Rattle.lq_predicate_formula.specs.Limits.{AreProperBy, IsProperBy}
 use Rattle.lq_predicate_formula.specs.Words.{WordsAre}
 
@@ -60,7 +60,7 @@ module _ (T : List ℕ → Type 0) (W : Op → Literal → Type 0) where
 
   -- parts that are read one by one as proper queries are proper
   follows_proper : (P : Reading) → Proper T W P → (sep : Token) (ts : List Token) (qs : List Query)
-      → WordsAre T ts → Follows P sep ts qs → AreProperBy W (queries qs)
+      → WordsAre T ts → MoreParts P sep ts qs → AreProperBy W (queries qs)
   follows_proper P good sep ts [] w h = tt
   follows_proper P good sep ts (q ∷ qs) w h =
       let k = subst (WordsAre T) h.2 w in

@@ -16,7 +16,7 @@ AreHigh [] = Unit {0}
 AreHigh (b ∷ bs) = (128 ≤ b) × AreHigh bs
 
 -- a first byte, which is the character or 128 or more, and bytes of 128 or more after it
-pub record Opened (c : ℕ) (bs : List ℕ) : Type 0 where
+pub record BareChar (c : ℕ) (bs : List ℕ) : Type 0 where
   pub first : ℕ
   pub tail : List ℕ
   pub split : bs ≡ first ∷ tail
@@ -25,13 +25,13 @@ pub record Opened (c : ℕ) (bs : List ℕ) : Type 0 where
 
 -- such bytes
 opened_by : (c first : ℕ) (tail : List ℕ) → AreHigh tail → (first ≡ c) ⊎ (128 ≤ first)
-    → Opened c (first ∷ tail)
+    → BareChar c (first ∷ tail)
 opened_by c first tail high is =
     record { first = first; tail = tail; split = refl; high = high; first_is = is }
 
 -- each form of an encoded character has such bytes
 cases : (x y z : Bool) (c p q r u v w m n o : ℕ)
-    → Opened c (cond x (c ∷ [])
+    → BareChar c (cond x (c ∷ [])
     (cond y ((192 + p) ∷ (128 + q) ∷ [])
     (cond z ((224 + r) ∷ (128 + u) ∷ (128 + v) ∷ [])
     ((240 + w) ∷ (128 + m) ∷ (128 + n) ∷ (128 + o) ∷ []))))
@@ -45,7 +45,7 @@ cases false false false c p q r u v w m n o =
     (inr (omega arith))
 
 -- an encoded character has such bytes
-pub opened : (c : ℕ) → Opened c (encode c)
+pub opened : (c : ℕ) → BareChar c (encode c)
 unfolding encode
 opened c = cases (ltb c 128) (ltb c 2048) (ltb c 65536) c (c / 64) (c % 64) (c / 4096) (c / 64 % 64)
     (c % 64) (c / 262144) (c / 4096 % 64) (c / 64 % 64) (c % 64)

@@ -10,7 +10,7 @@ use Rattle.lq_value.specs.declared.op.Op.TheVariants.{Eq, Ne}
 use Rattle.lq_value.specs.Source.{pattern_of}
 use Rattle.lq_predicate_formula.specs.Tokens.{Token, opens, closes, bang, ands, ors, op, word, lone, cut, Placed}
 use Rattle.lq_predicate_formula.specs.Query.{Compare}
-use Rattle.lq_predicate_formula.specs.Machine.{operand, after_attr, after_operand, MachineState, deeper, empty_frame, frame_with, said_by, completed, step, steps, Frame, Expected, after_op, start}
+use Rattle.lq_predicate_formula.specs.Machine.{operand, after_attr, after_operand, MachineState, deeper, empty_frame, frame_with, said_by, completed, step_token, steps, Frame, Expected, after_op, start}
 use Rattle.lq_predicate_formula.specs.Literals.{literal_fault, literal_of, name_of, pattern_literal}
 use Rattle.lq_predicate_formula.specs.Grammar.{nesting}
 use Rattle.lq_predicate_formula.specs.Faults.{AwaitsAttr, IsFaultOf, stray, cut_off, alone, too_deep, bad_name, bad_pattern, kind_of}
@@ -29,7 +29,7 @@ suc_over n k = omega arith
 
 -- a move is one with more room too, and that much is left over
 move_wider : (k : ℕ) {x s : MachineState} {t : Token} → Move x t s
-    → step (wider k x) t ≡ Some (wider k s)
+    → step_token (wider k x) t ≡ Some (wider k s)
 move_wider k (enter below f n) =
     ap (λ m. deeper m (λ j. at operand (f ∷ below) empty_frame j)) (suc_over n k)
 move_wider k (deny below f n) =
@@ -52,7 +52,7 @@ pub steps_wider : (k : ℕ) (ts : List Token) (x s : MachineState) → steps x t
     → steps (wider k x) ts ≡ Some (wider k s)
 steps_wider k [] x s e = ap (λ y. Some (wider k y)) (same_Some x s e)
 steps_wider k (t ∷ ts) x s e =
-    let h = led (λ y. steps y ts) (step x t) s e in
+    let h = led (λ y. steps y ts) (step_token x t) s e in
     ap (option_and_then (λ y. steps y ts)) (move_wider k (move x t h.0 h.1))
     ∙ steps_wider k ts h.0 s h.2
 
@@ -70,8 +70,8 @@ stray_at end ts s place raw t e f h = stray (cannot nesting ts t s e f) h refl
 
 -- a `(` or `!` that more room would take is at fault as too deep
 deep_at : (end : ℕ) (ts : List Token) (s y : MachineState) (place raw : ℕ) (t : Token)
-    → steps (start nesting) ts ≡ Some s → step s t ≡ None → (t ≡ opens) ⊎ (t ≡ bang)
-    → step (wider 1 s) t ≡ Some y → IsFaultOf end ts (here_of place raw t) place
+    → steps (start nesting) ts ≡ Some s → step_token s t ≡ None → (t ≡ opens) ⊎ (t ≡ bang)
+    → step_token (wider 1 s) t ≡ Some y → IsFaultOf end ts (here_of place raw t) place
 deep_at end ts s y place raw t e f h g =
     let b = begun_at (nesting + 1) (ts ++ t ∷ []) y (steps_push ts t (start (nesting + 1))
     (wider 1 s) (steps_wider 1 ts (start nesting) s e) ∙ g) in
@@ -121,7 +121,7 @@ pattern_at end ts a o below f n place raw w e h =
 -- a token that is refused is at fault
 refused_at : (p : Expected) (below : List Frame) (f : Frame) (n : ℕ) (t : Token) (end : ℕ)
     (ts : List Token) (place raw : ℕ)
-    → steps (start nesting) ts ≡ Some (at p below f n) → step (at p below f n) t ≡ None
+    → steps (start nesting) ts ≡ Some (at p below f n) → step_token (at p below f n) t ≡ None
     → IsFaultOf end ts (here_of place raw t)
     (place_at end (here_of place raw t) t (pattern_fault p t))
 refused_at p below f n lone end ts place raw e h = alone refl refl
@@ -147,7 +147,7 @@ refused_at p below f n t end ts place raw e h =
 
 -- a token that the machine refuses is at fault, at the place that the reading says
 pub refused_fault : (end : ℕ) (ts : List Token) (s : MachineState) (here : Placed)
-    → steps (start nesting) ts ≡ Some s → step s here.token ≡ None
+    → steps (start nesting) ts ≡ Some s → step_token s here.token ≡ None
     → IsFaultOf end ts here (fault_place end s.expected here)
 refused_fault end ts s here e h =
     refused_at s.expected s.below s.top s.room here.token end ts here.place here.raw_place e h

@@ -13,7 +13,7 @@ use Rattle.std.proofs.lemmas.Bool.{and_parts, false≢true, le-leb}
 use Rattle.lq_predicate_formula.specs.Tokens.{Token, ands, ors, op, word}
 use Rattle.lq_predicate_formula.specs.Query.{Query, Compare, Not, And, Or, Queries, no_more, and_then, queries, list_of}
 use Rattle.lq_predicate_formula.specs.Literals.{literal_of, name_of, pattern_literal, unescaped}
-use Rattle.lq_predicate_formula.specs.Grammar.{Reading, Follows, IsAnd, IsOr, IsNot, IsFormula, nesting}
+use Rattle.lq_predicate_formula.specs.Grammar.{Reading, MoreParts, IsAnd, IsOr, IsNot, IsFormula, nesting}
 use Rattle.lq_predicate_formula.specs.Canonical.{canonical, deepest, depth, is_bare_byte, literal_text, quoted}
 use Rattle.lq_predicate_formula.specs.Limits.{AreProper, HasTwo, IsGoodLiteral, IsProper, IsWithinLimits}
 use Rattle.lq_predicate_formula.specs.Faults.{Reads}
@@ -122,8 +122,8 @@ mutual
 
   -- the tokens of the parts after the first are read as those parts
   others_read : SourcesAreRead → (qs : Queries) (n : ℕ) → AreProper qs → deepest qs ≤ n
-      → Follows (IsNot n) ands (others_said ands qs) (list_of qs)
-      × Follows (IsAnd (IsNot n)) ors (others_said ors qs) (list_of qs)
+      → MoreParts (IsNot n) ands (others_said ands qs) (list_of qs)
+      × MoreParts (IsAnd (IsNot n)) ors (others_said ors qs) (list_of qs)
   others_read law no_more n h d = (refl, refl)
   others_read law (and_then q qs) n h d =
       let one = said_reads law q n h.0 (omega arith) in

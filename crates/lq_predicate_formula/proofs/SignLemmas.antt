@@ -9,9 +9,9 @@ use Rattle.std.proofs.lemmas.List.{append_assoc, append-nil, length-append, leng
 use Rattle.lq_value.specs.declared.op.Op.{Op}
 use Rattle.lq_value.specs.declared.op.Op.TheVariants.{Eq, Ne, Lt, Le, Gt, Ge}
 use Rattle.lq_predicate_formula.specs.Bytes.{ends_word, is_space}
-use Rattle.lq_predicate_formula.specs.Tokens.{Token, opens, closes, bang, ands, ors, op, word, lone, cut, Placed, Sign, plain, escaped, sign_bytes, AllGoOn, AreSigns, AreWithout, EndsWord, HasNoEnd, IsBlank, IsQuote, IsNotNext, IsOp, IsQuoted, IsToken, IsTokenAt, IsUnquoted, HasTokens, Yields}
+use Rattle.lq_predicate_formula.specs.Tokens.{Token, opens, closes, bang, ands, ors, op, word, lone, cut, Placed, Sign, plain, escaped, sign_bytes, AllGoOn, AreSigns, AreWithout, IsAfterWord, HasNoEnd, IsBlank, IsQuote, IsNotNext, IsOp, IsQuoted, IsToken, IsTokenAt, IsUnquoted, HasTokens, Yields}
 use Rattle.lq_predicate_formula.proofs.CountLemmas.{added, added_none}
-use Rattle.lq_predicate_formula.specs.Lexing.{spaces, word_bytes, quoted_bytes, Front, fixed, begins_with, longer, quoted_front, word_front, is_symbol, symbol_front, front, front_at, placed_at, BeginsBy, trimmed}
+use Rattle.lq_predicate_formula.specs.Lexing.{spaces, word_bytes, quoted_bytes, LexedToken, fixed, begins_with, longer, quoted_front, word_front, is_symbol, symbol_front, front, front_at, placed_at, BeginsBy, trimmed}
 
 -- ---- tests of bytes
 
@@ -69,21 +69,21 @@ is_next c (b ∷ bs) h = (bs, ap (λ x. x ∷ bs) (eqb-true b c h))
 -- ---- words: what the signs are, the lexer counts
 
 -- no byte of a word is counted where words end
-ends_none : (rest : List ℕ) → EndsWord rest → word_bytes false rest ≡ 0
+ends_none : (rest : List ℕ) → IsAfterWord rest → word_bytes false rest ≡ 0
 ends_none rest (inl e) = ap (word_bytes false) e
 ends_none rest (inr (inl e)) = ap (word_bytes false) e
 ends_none rest (inr (inr h)) =
     rw (h.2, not_that ends_word 92 h.0 refl h.3, h.3)
 
 -- signs that end no word are counted
-signs_word : (ss : List Sign) (rest : List ℕ) → AllGoOn ends_word ss → EndsWord rest
+signs_word : (ss : List Sign) (rest : List ℕ) → AllGoOn ends_word ss → IsAfterWord rest
     → word_bytes false (sign_bytes ss ++ rest) ≡ length (sign_bytes ss)
 signs_word [] rest h e = ends_none rest e
 signs_word (plain b ∷ ss) rest h e = rw (h.0.0, h.0.1, signs_word ss rest h.1 e)
 signs_word (escaped b ∷ ss) rest h e = ap (λ n. suc (suc n)) (signs_word ss rest h.1 e)
 
 -- a front by its parts
-abbrev front_with : Token → ℕ → ℕ → Front
+abbrev front_with : Token → ℕ → ℕ → LexedToken
 front_with t n i = record { token = t; size = n; inside = i }
 
 -- the part begins with a byte that is no white space, and the front of the text is the token
@@ -100,7 +100,7 @@ counted_word b bs rest s m e =
 
 -- a word by its signs is the word that the lexer finds
 signs_start : (ss : List Sign) (rest : List ℕ) → AllGoOn ends_word ss
-    → (sign_bytes ss ≡ [] → ⊥) → EndsWord rest
+    → (sign_bytes ss ≡ [] → ⊥) → IsAfterWord rest
     → Starts (word (sign_bytes ss)) 0 (sign_bytes ss) rest
 signs_start [] rest h some e = absurd (some refl)
 signs_start (plain b ∷ ss) rest h some e = (
@@ -328,7 +328,7 @@ tokens_by (t ∷ ts) at bs h =
 -- a word of this many bytes
 abbrev Splits : ℕ → List ℕ → Type 0
 Splits n bs =
-    AreSigns ends_word (take n bs) × EndsWord (drop n bs) × (length (take n bs) ≡ n)
+    AreSigns ends_word (take n bs) × IsAfterWord (drop n bs) × (length (take n bs) ≡ n)
 
 -- the bytes of a word that the lexer counts are signs, and then words end; the same after a `\`
 word_splits : (bs : List ℕ)
@@ -399,7 +399,7 @@ quoted_splits m (b ∷ bs) =
     )
 
 -- the text begins with the token of a front, by its signs
-abbrev pub Stands : List ℕ → Front → Type 0
+abbrev pub Stands : List ℕ → LexedToken → Type 0
 Stands l f = (part : List ℕ) × (rest : List ℕ) × (l ≡ part ++ rest) × (length part ≡ f.size)
     × IsToken f.token f.inside part rest
 
@@ -464,7 +464,7 @@ word_stands : (b : ℕ) (bs : List ℕ) (n : ℕ) → ends_word b ≡ false → 
 word_stands b bs zero inner s =
     (b ∷ bs, [], sym (append-nil (b ∷ bs)), refl, inl (refl, (refl, inl (only s.1))))
   where
-    only : EndsWord (b ∷ bs) → b ∷ bs ≡ 92 ∷ []
+    only : IsAfterWord (b ∷ bs) → b ∷ bs ≡ 92 ∷ []
     only (inl e) = let l : suc (length bs) ≡ 0 = ap length e in absurd (omega arith)
     only (inr (inl e)) = e
     only (inr (inr h)) =

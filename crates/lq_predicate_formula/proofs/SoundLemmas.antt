@@ -6,8 +6,8 @@ use Rattle.lq_predicate_formula.specs.Tokens.{Token, opens, closes, bang, ands, 
 use Rattle.lq_value.specs.declared.literal.Literal.{Literal}
 use Rattle.lq_predicate_formula.specs.Literals.{name_of, literal_of}
 use Rattle.lq_predicate_formula.specs.Query.{Query, Compare, Not, both_of, either_of}
-use Rattle.lq_predicate_formula.specs.Grammar.{Follows, IsAnd, IsNot, IsFormula}
-use Rattle.lq_predicate_formula.specs.Machine.{Frame, Expected, operand, after_attr, after_op, after_operand, MachineState, empty_frame, start, negate, said_by, step, run, whole_at}
+use Rattle.lq_predicate_formula.specs.Grammar.{MoreParts, IsAnd, IsNot, IsFormula}
+use Rattle.lq_predicate_formula.specs.Machine.{Frame, Expected, operand, after_attr, after_op, after_operand, MachineState, empty_frame, start, negate, said_by, step_token, run_tokens, whole_at}
 use Rattle.lq_predicate_formula.proofs.MoveLemmas.{led, move, Move, enter, deny, attribute, operator, complete, one_and, one_or, leave}
 
 -- The tokens end a frame behind an operand: more parts of its
@@ -20,8 +20,8 @@ record Rest (n : ℕ) (os xs : List Query) (K : Query → List Token → Type 0)
   pub b : List Token
   pub c : List Token
   pub split : ts ≡ a ++ (b ++ c)
-  pub more_ands : Follows (IsNot n) ands a more
-  pub more_ors : Follows (IsAnd (IsNot n)) ors b ys
+  pub more_ands : MoreParts (IsNot n) ands a more
+  pub more_ors : MoreParts (IsAnd (IsNot n)) ors b ys
   pub then : K (either_of (os ++ (both_of (xs ++ more) ∷ ys))) c
 
 -- after a frame's query the text ends, or a `)` ends the frame and becomes a part of the one below
@@ -209,14 +209,14 @@ ended after_operand [] f n q e = rest_end n f.or_parts f.and_parts (λ r c. Clos
 ended p below f n q e = absurd (none-some q e)
 
 -- the tokens that the machine runs over to a query end a formula, as the grammar reads it
-sound : (ts : List Token) (x : MachineState) (q : Query) → run x ts ≡ Some q → Ends x q ts
+sound : (ts : List Token) (x : MachineState) (q : Query) → run_tokens x ts ≡ Some q → Ends x q ts
 sound [] x q e = ended x.expected x.below x.top x.room q e
 sound (t ∷ ts) x q e =
-    let h = led (λ y. run y ts) (step x t) q e in
+    let h = led (λ y. run_tokens y ts) (step_token x t) q e in
     ends_from q ts (move x t h.0 h.1) (sound ts h.0 q h.2)
 
 -- what the machine reads is a formula
-pub run_reads : (n : ℕ) (ts : List Token) (q : Query) → run (start n) ts ≡ Some q → IsFormula n ts q
+pub run_reads : (n : ℕ) (ts : List Token) (q : Query) → run_tokens (start n) ts ≡ Some q → IsFormula n ts q
 run_reads n ts q e =
     let w = whole [] n q ts (sound ts (start n) q e) in
     let all : ts ≡ w.0 = w.3 ∙ ap (λ c. w.0 ++ c) w.5.0 ∙ append-nil w.0 in

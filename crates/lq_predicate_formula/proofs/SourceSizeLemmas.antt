@@ -13,7 +13,7 @@ use Rattle.lq_value.specs.declared.op.Op.{Op}
 use Rattle.lq_value.specs.Element.TheVariants.{Set}
 use Rattle.lq_value.specs.Item.TheVariants.{One, Range}
 use Rattle.lq_value.specs.Laws.{AreWalked, SourcesAreWalked}
-use Rattle.lq_value.specs.Sign.{Signs, signs_of, signs_len}
+use Rattle.lq_value.specs.Sign.{SignList, signs_of, signs_len}
 use Rattle.lq_value.specs.Source.{First, ends, has, faulty, Pieces, whole, stuck, begin, after_first, elements_or_place, element_at, item_at, pattern_of, pieces_of, set_with}
 use Rattle.lq_predicate_formula.specs.Query.{Compare}
 use Rattle.lq_predicate_formula.specs.Canonical.{in_marks, attr_then, op_text, literal_text, pattern_text, element_then, item_then, items_then, canonical}
@@ -50,7 +50,7 @@ item_split i is = ap length (items_step i is)
     ∙ length-append (encode_utf8_all (item_then i [])) (encode_utf8_all (items_then is []))
 
 -- the pieces, where it is known what is first
-step_by : {A : Type 0} {first : Signs → First A} (w : AreWalked first) (ss : Signs) (r : First A)
+step_by : {A : Type 0} {first : SignList → First A} (w : AreWalked first) (ss : SignList) (r : First A)
     → first ss ≡ r → pieces_of first ss ≡ after_first ss r (pieces_of first)
 step_by {first = first} w ss r e = w.step ss ∙ ap (λ x. after_first ss x (pieces_of first)) e
 
@@ -66,8 +66,8 @@ item_more n n' p i (whole is rest) e new =
 item_more n n' p i (stuck rest) e new = refl
 
 -- while a set's source is read: one item more keeps what the whole will be
-pub items_on : SourcesAreWalked → (n n' p : ℕ) (ss rest : Signs) (i : Item)
-    (all : Option (ℕ × Signs)) → items_sized n (pieces_of item_at ss) ≡ all
+pub items_on : SourcesAreWalked → (n n' p : ℕ) (ss rest : SignList) (i : Item)
+    (all : Option (ℕ × SignList)) → items_sized n (pieces_of item_at ss) ≡ all
     → item_at ss ≡ has i rest → p ≡ capped (length (encode_utf8_all (item_then i [])))
     → n' ≡ capped (n + p)
     → items_sized n' (pieces_of item_at rest) ≡ all
@@ -80,7 +80,7 @@ pub one_byte : (c : ℕ) → c < 128 → length (encode_utf8_all (c ∷ [])) ≡
 one_byte c small = ap (λ t. length (t ++ [])) (encode_ascii c small)
 
 -- a set's source that ends here is as large as was counted, and its `]`
-pub items_end : SourcesAreWalked → (n n' : ℕ) (ss rest : Signs) (all : Option (ℕ × Signs))
+pub items_end : SourcesAreWalked → (n n' : ℕ) (ss rest : SignList) (all : Option (ℕ × SignList))
     → items_sized n (pieces_of item_at ss) ≡ all → item_at ss ≡ ends rest → n' ≡ capped (n + 1)
     → all ≡ Some (n', rest)
 items_end law n n' ss rest all so_far is new =
@@ -89,7 +89,7 @@ items_end law n n' ss rest all so_far is new =
     ∙ ap (λ k. Some (k, rest)) size
 
 -- a set's source that is bad here is bad
-pub items_stuck : SourcesAreWalked → (n : ℕ) (ss : Signs) (all : Option (ℕ × Signs))
+pub items_stuck : SourcesAreWalked → (n : ℕ) (ss : SignList) (all : Option (ℕ × SignList))
     → items_sized n (pieces_of item_at ss) ≡ all → item_at ss ≡ faulty → all ≡ None
 items_stuck law n ss all so_far is =
     sym so_far ∙ ap (items_sized n) (step_by law.items ss faulty is)
@@ -97,7 +97,7 @@ items_stuck law n ss all so_far is =
 -- ---- a set, which has an item at least
 
 -- a size that was counted over a set's items is that of whole items
-items_whole : (r : Pieces Item) (size : ℕ) (rest : Signs) → items_sized 0 r ≡ Some (size, rest)
+items_whole : (r : Pieces Item) (size : ℕ) (rest : SignList) → items_sized 0 r ≡ Some (size, rest)
     → (is : List Item) × (r ≡ whole is rest) × (size ≡ capped (items_bytes is))
 items_whole (whole is behind) size rest e =
     let same = some_pair_parts (capped (0 + items_bytes is)) size behind rest e in
@@ -138,7 +138,7 @@ only_end [] more e = omega (arith, more, one_byte 93 (lit< tt))
 only_end (i ∷ is) more e = cc
 
 -- a set of one byte has no item, and is bad
-pub set_empty : (r : Pieces Item) (negated : Bool) (n : ℕ) (rest : Signs)
+pub set_empty : (r : Pieces Item) (negated : Bool) (n : ℕ) (rest : SignList)
     → items_sized 0 r ≡ Some (n, rest) → n ≤ 1 → set_with negated r ≡ faulty
 set_empty (whole [] rest) negated n behind e h = refl
 set_empty (whole (i ∷ is) rest) negated n behind e h =
@@ -162,7 +162,7 @@ set_bytes false is =
     omega (arith, one)
 
 -- a set with an item is an element
-set_of : (negated : Bool) (is : List Item) (rest : Signs) → (is ≡ [] → ⊥)
+set_of : (negated : Bool) (is : List Item) (rest : SignList) → (is ≡ [] → ⊥)
     → set_with negated (whole is rest) ≡ has (Set negated is) rest
 set_of negated [] rest some = absurd (some refl)
 set_of negated (i ∷ is) rest some = refl

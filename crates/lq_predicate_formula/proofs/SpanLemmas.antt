@@ -19,7 +19,7 @@ use Rattle.lq_value.specs.declared.op.Op.{Op}
 use Rattle.lq_predicate_formula.specs.Query.{Query, Compare, Not, And, Or, Queries, no_more, and_then}
 use Rattle.lq_predicate_formula.specs.declared.span.Span.{Span}
 use Rattle.lq_predicate_formula.specs.Laws.{TruthStaysBesideSpans}
-use Rattle.lq_predicate_formula.specs.Span.{numbers_of, all_numbers, widened, no_span, is_beside}
+use Rattle.lq_predicate_formula.specs.Span.{numbers_of, all_numbers, widened, no_span, is_outside}
 use Rattle.lq_predicate_formula.proofs.PartLemmas.{all_parts}
 use Rattle.lq_predicate_formula.specs.Truth.{Look, compares_if_present, truth, all_true, some_true}
 
@@ -47,8 +47,8 @@ above-both a m n h = (grind (arith, ints, clamps), omega (arith, ints, clamps))
 
 -- beside a span with one number more: beside the span, and alike to that number
 beside-one : (l g n a b : ℤ)
-    → is_beside (record { least = int_min l n; greatest = int_max g n }) a b ≡ true
-    → (int_cmp a n ≡ int_cmp b n) × (is_beside (record { least = l; greatest = g }) a b ≡ true)
+    → is_outside (record { least = int_min l n; greatest = int_max g n }) a b ≡ true
+    → (int_cmp a n ≡ int_cmp b n) × (is_outside (record { least = l; greatest = g }) a b ≡ true)
 beside-one l g n a b h = elim (or_cases _ _ h) [
   | inl low ↦
       let k = and_parts _ _ low in
@@ -68,8 +68,8 @@ beside-one l g n a b h = elim (or_cases _ _ h) [
 
 -- beside a span widened by some numbers: beside the span, and alike to those numbers
 beside-alike : (ns : List ℤ) (l g a b : ℤ)
-    → is_beside (widened (record { least = l; greatest = g }) ns) a b ≡ true
-    → Alike a b ns × (is_beside (record { least = l; greatest = g }) a b ≡ true)
+    → is_outside (widened (record { least = l; greatest = g }) ns) a b ≡ true
+    → Alike a b ns × (is_outside (record { least = l; greatest = g }) a b ≡ true)
 beside-alike [] l g a b h = (tt, h)
 beside-alike (n ∷ ns) l g a b h =
     let rest = beside-alike ns (int_min l n) (int_max g n) a b h in

@@ -13,7 +13,7 @@ use Rattle.lq_predicate_formula.specs.Tokens.{Token, closes, op, word}
 use Rattle.lq_predicate_formula.specs.Literals.{pattern_literal, literal_of}
 use Rattle.lq_predicate_formula.specs.Query.{Query, Compare}
 use Rattle.lq_predicate_formula.specs.Grammar.{IsFormula, nesting, IsBegun}
-use Rattle.lq_predicate_formula.specs.Machine.{Frame, Expected, operand, after_attr, after_op, after_operand, MachineState, start, frame_with, completed, said_by, step, run, finished_query, steps}
+use Rattle.lq_predicate_formula.specs.Machine.{Frame, Expected, operand, after_attr, after_op, after_operand, MachineState, start, frame_with, completed, said_by, step_token, run_tokens, finished_query, steps}
 use Rattle.lq_predicate_formula.specs.Faults.{CanStand, kind_of}
 use Rattle.lq_predicate_formula.proofs.CompleteLemmas.{formula_runs}
 use Rattle.lq_predicate_formula.proofs.MoveLemmas.{at, steps_run}
@@ -21,7 +21,7 @@ use Rattle.lq_predicate_formula.proofs.SoundLemmas.{run_reads}
 
 -- tokens that lead from a state to a query
 abbrev Leads : MachineState → Type 0
-Leads s = (rest : List Token) × (q : Query) × (run s rest ≡ Some q)
+Leads s = (rest : List Token) × (q : Query) × (run_tokens s rest ≡ Some q)
 
 -- after an operand, as many `)` as frames are open lead to a formula
 leads_behind : (below : List Frame) (f : Frame) (n : ℕ) → Leads (at after_operand below f n)
@@ -49,7 +49,7 @@ leads_op a o below f n =
     let h = leads_behind below (frame_with (Compare a o e.0) f) (n + f.bangs) in (
       word [] ∷ h.0,
       h.1,
-      ap (λ r. option_and_then (λ s. run s h.0)
+      ap (λ r. option_and_then (λ s. run_tokens s h.0)
           (option_map (λ literal. completed (Compare a o literal) below f n) r)) e.1 ∙ h.2,
     )
 
@@ -80,22 +80,22 @@ can_stand ts us s e alike =
 
 -- tokens with one after them that is refused begin no formula
 pub not_begun : (ts : List Token) (t : Token) (s : MachineState)
-    → steps (start nesting) ts ≡ Some s → step s t ≡ None → IsBegun (ts ++ t ∷ []) → ⊥
+    → steps (start nesting) ts ≡ Some s → step_token s t ≡ None → IsBegun (ts ++ t ∷ []) → ⊥
 not_begun ts t s e f b =
     let reads = formula_runs nesting ((ts ++ t ∷ []) ++ b.0) b.1 b.2 in
-    let fails : run s (t ∷ b.0) ≡ None = ap (option_and_then (λ s'. run s' b.0)) f in
+    let fails : run_tokens s (t ∷ b.0) ≡ None = ap (option_and_then (λ s'. run_tokens s' b.0)) f in
     none-some b.1 (sym fails ∙ sym (steps_run ts (start nesting) s (t ∷ b.0) e)
-    ∙ ap (run (start nesting)) (sym (append_assoc ts (t ∷ []) b.0)) ∙ reads)
+    ∙ ap (run_tokens (start nesting)) (sym (append_assoc ts (t ∷ []) b.0)) ∙ reads)
 
 -- where all tokens are taken and a query is whole, they are a formula of that query
 pub reads_at_end : (all : List Token) (s : MachineState) (q : Query)
     → steps (start nesting) all ≡ Some s → finished_query s ≡ Some q → IsFormula nesting all q
 reads_at_end all s q g f = run_reads nesting all q
-    (ap (run (start nesting)) (sym (append-nil all)) ∙ steps_run all (start nesting) s [] g ∙ f)
+    (ap (run_tokens (start nesting)) (sym (append-nil all)) ∙ steps_run all (start nesting) s [] g ∙ f)
 
 -- where all tokens are taken and no query is whole, they are no formula
 pub ends_none : (all : List Token) (s : MachineState) → steps (start nesting) all ≡ Some s
     → finished_query s ≡ None
     → (q : Query) → IsFormula nesting all q → ⊥
 ends_none all s g f q h = none-some q (sym f ∙ sym (steps_run all (start nesting) s [] g)
-    ∙ ap (run (start nesting)) (append-nil all) ∙ formula_runs nesting all q h)
+    ∙ ap (run_tokens (start nesting)) (append-nil all) ∙ formula_runs nesting all q h)

@@ -8,7 +8,7 @@ use Rattle.lq_value.specs.declared.op.Op.{Op}
 use Rattle.lq_value.specs.declared.op.Op.TheVariants.{Eq}
 use Rattle.lq_predicate_formula.specs.Tokens.{Token, word, Placed, bare, op, cut}
 use Rattle.lq_predicate_formula.specs.Grammar.{nesting}
-use Rattle.lq_predicate_formula.specs.Machine.{MachineState, start, step, steps, Expected, after_op, completed}
+use Rattle.lq_predicate_formula.specs.Machine.{MachineState, start, step_token, steps, Expected, after_op, completed}
 use Rattle.lq_predicate_formula.specs.Faults.{AreFine, IsFaultOf, most_comparisons, AwaitsAttr, CanStand, stray, cut_off, alone, too_deep, bad_name, one_more, bad_pattern, kind_of}
 use Rattle.lq_predicate_formula.specs.MachineReading.{fault_place, pattern_fault, place_at, read_tokens, word_count}
 use Rattle.lq_predicate_formula.specs.Query.{Compare}
@@ -54,7 +54,7 @@ Next end seen t s count =
 
 -- it is refused, or one word too many, or taken
 next_by : (end : ℕ) (seen : List Placed) (t : Placed) (s : MachineState) (count : ℕ)
-    → Seen seen s count → (o : Option MachineState) → step s t.token ≡ o
+    → Seen seen s count → (o : Option MachineState) → step_token s t.token ≡ o
     → (most_words < count + word_count t.token) ⊎ (count + word_count t.token ≤ most_words)
     → Next end seen t s count
 unfolding read_tokens
@@ -78,7 +78,7 @@ next_by end seen t s count h (Some s') e (inr few) =
 -- the next token is at fault or passed over
 pub next : (end : ℕ) (seen : List Placed) (t : Placed) (s : MachineState) (count : ℕ)
     → Seen seen s count → Next end seen t s count
-next end seen t s count h = next_by end seen t s count h (step s t.token) refl
+next end seen t s count h = next_by end seen t s count h (step_token s t.token) refl
     (cases_lt most_words (count + word_count t.token))
 
 -- the state behind tokens none of which is at fault, from where the reading goes on

@@ -10,7 +10,7 @@ use Rattle.lq_value.specs.declared.op.Op.TheVariants.{Eq, Ne}
 use Rattle.lq_value.specs.Source.{pattern_of}
 use Rattle.lq_predicate_formula.specs.Tokens.{Token, word, Placed, op, lone, cut, bare}
 use Rattle.lq_predicate_formula.specs.Grammar.{nesting}
-use Rattle.lq_predicate_formula.specs.Machine.{Expected, operand, after_attr, after_op, MachineState, start, step, steps, after_operand, step_at}
+use Rattle.lq_predicate_formula.specs.Machine.{Expected, operand, after_attr, after_op, MachineState, start, step_token, steps, after_operand, step_at}
 use Rattle.lq_predicate_formula.specs.Faults.{AwaitsAttr, IsFaultOf, one_more, most_comparisons, operators, AreFine, stray, cut_off, alone, too_deep, bad_name, bad_pattern}
 use Rattle.lq_predicate_formula.specs.Literals.{literal_fault, literal_of, name_of, pattern_literal}
 use Rattle.lq_predicate_formula.proofs.MoveLemmas.{at, led, move, Move, attribute, operator, complete, last_move, split_steps, steps_push}
@@ -27,7 +27,7 @@ pub balanced : (ts : List Token) (x s : MachineState) → steps x ts ≡ Some s
 balanced [] x s e =
     subst (λ y. Balances x.expected 0 0 y.expected) (same_Some x s e) (omega arith)
 balanced (t ∷ ts) x s e =
-    let h = led (λ y. steps y ts) (step x t) s e in
+    let h = led (λ y. steps y ts) (step_token x t) s e in
     let here = (move_keeps (move x t h.0 h.1)).1 in
     let others = balanced ts h.0 s h.2 in
     omega arith
@@ -46,9 +46,9 @@ full_at ts (complete below f n a o raw literal h) e m =
 -- a word that is taken after the most words is at fault as one comparison too many
 pub full : (end : ℕ) (ts : List Token) (s s' : MachineState) (here : Placed) (w : List ℕ)
     → steps (start nesting) ts ≡ Some s → words ts ≡ most_comparisons + most_comparisons
-    → here.token ≡ word w → step s here.token ≡ Some s' → IsFaultOf end ts here here.place
+    → here.token ≡ word w → step_token s here.token ≡ Some s' → IsFaultOf end ts here here.place
 full end ts s s' here w e m h g =
-    let k = full_at ts (move s (word w) s' (subst (λ t. step s t ≡ Some s') h g)) e m in
+    let k = full_at ts (move s (word w) s' (subst (λ t. step_token s t ≡ Some s') h g)) e m in
     one_more w h k.0 k.1 refl
 
 -- ---- what is taken
@@ -87,7 +87,7 @@ never_bad_at k (operator below f n a o) (complete below' f' n' a' o' w literal e
 
 -- after tokens that end with an operator, a word with a bad place is not taken
 pub never_bad : (front : List Token) (o : Op) (w : List ℕ) (k : ℕ) (s s' : MachineState)
-    → steps (start nesting) (front ++ op o ∷ []) ≡ Some s → step s (word w) ≡ Some s'
+    → steps (start nesting) (front ++ op o ∷ []) ≡ Some s → step_token s (word w) ≡ Some s'
     → literal_fault o w ≡ Some k → ⊥
 never_bad front o w k s s' e g h =
     never_bad_at k (last_move front (op o) s e).1 (move s (word w) s' g) h
@@ -104,28 +104,28 @@ never_full ts (complete below f n a u raw literal h) e m few o k = none-some o k
 
 -- a token that is taken, with no more than so many words, is at no fault
 taken_fine : (end : ℕ) (front : List Token) (here : Placed) (s s' : MachineState) (p : ℕ)
-    → steps (start nesting) front ≡ Some s → step s here.token ≡ Some s'
+    → steps (start nesting) front ≡ Some s → step_token s here.token ≡ Some s'
     → words (front ++ here.token ∷ []) ≤ most_comparisons + most_comparisons
     → IsFaultOf end front here p → ⊥
 taken_fine end front here s s' p e g few (stray h i j) =
     h (can_stand (front ++ here.token ∷ []) (front ++ here.token ∷ []) s'
     (steps_push front here.token (start nesting) s e ∙ g) refl)
 taken_fine end front here s s' p e g few (cut_off h j) =
-    (never s.expected s s').0 (subst (λ t. step s t ≡ Some s') h g)
+    (never s.expected s s').0 (subst (λ t. step_token s t ≡ Some s') h g)
 taken_fine end front here s s' p e g few (alone h j) =
-    (never s.expected s s').1 (subst (λ t. step s t ≡ Some s') h g)
+    (never s.expected s s').1 (subst (λ t. step_token s t ≡ Some s') h g)
 taken_fine end front here s s' p e g few (too_deep h d j) = d.1 (begun_at nesting
     (front ++ here.token ∷ []) s' (steps_push front here.token (start nesting) s e ∙ g))
 taken_fine end front here s s' p e g few (bad_name w h a n j) =
     let o = stands_outline nesting front (word [] ∷ op Eq ∷ []) s e a in
-    never_nameless (move s (word w) s' (subst (λ t. step s t ≡ Some s') h g)) n o.0 o.1
+    never_nameless (move s (word w) s' (subst (λ t. step_token s t ≡ Some s') h g)) n o.0 o.1
 taken_fine end front here s s' p e g few (one_more w h a m j) =
     let o = stands_outline nesting front (word [] ∷ op Eq ∷ []) s e a in
-    never_full front (move s (word w) s' (subst (λ t. step s t ≡ Some s') h g)) e m
+    never_full front (move s (word w) s' (subst (λ t. step_token s t ≡ Some s') h g)) e m
     (subst (λ t. words (front ++ t ∷ []) ≤ most_comparisons + most_comparisons) h few) o.0 o.1
 taken_fine end front here s s' p e g few (bad_pattern f o w k split h i j) =
     never_bad f o w k s s' (subst (λ ts. steps (start nesting) ts ≡ Some s) split e)
-    (subst (λ t. step s t ≡ Some s') h g) i
+    (subst (λ t. step_token s t ≡ Some s') h g) i
 
 -- tokens that are taken, with no word too many, are not at fault
 pub fine : (end : ℕ) (seen : List Placed) (s : MachineState)
@@ -137,7 +137,7 @@ fine end seen s e few before here after p split fault =
     ap bare split ∙ map-append (λ x. x.token) before (here ∷ after) in
     let d = split_steps (bare before) (t ∷ bare after) (start nesting) s
     (subst (λ ts. steps (start nesting) ts ≡ Some s) parts e) in
-    let g = led (λ y. steps y (bare after)) (step d.0 t) s d.2 in
+    let g = led (λ y. steps y (bare after)) (step_token d.0 t) s d.2 in
     let all : words (bare before ++ t ∷ bare after) ≤ most_comparisons + most_comparisons =
     subst (λ ts. words ts ≤ most_comparisons + most_comparisons) parts few in
     let this : words (bare before ++ t ∷ []) ≤ most_comparisons + most_comparisons = omega

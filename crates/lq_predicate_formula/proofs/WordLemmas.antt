@@ -2,7 +2,7 @@
 use Rattle.std.proofs.Common.{◌≡◌, ℕ, zero, suc, ◌+◌, List, [], ◌∷◌, ◌++◌, refl, sym, ap, ◌∙◌, arith, inl, inr}
 use Rattle.lq_predicate_formula.specs.Tokens.{Token, closes, ands, ors}
 use Rattle.lq_predicate_formula.specs.Query.{Query, queries, both_of, either_of}
-use Rattle.lq_predicate_formula.specs.Grammar.{Reading, Follows, Parts, IsAnd, IsOr, IsComparison, IsNot, IsFormula}
+use Rattle.lq_predicate_formula.specs.Grammar.{Reading, MoreParts, Parts, IsAnd, IsOr, IsComparison, IsNot, IsFormula}
 use Rattle.lq_predicate_formula.specs.Canonical.{comparisons, all_comparisons}
 use Rattle.lq_predicate_formula.specs.MachineReading.{word_count}
 
@@ -34,7 +34,7 @@ either_total q (r ∷ qs) = refl
 
 -- parts that follow one another have two words for each comparison
 follows_counts : (P : Reading) → Counts P → (sep : Token) → word_count sep ≡ 0
-    → (ts : List Token) (qs : List Query) → Follows P sep ts qs
+    → (ts : List Token) (qs : List Query) → MoreParts P sep ts qs
     → words ts ≡ all_comparisons (queries qs) + all_comparisons (queries qs)
 follows_counts P counts sep none ts [] h = ap words h
 follows_counts P counts sep none ts (q ∷ qs) h =

@@ -11,15 +11,15 @@ abbrev pub Reading : Type 1
 Reading = List Token → Query → Type 0
 
 -- Each query in turn follows a separator.
-abbrev pub Follows : Reading → Token → List Token → List Query → Type 0
-Follows P sep ts [] = ts ≡ []
-Follows P sep ts (q ∷ qs) =
-    (a : List Token) × (b : List Token) × (ts ≡ sep ∷ (a ++ b)) × P a q × Follows P sep b qs
+abbrev pub MoreParts : Reading → Token → List Token → List Query → Type 0
+MoreParts P sep ts [] = ts ≡ []
+MoreParts P sep ts (q ∷ qs) =
+    (a : List Token) × (b : List Token) × (ts ≡ sep ∷ (a ++ b)) × P a q × MoreParts P sep b qs
 
 -- one or more parts, with a separator between them
 abbrev pub Parts : Reading → Token → List Token → Query → List Query → Type 0
 Parts P sep ts q qs =
-    (a : List Token) × (b : List Token) × (ts ≡ a ++ b) × P a q × Follows P sep b qs
+    (a : List Token) × (b : List Token) × (ts ≡ a ++ b) × P a q × MoreParts P sep b qs
 
 abbrev pub IsAnd : Reading → Reading
 IsAnd P ts r = (q : Query) × (qs : List Query) × (r ≡ both_of (q ∷ qs)) × Parts P ands ts q qs

@@ -31,12 +31,12 @@ quoted_bytes mark false (b ∷ bs) =
 quoted_bytes mark true (b ∷ bs) = option_map (λ n. suc (suc n)) (quoted_bytes mark false bs)
 
 -- a token, its length in bytes, and the offset of its raw text
-pub record Front : Type 0 where
+pub record LexedToken : Type 0 where
   pub token : Token
   pub size : ℕ
   pub inside : ℕ
 
-abbrev pub fixed : Token → ℕ → Front
+abbrev pub fixed : Token → ℕ → LexedToken
 fixed t n = record { token = t; size = n; inside = 0 }
 
 abbrev pub begins_with : ℕ → List ℕ → Bool
@@ -44,14 +44,14 @@ begins_with c [] = false
 begins_with c (b ∷ bs) = b == c
 
 -- the longer token, if this byte is next
-abbrev pub longer : ℕ → List ℕ → Token → Token → Front
+abbrev pub longer : ℕ → List ℕ → Token → Token → LexedToken
 longer c bs t u = if begins_with c bs then fixed t 2 else fixed u 1
 
-abbrev pub quoted_front : List ℕ → Option ℕ → Front
+abbrev pub quoted_front : List ℕ → Option ℕ → LexedToken
 quoted_front bs None = fixed cut (suc (length bs))
 quoted_front bs (Some n) = record { token = word (take n bs); size = suc (suc n); inside = 1 }
 
-abbrev pub word_front : List ℕ → ℕ → Front
+abbrev pub word_front : List ℕ → ℕ → LexedToken
 word_front bs n =
     if n == 0
     then fixed cut (length bs)
@@ -62,7 +62,7 @@ abbrev pub is_symbol : ℕ → Bool
 is_symbol b = b == 40 || b == 41 || b == 33 || b == 61 || b == 60 || b == 62 || b == 38 || b == 124
 
 -- the token that begins with the symbol b, with bs after it
-abbrev pub symbol_front : ℕ → List ℕ → Front
+abbrev pub symbol_front : ℕ → List ℕ → LexedToken
 symbol_front b bs =
     if b == 40 then fixed opens 1
     else (if b == 41 then fixed closes 1
@@ -74,16 +74,16 @@ symbol_front b bs =
     else longer 124 bs ors lone))))))
 
 -- the token that begins with the byte b, with bs after it
-abbrev pub front : ℕ → List ℕ → Front
+abbrev pub front : ℕ → List ℕ → LexedToken
 front b bs =
     if is_symbol b then symbol_front b bs
     else (if b == 34 || b == 39 then quoted_front bs (quoted_bytes b false bs)
     else word_front (b ∷ bs) (word_bytes false (b ∷ bs)))
 
-abbrev pub placed_at : ℕ → Front → Placed
+abbrev pub placed_at : ℕ → LexedToken → Placed
 placed_at at f = record { place = at; raw_place = at + f.inside; token = f.token }
 
-abbrev pub front_at : List ℕ → Front
+abbrev pub front_at : List ℕ → LexedToken
 front_at [] = fixed cut 0
 front_at (b ∷ bs) = front b bs
 

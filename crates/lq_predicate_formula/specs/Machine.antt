@@ -96,8 +96,8 @@ step_at (after_op a o) s t = at_op s a o t
 step_at after_operand s t = at_end s t
 
 -- None where the token isn't allowed here, or would nest too deep
-abbrev pub step : MachineState → Token → Option MachineState
-step s t = step_at s.expected s t
+abbrev pub step_token : MachineState → Token → Option MachineState
+step_token s t = step_at s.expected s t
 
 abbrev pub whole_at : Expected → List Frame → Frame → Option Query
 whole_at after_operand [] f = Some (said_by f)
@@ -107,14 +107,14 @@ whole_at p below f = None
 abbrev pub finished_query : MachineState → Option Query
 finished_query s = whole_at s.expected s.below s.top
 
-abbrev pub run : MachineState → List Token → Option Query
-run s [] = finished_query s
-run s (t ∷ ts) = option_and_then (λ s'. run s' ts) (step s t)
+abbrev pub run_tokens : MachineState → List Token → Option Query
+run_tokens s [] = finished_query s
+run_tokens s (t ∷ ts) = option_and_then (λ s'. run_tokens s' ts) (step_token s t)
 
 -- the state after the tokens
 abbrev pub steps : MachineState → List Token → Option MachineState
 steps s [] = Some s
-steps s (t ∷ ts) = option_and_then (λ s'. steps s' ts) (step s t)
+steps s (t ∷ ts) = option_and_then (λ s'. steps s' ts) (step_token s t)
 
 -- the depth of the frames below, with the `!` that wait in them
 abbrev pub open_weight : List Frame → ℕ

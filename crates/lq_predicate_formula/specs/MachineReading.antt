@@ -7,7 +7,7 @@ use Rattle.lq_predicate_formula.specs.Query.{Query}
 use Rattle.lq_predicate_formula.specs.Grammar.{nesting}
 use Rattle.lq_predicate_formula.specs.Literals.{literal_fault}
 use Rattle.lq_predicate_formula.specs.Canonical.{canonical, depth}
-use Rattle.lq_predicate_formula.specs.Machine.{Expected, after_op, MachineState, start, step, finished_query}
+use Rattle.lq_predicate_formula.specs.Machine.{Expected, after_op, MachineState, start, step_token, finished_query}
 use Rattle.lq_predicate_formula.specs.Faults.{most_bytes, most_comparisons, most_depth}
 
 -- ---- the place of the fault of a refused token
@@ -61,7 +61,7 @@ finished end (Some q) =
 -- the reading of the tokens from a state on, after this many words, where the text ends at `end`
 unfoldable pub read_tokens : ℕ → MachineState → ℕ → List Placed → Result Query ℕ
 read_tokens end s count [] = finished end (finished_query s)
-read_tokens end s count (t ∷ ts) = after_token (fault_place end s.expected t) t (step s t.token)
+read_tokens end s count (t ∷ ts) = after_token (fault_place end s.expected t) t (step_token s t.token)
     (count + word_count t.token) (λ s'. read_tokens end s' (count + word_count t.token) ts)
 
 -- the reading of a text with these tokens

@@ -4,7 +4,7 @@ use Rattle.std.specs.Str.{IsUtf8, encode_utf8_all}
 use Rattle.lq_value.specs.Element.{Element}
 use Rattle.lq_value.specs.Item.{Item}
 use Rattle.lq_value.specs.declared.literal.Literal.{Literal}
-use Rattle.lq_value.specs.Sign.{Signs, signs_of}
+use Rattle.lq_value.specs.Sign.{SignList, signs_of}
 use Rattle.lq_value.specs.Source.{First, ends, has, faulty, Pieces, whole, stuck}
 use Rattle.lq_predicate_formula.specs.Canonical.{attr_then, element_then, items_then, literal_text, pattern_text}
 use Rattle.lq_predicate_formula.specs.Capped.{capped}
@@ -30,7 +30,7 @@ pattern_sized (Ok es) = Ok (capped (pattern_bytes es))
 pattern_sized (Err place) = Err place
 
 -- the size of a set's items after this many bytes, and the text after them
-abbrev pub items_sized : ℕ → Pieces Item → Option (ℕ × Signs)
+abbrev pub items_sized : ℕ → Pieces Item → Option (ℕ × SignList)
 items_sized n (whole is rest) = Some (capped (n + items_bytes is), rest)
 items_sized n (stuck rest) = None
 

@@ -39,8 +39,8 @@ abbrev pub span_of : List ℕ → Query → Span
 span_of name q = widened no_span (numbers_of name q)
 
 -- whether both numbers are below a span, or both are above it
-abbrev pub is_beside : Span → ℤ → ℤ → Bool
-is_beside span a b =
+abbrev pub is_outside : Span → ℤ → ℤ → Bool
+is_outside span a b =
     (int_lt a span.least && int_lt b span.least)
     || (int_lt span.greatest a && int_lt span.greatest b)
 
@@ -50,4 +50,4 @@ pub record StaysBeside (span : Span) (held now : Option PlainValue) : Type 0 whe
   pub to : ℤ
   pub was : held ≡ Some (Number from)
   pub is : now ≡ Some (Number to)
-  pub beside : is_beside span from to ≡ true
+  pub beside : is_outside span from to ≡ true

@@ -3,7 +3,7 @@ use Rattle.lq_predicate_formula.specs.declared.token.Token.{Token}
 use Rattle.lq_predicate_formula.specs.declared.token.Token.TheVariants as tokens
 use Rattle.lq_predicate_formula.specs.declared.token.Placed.{Placed}
 use Rattle.lq_predicate_formula.specs.declared.piece.Piece.{Piece}
-use Rattle.lq_predicate_formula.specs.Lexing.{Front}
+use Rattle.lq_predicate_formula.specs.Lexing.{LexedToken}
 use Rattle.lq_predicate_formula.specs.Tokens as lexed
 
 abbrev pub token_of : Token → lexed.Token
@@ -20,5 +20,5 @@ token_of tokens.Cut = lexed.cut
 abbrev pub placed_of : Placed → lexed.Placed
 placed_of p = record { place = p.place; raw_place = p.raw_place; token = token_of p.token }
 
-abbrev pub front_of : Piece → Front
+abbrev pub front_of : Piece → LexedToken
 front_of p = record { token = token_of p.token; size = p.size; inside = p.inside }

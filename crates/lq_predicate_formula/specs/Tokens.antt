@@ -57,13 +57,13 @@ AreSigns ends bytes = (ss : List Sign) × (bytes ≡ sign_bytes ss) × AllGoOn e
 -- ---- words and quoted texts
 
 -- Nothing follows a word, or a byte that ends words, or a `\` with nothing after it.
-abbrev pub EndsWord : List ℕ → Type 0
-EndsWord rest = (rest ≡ []) ⊎ ((rest ≡ 92 ∷ [])
+abbrev pub IsAfterWord : List ℕ → Type 0
+IsAfterWord rest = (rest ≡ []) ⊎ ((rest ≡ 92 ∷ [])
     ⊎ ((b : ℕ) × (bs : List ℕ) × (rest ≡ b ∷ bs) × (ends_word b ≡ true)))
 
 -- some signs none of which ends a word, and the next one does or there is none
 abbrev pub IsWord : List ℕ → List ℕ → Type 0
-IsWord raw rest = AreSigns ends_word raw × (raw ≡ [] → ⊥) × EndsWord rest
+IsWord raw rest = AreSigns ends_word raw × (raw ≡ [] → ⊥) × IsAfterWord rest
 
 -- `"` or `'`
 abbrev pub IsQuote : ℕ → Type 0

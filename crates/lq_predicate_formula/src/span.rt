@@ -1,7 +1,7 @@
 //! The least and the greatest number that a query compares an attribute with: a change of the
 //! attribute that stays beside both leaves the query's truth as it was.
 ghost use Rattle.std.specs.Prelude.{◌≡◌, ◌∷◌, []};
-ghost use Rattle.lq_predicate_formula.specs.Span.{is_beside, no_span, widened};
+ghost use Rattle.lq_predicate_formula.specs.Span.{is_outside, no_span, widened};
 
 /// The least and the greatest of a set of numbers.
 #[derive(Clone, Copy)]
@@ -31,7 +31,7 @@ impl Span {
 
     /// Whether two numbers are both below the span, or both above it.
     pub fn is_beside(&self, from: i128, to: i128) -> bool
-        ensures { result ≡ is_beside self.now from to }
+        ensures { result ≡ is_outside self.now from to }
     {
         (from < self.least && to < self.least) || (self.greatest < from && self.greatest < to)
     }

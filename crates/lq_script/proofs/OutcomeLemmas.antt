@@ -1,12 +1,12 @@
 -- What each command does is what the program does with its arguments.
 use Rattle.std.proofs.Common.{arith, ◌≡◌, ◌∙◌, ◌⊎◌, ◌≤◌, inl, inr, ℕ, Bool, true, false, refl, sym, ap, subst, codes, List, [], ◌∷◌, length, get_or, Option}
 use Rattle.std.proofs.KnownBytes.{Appends-nil, Consumes-nil, Keeps-refl}
-use Rattle.lq_script_lines.specs.Outcome.{WriterLog, reader_log, writer_log}
+use Rattle.lq_script_lines.specs.Outcome.{WriterLog, log_of_reader, log_of_writer}
 use Rattle.lq_script_lines.specs.Output.{Halted, NotBegun, Stopped, output_of}
 use Rattle.lq_script_lines.specs.Words.{IsCheckOf, IsRun, IsThreads, IsUsage}
 use Rattle.lq_script_lines.specs.declared.run_fault.RunFault.TheVariants.{Memory}
 use Rattle.lq_script_desk.specs.Script.{script_session, world_rules}
-use Rattle.lq_script.specs.Outcome.{HasChecked, HasRun, IsOutcome, TellsFault, TellsLine, Transcript, transcript}
+use Rattle.lq_script.specs.Outcome.{HasChecked, HasRun, IsOutcome, TellsFault, TellsLine, Transcript, transcript_of}
 use Rattle.lq_script.specs.Written.{fault_line, usage_line}
 
 -- `run` isn't `threads`
@@ -113,11 +113,11 @@ module _ {R W F : Type 0} (words : List (List ℕ)) (status : ℕ) (t : Transcri
 pub without_memory : {R W F : Type 0} (words : List (List ℕ)) (status : ℕ) (reader : R)
     (writer : W) (faults faults' : F) (left written : Option (List ℕ))
     (failed failed' stalled flushed : Bool) (told : WriterLog) → status ≡ 1
-    → failed ≡ false → stalled ≡ false → TellsLine (transcript reader reader writer writer faults
-    faults' (reader_log left left failed) (writer_log written written failed' stalled flushed) told)
+    → failed ≡ false → stalled ≡ false → TellsLine (transcript_of reader reader writer writer faults
+    faults' (log_of_reader left left failed) (log_of_writer written written failed' stalled flushed) told)
     (fault_line Memory)
-    → IsOutcome words status (transcript reader reader writer writer faults faults'
-    (reader_log left left failed) (writer_log written written failed' stalled flushed) told)
+    → IsOutcome words status (transcript_of reader reader writer writer faults faults'
+    (log_of_reader left left failed) (log_of_writer written written failed' stalled flushed) told)
 without_memory words status reader writer faults faults' left written failed failed' stalled flushed
     told one works moves line = record {
       at_most = omega arith;

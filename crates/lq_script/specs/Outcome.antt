@@ -21,9 +21,9 @@ pub record Transcript (R W F : Type 0) : Type 0 where
   pub wrote : WriterLog
   pub told : WriterLog
 
-abbrev pub transcript : {R W F : Type 0} → R → R → W → W → F → F
+abbrev pub transcript_of : {R W F : Type 0} → R → R → W → W → F → F
     → ReaderLog → WriterLog → WriterLog → Transcript R W F
-transcript reader reader' writer writer' faults faults' read wrote told = record {
+transcript_of reader reader' writer writer' faults faults' read wrote told = record {
   reader = reader;
   reader' = reader';
   writer = writer;

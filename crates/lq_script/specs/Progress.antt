@@ -31,8 +31,8 @@ pub record SeatStanding : Type 0 where
   pub written : Option (List ℕ)
   pub waits : List ℕ
 
-abbrev pub seat_standing : OwnToken → Option (List ℕ) → List ℕ → SeatStanding
-seat_standing seat written waits = record { seat = seat; written = written; waits = waits }
+abbrev pub standing_of_seat : OwnToken → Option (List ℕ) → List ℕ → SeatStanding
+standing_of_seat seat written waits = record { seat = seat; written = written; waits = waits }
 
 -- Which changes have no reply, and which bytes of the replies the writer hasn't taken, where these
 -- replies wait. Where memory was wanting, the last change may have no reply.

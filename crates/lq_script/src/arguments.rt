@@ -1,7 +1,7 @@
 //! Carries out what the program's arguments ask for, and answers the exit status.
 ghost use Rattle.std.specs.Prelude.{◌≡◌, false};
-ghost use Rattle.lq_script_lines.specs.Outcome.{reader_log, writer_log};
-ghost use Rattle.lq_script.specs.Outcome.{IsOutcome, transcript};
+ghost use Rattle.lq_script_lines.specs.Outcome.{log_of_reader, log_of_writer};
+ghost use Rattle.lq_script.specs.Outcome.{IsOutcome, transcript_of};
 ghost use Rattle.lq_script_lines.specs.Words.{texts_of};
 
 use crate::commands::{check_formula, report_fault, report_usage, run_script};
@@ -31,12 +31,12 @@ pub fn program<T: Threads + Wait + Sync, R: Source, W: Sink, F: Sink>(
     requires reader_works { R.failed reader.old ≡ false }
     requires writer_works { W.failed writer.old ≡ false }
     requires writer_moves { W.stalled writer.old ≡ false }
-    ensures outcome { IsOutcome (texts_of words.now) result (transcript
+    ensures outcome { IsOutcome (texts_of words.now) result (transcript_of
         reader.old reader.new writer.old writer.new faults.old faults.new
-        (reader_log (R.left reader.old) (R.left reader.new) (R.failed reader.new))
-        (writer_log (W.written writer.old) (W.written writer.new)
+        (log_of_reader (R.left reader.old) (R.left reader.new) (R.failed reader.new))
+        (log_of_writer (W.written writer.old) (W.written writer.new)
         (W.failed writer.new) (W.stalled writer.new) (W.flushed writer.new))
-        (writer_log (F.written faults.old) (F.written faults.new)
+        (log_of_writer (F.written faults.old) (F.written faults.new)
         (F.failed faults.new) (F.stalled faults.new) (F.flushed faults.new))) }
 {
     match subcommand_of(alloc, words) {

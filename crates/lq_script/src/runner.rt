@@ -1,6 +1,6 @@
 //! The runner of a script's lines: it carries out each. No clause ties a reply to its line.
 ghost use Rattle.std.specs.Prelude.{◌≡◌, ◌⊎◌, ◌+◌, ◌<◌, [], length, IfErr, OnOk, true};
-ghost use Rattle.lq_script.specs.Progress.{Carries, seat_standing};
+ghost use Rattle.lq_script.specs.Progress.{Carries, standing_of_seat};
 
 use crate::gate::Gate;
 use crate::server_session::ServerSession;
@@ -67,9 +67,9 @@ impl<
             (W.failed self.new.output.writer.now ≡ true)
             ⊎ (W.stalled self.new.output.writer.now ≡ true)) }
         ensures carried { Carries result
-            (seat_standing self.old.session.seat (W.written self.old.output.writer.now)
+            (standing_of_seat self.old.session.seat (W.written self.old.output.writer.now)
             self.old.output.replies.items)
-            (seat_standing self.new.session.seat (W.written self.new.output.writer.now)
+            (standing_of_seat self.new.session.seat (W.written self.new.output.writer.now)
             self.new.output.replies.items) }
         ensures empty { OnOk result (self.new.output.replies.items ≡ []) }
     {
@@ -105,9 +105,9 @@ impl<
             (W.failed self.new.output.writer.now ≡ true)
             ⊎ (W.stalled self.new.output.writer.now ≡ true)) }
         ensures carried { Carries result
-            (seat_standing self.old.session.seat (W.written self.old.output.writer.now)
+            (standing_of_seat self.old.session.seat (W.written self.old.output.writer.now)
             self.old.output.replies.items)
-            (seat_standing self.new.session.seat (W.written self.new.output.writer.now)
+            (standing_of_seat self.new.session.seat (W.written self.new.output.writer.now)
             self.new.output.replies.items) }
     {
         match asked_by(self.alloc, &mut self.scratch, line) {
@@ -126,9 +126,9 @@ impl<
             (W.failed self.new.output.writer.now ≡ true)
             ⊎ (W.stalled self.new.output.writer.now ≡ true)) }
         ensures carried { Carries result
-            (seat_standing self.old.session.seat (W.written self.old.output.writer.now)
+            (standing_of_seat self.old.session.seat (W.written self.old.output.writer.now)
             self.old.output.replies.items)
-            (seat_standing self.new.session.seat (W.written self.new.output.writer.now)
+            (standing_of_seat self.new.session.seat (W.written self.new.output.writer.now)
             self.new.output.replies.items) }
     {
         if let Some(slot) = slot_of_read(request) {
@@ -148,9 +148,9 @@ impl<
             (W.failed self.new.output.writer.now ≡ true)
             ⊎ (W.stalled self.new.output.writer.now ≡ true)) }
         ensures carried { Carries result
-            (seat_standing self.old.session.seat (W.written self.old.output.writer.now)
+            (standing_of_seat self.old.session.seat (W.written self.old.output.writer.now)
             self.old.output.replies.items)
-            (seat_standing self.new.session.seat (W.written self.new.output.writer.now)
+            (standing_of_seat self.new.session.seat (W.written self.new.output.writer.now)
             self.new.output.replies.items) }
     {
         if self.slots.push(slot).is_err() {
@@ -169,9 +169,9 @@ impl<
             (W.failed self.new.output.writer.now ≡ true)
             ⊎ (W.stalled self.new.output.writer.now ≡ true)) }
         ensures carried { Carries result
-            (seat_standing self.old.session.seat (W.written self.old.output.writer.now)
+            (standing_of_seat self.old.session.seat (W.written self.old.output.writer.now)
             self.old.output.replies.items)
-            (seat_standing self.new.session.seat (W.written self.new.output.writer.now)
+            (standing_of_seat self.new.session.seat (W.written self.new.output.writer.now)
             self.new.output.replies.items) }
     {
         if self.slots.is_empty() {

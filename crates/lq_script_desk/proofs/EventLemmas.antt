@@ -13,7 +13,7 @@ use Rattle.lq_update.specs.declared.parcel.Parcel.TheVariants.{Update, Fin}
 use Rattle.lq_desk_world.specs.World.{World, Subscribed, after_change, first_in_port, is_over, subscribed_at, taken_before_free}
 use Rattle.lq_desk_world.specs.declared.event.Event.{Event}
 use Rattle.lq_desk_world.specs.declared.event.Event.TheVariants.{Change, Open, Put, Take, HangUp, Notice, Close, Finish}
-use Rattle.lq_desk_world.specs.Events.{Answer, Opened, Took, Finished, answer, at_slot, changing, closing, finishing, finishing_if, hanging_up, next, noticing, open_refusal, opened_now, opening, putting, reading, reading_if}
+use Rattle.lq_desk_world.specs.Events.{Answer, Opened, Took, Finished, answer_to, at_slot, changing, closing, finishing, finishing_if, hanging_up, next, noticing, open_refusal, opened_now, opening, putting, read_outcome, reading_if}
 use Rattle.lq_script_desk.specs.Folds.{Folds, folds_after}
 
 -- an answer that leaves the folds
@@ -118,7 +118,7 @@ module _ (w : World) (k : ℕ) where
   finish-does s is false = leaves tt (still s _ is refl)
 
 -- any event
-pub does : (w : World) (e : Event) → Does w e (answer w e) (next w e).slots
+pub does : (w : World) (e : Event) → Does w e (answer_to w e) (next w e).slots
 does w (Change c) = by (refused (state_of w.book) c)
   where
     by : (r : Option Refusal)
@@ -136,7 +136,7 @@ does w (Put k) = quiet-does w k (Put k) (putting w.book) (put-leaves w.book)
 does w (HangUp k) = quiet-does w k (HangUp k) hanging_up (λ s. (tt, refl))
 does w (Notice k) = quiet-does w k (Notice k) (noticing w.book) (notice-leaves w.book)
 does w (Close k) = quiet-does w k (Close k) (closing w.book) (close-leaves w.book)
-does w (Take k) = act-does w k (Take k) (reading w.book) (subscribed_at w k) λ s is.
+does w (Take k) = act-does w k (Take k) (read_outcome w.book) (subscribed_at w k) λ s is.
     read-does w k s is (first_in_port w.book s)
 does w (Finish k) = act-does w k (Finish k) (finishing w.book) (subscribed_at w k) λ s is.
     finish-does w k s is (is_over w.book s)

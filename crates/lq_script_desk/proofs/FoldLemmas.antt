@@ -16,7 +16,7 @@ use Rattle.lq_update.specs.Laws.{FoldingsFollow, RebuildsTakeAll}
 use Rattle.lq_desk_world.specs.World.{World, Subscribed}
 use Rattle.lq_desk_world.specs.declared.event.Event.{Event}
 use Rattle.lq_desk_world.specs.declared.event.Event.TheVariants.{Open}
-use Rattle.lq_desk_world.specs.Events.{Answer, Opened, answer, next}
+use Rattle.lq_desk_world.specs.Events.{Answer, Opened, answer_to, next}
 use Rattle.lq_desk_world.specs.Turns.{after_events}
 use Rattle.lq_desk_world.specs.Headline.{ReadersAreTold, OpeningsAreTold, accepted, run_book, frees, reads_of, updates_in}
 use Rattle.lq_desk_world.specs.Laws.{RunsTellReaders}
@@ -173,7 +173,7 @@ module _ (follow : FoldingsFollow) (slot : ℕ) (all : List Event) (alls : List 
       → GoesOn slot s.folds events (answers_to s.core events) f ⊎ IsFoldOf slot all alls f
   since s before [] befores f place is are had = inl (f, had, tt, refl)
   since s before (e ∷ events) befores f place is are had =
-      let a = answer s.core e in
+      let a = answer_to s.core e in
       let rest = answers_to (next s.core e) events in
       let more : length (before ++ e ∷ []) ≡ length (befores ++ a ∷ []) =
       omega (arith, place, length-append before (e ∷ []), length-append befores (a ∷ [])) in

@@ -5,15 +5,15 @@ use Rattle.lq_value.specs.declared.refusal.Refusal.{Refusal}
 use Rattle.lq_desk_world.specs.World.{World}
 use Rattle.lq_desk_world.specs.declared.event.Event.{Event}
 use Rattle.lq_desk_world.specs.declared.event.Event.TheVariants.{Change, Put, Take, Notice, Close}
-use Rattle.lq_desk_world.specs.Events.{Answer, answer, next, outcome}
+use Rattle.lq_desk_world.specs.Events.{Answer, answer_to, next, outcome}
 use Rattle.lq_desk_world.specs.Runs.{Run}
-use Rattle.lq_desk_world.specs.Turns.{Turn, after_events, all_puts, at_each, carried_out, events_in, notices, one_notice, places_at, ports_of, puts, turn_of, turn_outcome}
+use Rattle.lq_desk_world.specs.Turns.{Turn, after_events, all_puts, at_each, carried_out, events_in, notices, one_notice, places_at, ports_of, put_events, turn_of, turn_outcome}
 use Rattle.lq_script_lines.specs.Lines.{Line, Rules, whole, line_of, reply_to, replies_to, state_after}
 use Rattle.lq_script_lines.specs.Progress.{state_after_all}
 use Rattle.lq_script_request.specs.declared.request.Request.{Request}
 use Rattle.lq_script_request.specs.declared.request.Request.TheVariants as request
 use Rattle.lq_script_request.specs.Request.{request_in}
-use Rattle.lq_script_desk.specs.Answered.{answered, responds, slot_named}
+use Rattle.lq_script_desk.specs.Answered.{line_outcome, request_outcome, slot_named}
 use Rattle.lq_script_desk.specs.Folds.{folds_after}
 use Rattle.lq_script_desk.specs.Reply.{reply_text}
 use Rattle.lq_script_desk.specs.Response.{Answers}
@@ -35,7 +35,7 @@ pub answers_to-append : (w : World) (xs ys : List Event)
     → answers_to w (xs ++ ys) ≡ answers_to w xs ++ answers_to (after_events outcome w xs) ys
 answers_to-append w [] ys = refl
 answers_to-append w (x ∷ xs) ys =
-    ap (λ rest. answer w x ∷ rest) (answers_to-append (next w x) xs ys)
+    ap (λ rest. answer_to w x ∷ rest) (answers_to-append (next w x) xs ys)
 
 -- each event has one answer
 pub answers_to-count : (w : World) (events : List Event)
@@ -79,8 +79,8 @@ turns_of-append w (x ∷ xs) ys =
 -- a session's answer to an event, and the session then
 abbrev pub session_step : Session → Event → Answer × Session
 session_step s e = (
-  answer s.core e,
-  session_with (next s.core e) (folds_after (slot_named e) (answer s.core e) s.folds),
+  answer_to s.core e,
+  session_with (next s.core e) (folds_after (slot_named e) (answer_to s.core e) s.folds),
 )
 
 -- the world of a session after events
@@ -107,9 +107,9 @@ quiet-append xs ys h g s =
     ap (λ (t : Session). t.folds) (after_events-append session_step s xs ys)
     ∙ (g (after_events session_step s xs) ∙ h s)
 
-puts-quiet : (k n : ℕ) → AreQuiet (puts k n)
+puts-quiet : (k n : ℕ) → AreQuiet (put_events k n)
 puts-quiet k zero = λ s. refl
-puts-quiet k (suc n) = quiet-append (Put k ∷ []) (puts k n) (put-quiet k) (puts-quiet k n)
+puts-quiet k (suc n) = quiet-append (Put k ∷ []) (put_events k n) (put-quiet k) (puts-quiet k n)
 
 -- what is done at each taken slot leaves the folds if it does at one
 each-quiet : (events : ℕ → ℕ → List Event) → ((k port : ℕ) → AreQuiet (events k port)) → (n : ℕ)
@@ -123,13 +123,13 @@ each-quiet events quiet n (Some port ∷ ports) =
 -- among such events the folds are those by the answer to the one event
 among-quiet : (s : Session) (before after : List Event) (e : Event)
     → AreQuiet before → AreQuiet after
-    → folds_after (slot_named e) (answer (after_events outcome s.core before) e) s.folds
+    → folds_after (slot_named e) (answer_to (after_events outcome s.core before) e) s.folds
     ≡ (after_events session_step s (before ++ e ∷ after)).folds
 among-quiet s before after e first last =
     let t = after_events session_step s before in
     sym (ap (λ (u : Session). u.folds) (after_events-append session_step s before (e ∷ after))
     ∙ (last (session_step t e).1
-    ∙ ap₂ (λ w folds. folds_after (slot_named e) (answer w e) folds) (core-after s before)
+    ∙ ap₂ (λ w folds. folds_after (slot_named e) (answer_to w e) folds) (core-after s before)
     (first s)))
 
 -- what a turn adds to its event leaves the folds
@@ -139,18 +139,18 @@ turn-folds : (s : Session) (e : Event)
 turn-folds s (Change c) =
     let ports = ports_of s.core in
     among-quiet s (notices ports) (all_puts ports) (Change c)
-    (each-quiet one_notice (λ k port. notice-quiet k) 1 ports) (each-quiet puts puts-quiet 1 ports)
+    (each-quiet one_notice (λ k port. notice-quiet k) 1 ports) (each-quiet put_events puts-quiet 1 ports)
 turn-folds s (Take k) =
     let n = places_at (ports_of s.core) k in
-    among-quiet s (Notice k ∷ puts k n) [] (Take k)
-    (quiet-append (Notice k ∷ []) (puts k n) (notice-quiet k) (puts-quiet k n)) (λ t. refl)
+    among-quiet s (Notice k ∷ put_events k n) [] (Take k)
+    (quiet-append (Notice k ∷ []) (put_events k n) (notice-quiet k) (puts-quiet k n)) (λ t. refl)
 turn-folds s (Close k) =
     let n = places_at (ports_of s.core) k in
-    among-quiet s (Notice k ∷ []) (puts k n) (Close k) (notice-quiet k) (puts-quiet k n)
+    among-quiet s (Notice k ∷ []) (put_events k n) (Close k) (notice-quiet k) (puts-quiet k n)
 turn-folds s e = refl
 
 -- the session after an event's turn is the one after the turn's events
-turn-session : (s : Session) (e : Event) → (responds s (request.Event e)).1
+turn-session : (s : Session) (e : Event) → (request_outcome s (request.Event e)).1
     ≡ after_events session_step s (events_in (turn_of (ports_of s.core) e))
 turn-session s e =
     let events = events_in (turn_of (ports_of s.core) e) in
@@ -164,12 +164,12 @@ ArePlayed lines = (s : Session) → state_after_all world_rules s lines
 
 -- a request before such lines, read or not
 read-played : (lines : List (List ℕ)) → ArePlayed lines → (s : Session)
-    (r : Result Request Refusal) → state_after_all world_rules (answered s r).1 lines
+    (r : Result Request Refusal) → state_after_all world_rules (line_outcome s r).1 lines
     ≡ after_events session_step s
     (turns_of s.core (event_of (result_ok r) ++ events_asked lines))
 read-played lines played s (Ok (request.Event e)) =
     let rest = turns_of (turn_outcome s.core e).1 (events_asked lines) in
-    played (responds s (request.Event e)).1
+    played (request_outcome s (request.Event e)).1
     ∙ (ap (λ (t : Session). after_events session_step t rest) (turn-session s e)
     ∙ sym (after_events-append session_step s (events_in (turn_of (ports_of s.core) e)) rest))
 read-played lines played s (Ok q) = played s
@@ -225,12 +225,12 @@ reply-place lines before after bytes is =
 
 -- the response to a request that was read
 read-response : (s : Session) (r : Result Request Refusal) (q : Request)
-    → result_ok r ≡ Some q → (answered s r).0 ≡ (responds s q).0
+    → result_ok r ≡ Some q → (line_outcome s r).0 ≡ (request_outcome s q).0
 read-response s r q is = grind arith
 
 -- the reply to a line that makes a request
 pub line-reply : (s : Session) (l : Line) (q : Request) → request_of l ≡ Some q
-    → reply_to world_rules s l ≡ reply_text (responds s q).0
+    → reply_to world_rules s l ≡ reply_text (request_outcome s q).0
 line-reply s (whole bytes) q is = ap reply_text (read-response s (request_in bytes) q is)
 line-reply s l q is = absurd (let no : ⊥ = cc in no)
 

@@ -65,15 +65,15 @@ look_response s (look.Fetch q) = Fetched (volume_of s).number (result_of q (volu
 look_response s (look.Rebuilt slot) = rebuilt (fold_at s.folds slot)
 
 -- the response to a request, and the session after it: only an event changes it
-abbrev pub responds : Session → Request → Response × Session
-responds s (request.Event e) = answered_event (slot_named e) s.folds (turn_outcome s.core e)
-responds s (request.Look l) = (look_response s l, s)
+abbrev pub request_outcome : Session → Request → Response × Session
+request_outcome s (request.Event e) = answered_event (slot_named e) s.folds (turn_outcome s.core e)
+request_outcome s (request.Look l) = (look_response s l, s)
 
 -- a line without a request is refused, and nothing changes
-abbrev pub answered : Session → Result Request Refusal → Response × Session
-answered s (Err e) = (Refuses e, s)
-answered s (Ok q) = responds s q
+abbrev pub line_outcome : Session → Result Request Refusal → Response × Session
+line_outcome s (Err e) = (Refuses e, s)
+line_outcome s (Ok q) = request_outcome s q
 
 -- the response of a call is that to a line with the same request, or memory ran out
 abbrev pub Responds : Session → Result Request Refusal → Response → Type 0
-Responds s q response = (response ≡ Refuses NoMemory) ⊎ (response ≡ (answered s q).0)
+Responds s q response = (response ≡ Refuses NoMemory) ⊎ (response ≡ (line_outcome s q).0)

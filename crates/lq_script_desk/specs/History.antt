@@ -5,11 +5,11 @@ use Rattle.std.specs.Io.KnownBytes.{Appends, Consumes}
 use Rattle.lq_value.specs.declared.entry.Entry.{Entry}
 use Rattle.lq_predicate.specs.Query.{Query}
 use Rattle.lq_volume.specs.State.{empty_state}
-use Rattle.lq_update.specs.Fold.{Folding, folded, is_settled, last_change}
+use Rattle.lq_update.specs.Fold.{Folding, folded, ends_settled, last_change}
 use Rattle.lq_desk_world.specs.World.{World, subscribed_at}
 use Rattle.lq_desk_world.specs.declared.event.Event.{Event}
 use Rattle.lq_desk_world.specs.declared.event.Event.TheVariants.{Open}
-use Rattle.lq_desk_world.specs.Events.{Answer, Opened, answer, next, outcome}
+use Rattle.lq_desk_world.specs.Events.{Answer, Opened, answer_to, next, outcome}
 use Rattle.lq_desk_world.specs.Runs.{Run}
 use Rattle.lq_desk_world.specs.Turns.{after_events, events_in, ports_of, turn_of, turn_outcome}
 use Rattle.lq_desk_world.specs.Headline.{ReadersAreTold, frees, reads_of, updates_in}
@@ -58,7 +58,7 @@ turns_of w (e ∷ asked) =
 -- the answers to events, one after another
 abbrev pub answers_to : World → List Event → List Answer
 answers_to w [] = []
-answers_to w (e ∷ events) = answer w e ∷ answers_to (next w e) events
+answers_to w (e ∷ events) = answer_to w e ∷ answers_to (next w e) events
 
 -- the events of a script's lines, the answers to them, and the world then
 abbrev pub events_of : List (List ℕ) → List Event
@@ -86,7 +86,7 @@ events_before lines e = events_of lines ++ (turn_of (ports_of (world_after lines
 
 -- the answer to that event
 abbrev pub answer_after : List (List ℕ) → Event → Answer
-answer_after lines e = answer (after_events outcome script_world (events_before lines e)) e
+answer_after lines e = answer_to (after_events outcome script_world (events_before lines e)) e
 
 -- The reply to a line that asks for an event, and comes after some lines, is the text of the answer
 -- that has the event's place among the script's answers.
@@ -131,7 +131,7 @@ pub record IsFoldOf (slot : ℕ) (events : List Event) (answers : List Answer) (
   pub taken : StaysTaken slot after afters
   pub entries : f.entries ≡ folded first (updates_in (reads_of slot after afters))
   pub change : f.change ≡ last_change at (updates_in (reads_of slot after afters))
-  pub settled : f.settled ≡ is_settled (updates_in (reads_of slot after afters))
+  pub settled : f.settled ≡ ends_settled (updates_in (reads_of slot after afters))
 
 -- The reply to a line that asks for a slot's result, and comes after some lines, is the text of the
 -- slot's fold then. Only a free slot has none.

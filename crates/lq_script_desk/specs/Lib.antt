@@ -3,7 +3,7 @@ pub mod Reply
 pub mod Answer
 pub mod Front
 pub mod Writes
-pub mod Plain
+pub mod Escaping
 pub mod Folds
 pub mod Session
 pub mod Answered

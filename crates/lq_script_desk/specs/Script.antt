@@ -10,14 +10,14 @@ use Rattle.lq_script_request.specs.Request.{request_in}
 use Rattle.lq_script_desk.specs.Folds.{no_folds}
 use Rattle.lq_script_desk.specs.Session.{Session, session_with}
 use Rattle.lq_script_desk.specs.Response.{Refuses}
-use Rattle.lq_script_desk.specs.Answered.{answered}
+use Rattle.lq_script_desk.specs.Answered.{line_outcome}
 use Rattle.lq_script_desk.specs.Reply.{reply_text}
 
 -- how lines are answered: by the world's turns, its volume and the folds
 abbrev pub world_rules : Rules Session
 world_rules = record {
-  reply = λ s line. reply_text (answered s (request_in line)).0;
-  after = λ s line. (answered s (request_in line)).1;
+  reply = λ s line. reply_text (line_outcome s (request_in line)).0;
+  after = λ s line. (line_outcome s (request_in line)).1;
   long = reply_text (Refuses LongLine);
 }
 

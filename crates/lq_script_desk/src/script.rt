@@ -1,7 +1,7 @@
 //! Carries out a whole script by one thread, over a volume with the root alone.
 ghost use Rattle.std.specs.Prelude.{◌≡◌, false};
 ghost use Rattle.lq_script_lines.specs.Calls.{CallsOf};
-ghost use Rattle.lq_script_lines.specs.Outcome.{IsRunOutcome, MayReadAfterReplies, reader_log, writer_log};
+ghost use Rattle.lq_script_lines.specs.Outcome.{IsRunOutcome, MayReadAfterReplies, log_of_reader, log_of_writer};
 ghost use Rattle.lq_script_desk.specs.Script.{script_session, world_rules};
 ghost use Rattle.lq_script_desk.specs.History.{TellsReaders};
 
@@ -45,15 +45,15 @@ pub fn run<R: Client, W: Sink>(
     requires waits { MayReadAfterReplies world_rules script_session R.left W.written
         R.may_read reader.old writer.old }
     ensures outcome { IsRunOutcome world_rules script_session result
-        (reader_log (R.left reader.old) (R.left reader.new) (R.failed reader.new))
-        (writer_log (W.written writer.old) (W.written writer.new)
+        (log_of_reader (R.left reader.old) (R.left reader.new) (R.failed reader.new))
+        (log_of_writer (W.written writer.old) (W.written writer.new)
         (W.failed writer.new) (W.stalled writer.new) (W.flushed writer.new)) }
     ensures calls { CallsOf result (W.calls writer.old) (W.calls writer.new) }
 
     // The headline, from bytes to bytes.
     ensures readers { TellsReaders result
-        (reader_log (R.left reader.old) (R.left reader.new) (R.failed reader.new))
-        (writer_log (W.written writer.old) (W.written writer.new)
+        (log_of_reader (R.left reader.old) (R.left reader.new) (R.failed reader.new))
+        (log_of_writer (W.written writer.old) (W.written writer.new)
         (W.failed writer.new) (W.stalled writer.new) (W.flushed writer.new)) }
 {
     // For what it proves: a script tells its readers what the headline says.

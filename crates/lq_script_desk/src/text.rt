@@ -6,7 +6,7 @@ ghost use Rattle.json.specs.Print.{escape_byte, escape_letter};
 ghost use Rattle.serde_json.specs.Data.{string};
 ghost use Rattle.serde_json.specs.Written.{compact_text};
 ghost use Rattle.lq_script_desk.specs.Front.{AppendsTo};
-ghost use Rattle.lq_script_desk.specs.Plain.{is_plain};
+ghost use Rattle.lq_script_desk.specs.Escaping.{needs_no_escape};
 
 use std::alloc::AllocError;
 
@@ -38,7 +38,7 @@ pub fn put_text(out: &mut Vec<u8>, before: &[u8], text: &str) -> Result<(), Allo
 // The number of bytes before the first one that has an escape.
 #[inline(always)]
 fn plain_len(text: &[u8]) -> usize
-    ensures value { result ≡ prefix_len is_plain text.now }
+    ensures value { result ≡ prefix_len needs_no_escape text.now }
     ensures bound { result ≤ length text.now }
 {
     let mut len = 0;
@@ -50,7 +50,7 @@ fn plain_len(text: &[u8]) -> usize
 
 #[inline(always)]
 fn is_plain(byte: u8) -> bool
-    ensures { result ≡ is_plain byte }
+    ensures { result ≡ needs_no_escape byte }
 {
     !(byte < 0x20 || byte == b'"' || byte == b'\\')
 }
@@ -58,7 +58,7 @@ fn is_plain(byte: u8) -> bool
 #[inline(never)]
 #[tactic(auto, unfolding(json::specs::Print::escape_byte))]
 fn put_escape(out: &mut Vec<u8>, byte: u8) -> Result<(), AllocError>
-    requires { is_plain byte ≡ false }
+    requires { needs_no_escape byte ≡ false }
     ensures ok { OnOk result (out.new.items ≡ out.old.items ++ escape_byte byte) }
     ensures front { AppendsTo out.new.items out.old.items }
 {

@@ -1,6 +1,6 @@
 -- What a run has asked of its writer, put together.
 use Rattle.std.proofs.Common.{◌≡◌, ℕ, zero, suc, ◌+◌, ◌++◌, List, [], ◌∷◌, true, false, None, Some, Option, Result, Ok, Err, IfErr, OnErr, OnOk, refl, sym, ap, ◌∙◌, arith, append_assoc, append-nil, inl, inr}
-use Rattle.lq_script_lines.specs.Calls.{Adds, Call, CallsAfter, CallsOf, EndsIn, EndsInFlush, EndsInWrite, OnlyWrites, WritesAfter, WritesOf, Wrote, writes}
+use Rattle.lq_script_lines.specs.Calls.{Adds, Call, CallsAfter, CallsOf, EndsIn, EndsInFlush, EndsInWrite, OnlyWrites, WritesAfter, WritesOf, Wrote, succeeded_writes}
 use Rattle.lq_script_lines.specs.Faults.{is_write}
 use Rattle.lq_script_lines.specs.declared.run_fault.RunFault.{RunFault}
 use Rattle.lq_script_lines.specs.declared.run_fault.RunFault.TheVariants.{Limit, Memory, Read, Thread, Write}
@@ -17,11 +17,11 @@ Adds-trans (Some x) (Some y) None xs ys p q = absurd q
 Adds-trans (Some x) (Some y) (Some z) xs ys p q = q ∙ ap (λ l. l ++ ys) p ∙ append_assoc x xs ys
 
 -- writes, and then more of them
-writes_add : (m n : ℕ) → writes m ++ writes n ≡ writes (m + n)
-writes_add zero n = let same : n ≡ 0 + n = omega arith in ap writes same
+writes_add : (m n : ℕ) → succeeded_writes m ++ succeeded_writes n ≡ succeeded_writes (m + n)
+writes_add zero n = let same : n ≡ 0 + n = omega arith in ap succeeded_writes same
 writes_add (suc m) n =
     let same : suc (m + n) ≡ suc m + n = omega arith in
-    ap (λ l. Wrote true ∷ l) (writes_add m n) ∙ ap writes same
+    ap (λ l. Wrote true ∷ l) (writes_add m n) ∙ ap succeeded_writes same
 
 -- no call
 pub no_writes : (a : Option (List Call)) → OnlyWrites a a

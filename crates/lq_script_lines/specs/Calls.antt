@@ -15,17 +15,17 @@ Adds (Some calls) None more = ⊥
 Adds (Some calls) (Some calls') more = calls' ≡ calls ++ more
 
 -- this many writes that succeeded
-abbrev pub writes : ℕ → List Call
-writes zero = []
-writes (suc n) = Wrote true ∷ writes n
+abbrev pub succeeded_writes : ℕ → List Call
+succeeded_writes zero = []
+succeeded_writes (suc n) = Wrote true ∷ succeeded_writes n
 
 -- only writes that succeeded
 abbrev pub OnlyWrites : Option (List Call) → Option (List Call) → Type 0
-OnlyWrites old new = (n : ℕ) × Adds old new (writes n)
+OnlyWrites old new = (n : ℕ) × Adds old new (succeeded_writes n)
 
 -- writes that succeeded, and then this call
 abbrev pub EndsIn : Call → Option (List Call) → Option (List Call) → Type 0
-EndsIn last old new = (n : ℕ) × Adds old new (writes n ++ last ∷ [])
+EndsIn last old new = (n : ℕ) × Adds old new (succeeded_writes n ++ last ∷ [])
 
 -- the last call is a write
 abbrev pub EndsInWrite : Option (List Call) → Option (List Call) → Type 0

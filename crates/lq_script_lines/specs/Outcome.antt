@@ -20,11 +20,11 @@ pub record WriterLog : Type 0 where
   pub stalled : Bool
   pub flushed : Bool
 
-abbrev pub reader_log : Option (List ℕ) → Option (List ℕ) → Bool → ReaderLog
-reader_log left left' failed = record { left = left; left' = left'; failed = failed }
+abbrev pub log_of_reader : Option (List ℕ) → Option (List ℕ) → Bool → ReaderLog
+log_of_reader left left' failed = record { left = left; left' = left'; failed = failed }
 
-abbrev pub writer_log : Option (List ℕ) → Option (List ℕ) → Bool → Bool → Bool → WriterLog
-writer_log written written' failed stalled flushed = record {
+abbrev pub log_of_writer : Option (List ℕ) → Option (List ℕ) → Bool → Bool → Bool → WriterLog
+log_of_writer written written' failed stalled flushed = record {
   written = written;
   written' = written';
   failed = failed;

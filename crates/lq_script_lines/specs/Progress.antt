@@ -140,9 +140,9 @@ pub record Standing (State : Type 0) : Type 0 where
   pub intake : Intake
   pub out : List ℕ
 
-abbrev pub standing : {State : Type 0} → Option (List ℕ) → Bool → Bool → State → Intake → List ℕ
+abbrev pub standing_of : {State : Type 0} → Option (List ℕ) → Bool → Bool → State → Intake → List ℕ
     → Standing State
-standing written failed stalled state intake out = record {
+standing_of written failed stalled state intake out = record {
   written = written;
   failed = failed;
   stalled = stalled;

@@ -4,7 +4,7 @@ ghost use Rattle.std.specs.Io.KnownBytes.{Appends};
 ghost use Rattle.lq_script_lines.specs.Calls.{CallsOf, WritesOf};
 ghost use Rattle.lq_script_lines.specs.Lines.{IsUnbroken};
 ghost use Rattle.lq_script_lines.specs.Output.{output_of};
-ghost use Rattle.lq_script_lines.specs.Progress.{Completes, Goes, HaltsAtEnd, Leaves, LeavesAtEnd, TakesPiece, standing};
+ghost use Rattle.lq_script_lines.specs.Progress.{Completes, Goes, HaltsAtEnd, Leaves, LeavesAtEnd, TakesPiece, standing_of};
 
 use crate::devices::{Failed, Sink};
 use crate::intake::{Intake, MAX_BYTES, MAX_LINES};
@@ -66,9 +66,9 @@ pub fn take_piece<S: Responder, W: Sink>(
     writer: &mut W,
 ) -> Result<(), RunFault>
     ensures taken { TakesPiece S.rules piece.now result
-        (standing (W.written writer.old) (W.failed writer.old) (W.stalled writer.old)
+        (standing_of (W.written writer.old) (W.failed writer.old) (W.stalled writer.old)
         (S.state responder.old) intake.old out.old.items)
-        (standing (W.written writer.new) (W.failed writer.new) (W.stalled writer.new)
+        (standing_of (W.written writer.new) (W.failed writer.new) (W.stalled writer.new)
         (S.state responder.new) intake.new out.new.items) }
     ensures calls { WritesOf result (W.calls writer.old) (W.calls writer.new) }
 {

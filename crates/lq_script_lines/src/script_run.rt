@@ -2,7 +2,7 @@
 ghost use Rattle.std.specs.Prelude.{◌≡◌, ◌+◌, ◌⊎◌, [], length, true, false, OnOk, OnErr, IsErrOf};
 ghost use Rattle.lq_script_lines.specs.Calls.{CallsOf, OnlyWrites};
 ghost use Rattle.lq_script_lines.specs.Faults.{is_write as is_write_fault};
-ghost use Rattle.lq_script_lines.specs.Outcome.{IsRunOutcome, MayReadAfterReplies, reader_log, writer_log};
+ghost use Rattle.lq_script_lines.specs.Outcome.{IsRunOutcome, MayReadAfterReplies, log_of_reader, log_of_writer};
 ghost use Rattle.lq_script_lines.specs.Output.{Halted};
 ghost use Rattle.lq_script_lines.specs.Progress.{Goes, HaltsIn, Leaves, MeetsLimit};
 
@@ -96,8 +96,8 @@ pub fn run_lines<R: Client, W: Sink, S: Responder>(
     requires waits { MayReadAfterReplies S.rules (S.state responder.old) R.left W.written
         R.may_read reader.old writer.old }
     ensures outcome { IsRunOutcome S.rules (S.state responder.old) result
-        (reader_log (R.left reader.old) (R.left reader.new) (R.failed reader.new))
-        (writer_log (W.written writer.old) (W.written writer.new)
+        (log_of_reader (R.left reader.old) (R.left reader.new) (R.failed reader.new))
+        (log_of_writer (W.written writer.old) (W.written writer.new)
         (W.failed writer.new) (W.stalled writer.new) (W.flushed writer.new)) }
 
     // It has begun: where memory ran out, a line that was read has no reply.

@@ -23,7 +23,7 @@ use Rattle.serde_json.proofs.Texts.{print-outline}
 use Rattle.lq_value.specs.declared.refusal.Refusal.TheVariants.{NotUtf8}
 use Rattle.lq_desk_world.specs.declared.event.Event.TheVariants.{Take}
 use Rattle.lq_script_request.specs.declared.request.Request.TheVariants.{Event}
-use Rattle.lq_script_request.specs.Plain.{read_line}
+use Rattle.lq_script_request.specs.ReadLine.{read_line}
 use Rattle.lq_script_request.specs.Request.{asked_from, request_from, request_in}
 
 -- a line that begins with a text goes on with what is behind it

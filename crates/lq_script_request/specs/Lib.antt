@@ -3,4 +3,4 @@ pub mod Fields
 pub mod Members
 pub mod Request
 pub mod Asked
-pub mod Plain
+pub mod ReadLine

@@ -24,9 +24,9 @@ use Rattle.lq_script_request.specs.declared.request.Request.TheVariants.{Event, 
 use Rattle.lq_script_request.specs.declared.request.Look.TheVariants.{Find, Entry, Fetch, Rebuilt}
 
 -- the value of a `set`: a text that isn't read yet, or a number of one of four types
-pub data Given : Type 0 where
-  given_text : (text : List ℕ) → Given
-  given_number : (value : Value) → Given
+pub data SetValue : Type 0 where
+  given_text : (text : List ℕ) → SetValue
+  given_number : (value : Value) → SetValue
 
 -- what a line asks for, with its fields taken and its values not read yet
 pub data Asked : Type 0 where
@@ -34,7 +34,7 @@ pub data Asked : Type 0 where
   asks_remove : (node : ℕ) → Asked
   asks_move : (node dir : ℕ) (name : List ℕ) (clobber : Bool) → Asked
   asks_write : (node size : ℕ) (time : ℤ) → Asked
-  asks_set : (node : ℕ) (attr : List ℕ) (value : Given) → Asked
+  asks_set : (node : ℕ) (attr : List ℕ) (value : SetValue) → Asked
   asks_unset : (node : ℕ) (attr : List ℕ) → Asked
   asks_open : (query : List ℕ) (port backlog : ℕ) (moved : Bool) → Asked
   asks_at : (slot : ℕ) (a : Act) → Asked
@@ -79,17 +79,17 @@ flag_or default None = Some default
 flag_or default (Some d) = as_bool d
 
 -- a whole number of 32 bits with a sign
-abbrev pub within_i32 : ℤ → Option Given
+abbrev pub within_i32 : ℤ → Option SetValue
 within_i32 n =
     if int_le (negsuc 2147483647) n && int_le n (pos 2147483647) then Some (given_number (Int32 n))
     else None
 
 -- a whole number of 32 bits without a sign
-abbrev pub within_u32 : ℕ → Option Given
+abbrev pub within_u32 : ℕ → Option SetValue
 within_u32 n = if nat_le n 4294967295 then Some (given_number (UInt32 n)) else None
 
 -- the value of a `set`, by the text of `type`
-abbrev pub given_by : List ℕ → Data → Option Given
+abbrev pub given_by : List ℕ → Data → Option SetValue
 given_by kind d =
     if bytes_eq kind (codes "CSTR") then option_map given_text (as_str d)
     else if bytes_eq kind (codes "LONG")
@@ -249,7 +249,7 @@ text_or None text = Ok (Text text)
 text_or (Some e) text = Err e
 
 -- a value, or the refusal of its text
-abbrev pub value_for : Given → Result Value Refusal
+abbrev pub value_for : SetValue → Result Value Refusal
 value_for (given_text text) = text_or (text_refusal text) text
 value_for (given_number value) = Ok value
 

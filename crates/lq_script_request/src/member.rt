@@ -8,7 +8,7 @@ use crate::field::Field;
 use serde_json::Number;
 
 /// The most digits of a whole number: such a number has less than 64 bits.
-const MAX_DIGITS: usize = 18;
+const QUICK_DIGITS: usize = 18;
 
 // The byte at an offset, or 0 at the end.
 #[inline(always)]
@@ -130,7 +130,7 @@ fn whole_at(bytes: &[u8], from: usize) -> Option<(u64, usize)>
         return Some((number, end));
     }
     'digits: while let Some(digit) = digit_at(bytes, end) {
-        if end - from == MAX_DIGITS {
+        if end - from == QUICK_DIGITS {
             return None;
         }
         number = number * 10 + digit;

@@ -1,6 +1,6 @@
 //! Recognises by its bytes the line that asks for a read of a slot, since programs send it most.
 ghost use Rattle.std.specs.Prelude.{◌≡◌, ◌<◌, ◌+◌, IfSome};
-ghost use Rattle.lq_script_request.specs.Plain.{read_line};
+ghost use Rattle.lq_script_request.specs.ReadLine.{read_line};
 
 /// The bytes before the slot.
 const FRONT: &str = "{\"do\":\"read\",\"slot\":";

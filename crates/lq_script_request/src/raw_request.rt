@@ -3,7 +3,7 @@ ghost use Rattle.std.specs.Prelude.{◌≡◌};
 ghost use Rattle.std.specs.Option.{option_map};
 ghost use Rattle.lq_script_request.specs.Fields.{AreLastMembers, whole_data};
 ghost use Rattle.lq_script_request.specs.Request.{asked_of, create_of, remove_of, move_of, write_of, set_of, unset_of, open_of, act_asked, rebuilt_of, find_of, entry_asked, fetch_of};
-ghost use Rattle.lq_script_request.specs.Asked.{asked};
+ghost use Rattle.lq_script_request.specs.Asked.{asked_by};
 
 use crate::fields::Fields;
 use crate::key::Key;
@@ -73,7 +73,7 @@ pub enum RawRequest<'a> {
 /// The raw request of a line whose fields are found; `None` where a field is missing or wrong.
 pub fn raw_request_in<'a>(fields: &Fields<'a>) -> Option<RawRequest<'a>>
     requires { AreLastMembers fields.now }
-    ensures { option_map asked result ≡ asked_of (whole_data fields.now) }
+    ensures { option_map asked_by result ≡ asked_of (whole_data fields.now) }
 {
     let Some(act) = fields.at(Key::Do).text() else {
         return None;
@@ -115,7 +115,7 @@ pub fn raw_request_in<'a>(fields: &Fields<'a>) -> Option<RawRequest<'a>>
 
 fn create_in<'a>(fields: &Fields<'a>) -> Option<RawRequest<'a>>
     requires { AreLastMembers fields.now }
-    ensures { option_map asked result ≡ create_of (whole_data fields.now) }
+    ensures { option_map asked_by result ≡ create_of (whole_data fields.now) }
 {
     let name = fields.at(Key::Name).text()?;
     let dir = u64_or(fields, Key::Dir, 1)?;
@@ -133,7 +133,7 @@ fn create_in<'a>(fields: &Fields<'a>) -> Option<RawRequest<'a>>
 
 fn remove_in<'a>(fields: &Fields<'a>) -> Option<RawRequest<'a>>
     requires { AreLastMembers fields.now }
-    ensures { option_map asked result ≡ remove_of (whole_data fields.now) }
+    ensures { option_map asked_by result ≡ remove_of (whole_data fields.now) }
 {
     let node = fields.at(Key::Node).number()?;
     Some(RawRequest::Remove { node })
@@ -141,7 +141,7 @@ fn remove_in<'a>(fields: &Fields<'a>) -> Option<RawRequest<'a>>
 
 fn move_in<'a>(fields: &Fields<'a>) -> Option<RawRequest<'a>>
     requires { AreLastMembers fields.now }
-    ensures { option_map asked result ≡ move_of (whole_data fields.now) }
+    ensures { option_map asked_by result ≡ move_of (whole_data fields.now) }
 {
     let node = fields.at(Key::Node).number()?;
     let name = fields.at(Key::Name).text()?;
@@ -157,7 +157,7 @@ fn move_in<'a>(fields: &Fields<'a>) -> Option<RawRequest<'a>>
 
 fn write_in<'a>(fields: &Fields<'a>) -> Option<RawRequest<'a>>
     requires { AreLastMembers fields.now }
-    ensures { option_map asked result ≡ write_of (whole_data fields.now) }
+    ensures { option_map asked_by result ≡ write_of (whole_data fields.now) }
 {
     let node = fields.at(Key::Node).number()?;
     let size = fields.at(Key::Size).number()?;
@@ -167,7 +167,7 @@ fn write_in<'a>(fields: &Fields<'a>) -> Option<RawRequest<'a>>
 
 fn set_in<'a>(fields: &Fields<'a>) -> Option<RawRequest<'a>>
     requires { AreLastMembers fields.now }
-    ensures { option_map asked result ≡ set_of (whole_data fields.now) }
+    ensures { option_map asked_by result ≡ set_of (whole_data fields.now) }
 {
     let node = fields.at(Key::Node).number()?;
     let attr = fields.at(Key::Attr).text()?;
@@ -178,7 +178,7 @@ fn set_in<'a>(fields: &Fields<'a>) -> Option<RawRequest<'a>>
 
 fn unset_in<'a>(fields: &Fields<'a>) -> Option<RawRequest<'a>>
     requires { AreLastMembers fields.now }
-    ensures { option_map asked result ≡ unset_of (whole_data fields.now) }
+    ensures { option_map asked_by result ≡ unset_of (whole_data fields.now) }
 {
     let node = fields.at(Key::Node).number()?;
     let attr = fields.at(Key::Attr).text()?;
@@ -187,7 +187,7 @@ fn unset_in<'a>(fields: &Fields<'a>) -> Option<RawRequest<'a>>
 
 fn open_in<'a>(fields: &Fields<'a>) -> Option<RawRequest<'a>>
     requires { AreLastMembers fields.now }
-    ensures { option_map asked result ≡ open_of (whole_data fields.now) }
+    ensures { option_map asked_by result ≡ open_of (whole_data fields.now) }
 {
     let query = fields.at(Key::Query).text()?;
     let port = fields.at(Key::Port).number()?;
@@ -203,7 +203,7 @@ fn open_in<'a>(fields: &Fields<'a>) -> Option<RawRequest<'a>>
 
 fn act_in<'a>(fields: &Fields<'a>, act: Act) -> Option<RawRequest<'a>>
     requires { AreLastMembers fields.now }
-    ensures { option_map asked result ≡ act_asked act (whole_data fields.now) }
+    ensures { option_map asked_by result ≡ act_asked act (whole_data fields.now) }
 {
     let slot = fields.at(Key::Slot).number()?;
     Some(RawRequest::At { slot, act })
@@ -211,7 +211,7 @@ fn act_in<'a>(fields: &Fields<'a>, act: Act) -> Option<RawRequest<'a>>
 
 fn find_in<'a>(fields: &Fields<'a>) -> Option<RawRequest<'a>>
     requires { AreLastMembers fields.now }
-    ensures { option_map asked result ≡ find_of (whole_data fields.now) }
+    ensures { option_map asked_by result ≡ find_of (whole_data fields.now) }
 {
     let name = fields.at(Key::Name).text()?;
     let dir = u64_or(fields, Key::Dir, 1)?;
@@ -220,7 +220,7 @@ fn find_in<'a>(fields: &Fields<'a>) -> Option<RawRequest<'a>>
 
 fn entry_in<'a>(fields: &Fields<'a>) -> Option<RawRequest<'a>>
     requires { AreLastMembers fields.now }
-    ensures { option_map asked result ≡ entry_asked (whole_data fields.now) }
+    ensures { option_map asked_by result ≡ entry_asked (whole_data fields.now) }
 {
     let node = fields.at(Key::Node).number()?;
     Some(RawRequest::Entry { node })
@@ -228,7 +228,7 @@ fn entry_in<'a>(fields: &Fields<'a>) -> Option<RawRequest<'a>>
 
 fn fetch_in<'a>(fields: &Fields<'a>) -> Option<RawRequest<'a>>
     requires { AreLastMembers fields.now }
-    ensures { option_map asked result ≡ fetch_of (whole_data fields.now) }
+    ensures { option_map asked_by result ≡ fetch_of (whole_data fields.now) }
 {
     let query = fields.at(Key::Query).text()?;
     Some(RawRequest::Fetch { query })
@@ -236,7 +236,7 @@ fn fetch_in<'a>(fields: &Fields<'a>) -> Option<RawRequest<'a>>
 
 fn rebuilt_in<'a>(fields: &Fields<'a>) -> Option<RawRequest<'a>>
     requires { AreLastMembers fields.now }
-    ensures { option_map asked result ≡ rebuilt_of (whole_data fields.now) }
+    ensures { option_map asked_by result ≡ rebuilt_of (whole_data fields.now) }
 {
     let slot = fields.at(Key::Slot).number()?;
     Some(RawRequest::Rebuilt { slot })

@@ -21,7 +21,7 @@ use Rattle.lq_desk_sub.specs.declared.read.Read.{Read}
 use Rattle.lq_desk_sub.specs.declared.read.Read.TheVariants.{Fin, Ended}
 use Rattle.lq_server_slots.specs.Updates.{updates}
 use Rattle.lq_server_slots.specs.Rule.{query_of}
-use Rattle.lq_server_slots.specs.Reading.{ReadingHold, Gives, IsTold, known, received, mark_read}
+use Rattle.lq_server_slots.specs.Reading.{ReadingHold, Gives, IsTold, known_book, received, mark_read}
 use Rattle.lq_server.specs.Headline.{updates_upto, result_after, AreNumbered, IsMarkAfter, EndsWhole, IsAnswered, AreAnswers, update_in, updates_read, ReadsHaveMark, AnswersAreTold}
 use Rattle.lq_server.proofs.ParcelLemmas.{extends_trans}
 use Rattle.lq_server.proofs.OwnLemmas.{received_front}
@@ -64,12 +64,12 @@ some_there : (o : Option Mark) → IsSome o → (k : Mark) × (o ≡ Some k)
 some_there o h = grind arith
 
 -- the book that is known has the opening's changes at least
-pub opened_told : (r : ReadingHold) → IsTold r → r.port.floor.opened ≤ length (known r).changes
+pub opened_told : (r : ReadingHold) → IsTold r → r.port.floor.opened ≤ length (known_book r).changes
 opened_told r told = grind (arith, common_steps)
 
 -- what was received is a front of the update list over the known book
 pub prefix_told : (r : ReadingHold) → IsTold r
-    → IsPrefix (received r) (updates_upto r.port.floor (known r) (length (known r).changes))
+    → IsPrefix (received r) (updates_upto r.port.floor (known_book r) (length (known_book r).changes))
 unfolding updates
 prefix_told r told = received_front r told
 
@@ -77,7 +77,7 @@ prefix_told r told = received_front r told
 pub once_told : (r : ReadingHold) → IsTold r → AreNumbered 1 (received r)
 once_told r told =
     let f = r.port.floor in
-    let b = known r in
+    let b = known_book r in
     let front = prefix_told r told in
     numbered-front 1 (received r) front.0
     (subst (AreNumbered 1) (sym front.1)
@@ -120,7 +120,7 @@ only_ended r next a whole after some g =
 
 -- what all answers leave: their messages were received, over a longer book, from the same port
 answers-grow : (old new : ReadingHold) (answers : List Read) → AreAnswers old answers new
-    → (received new ≡ received old ++ updates_read answers) × Extends (known new) (known old)
+    → (received new ≡ received old ++ updates_read answers) × Extends (known_book new) (known_book old)
     × (new.port.floor ≡ old.port.floor)
 answers-grow old new [] h = (h.received ∙ sym (append-nil (received old)), h.known, h.port.2)
 answers-grow old new (a ∷ answers) h =
@@ -132,8 +132,8 @@ answers-grow old new (a ∷ answers) h =
     ∙ ap (λ (l : List Message). l ++ update_in a) h.2.received in (
       rest.0 ∙ ap (λ (l : List Message). l ++ updates_read answers) one
           ∙ append_assoc (received old) (update_in a) (updates_read answers),
-      extends_trans (known old) (known next) (known new)
-          (extends_trans (known old) (known mid) (known next) h.2.known h.3.known) rest.1,
+      extends_trans (known_book old) (known_book next) (known_book new)
+          (extends_trans (known_book old) (known_book mid) (known_book next) h.2.known h.3.known) rest.1,
       rest.2 ∙ h.3.port.2 ∙ h.2.port.2,
     )
 
@@ -206,7 +206,7 @@ module _ (first last : ReadingHold) (answers : List Read) (empty : received firs
   -- the mark among the answers, and what is before and after it
   mark_at : EndsWhole last → (front rest : List Read) (k : Mark)
       → answers ≡ front ++ Fin k ∷ rest
-      → IsMarkAfter last.port.floor (known last) (updates_read front) k
+      → IsMarkAfter last.port.floor (known_book last) (updates_read front) k
       × AllByRecursion (λ a. a ≡ Ended) rest
   mark_at ends front rest k is =
       let s = split first last front (Fin k) rest
@@ -228,7 +228,7 @@ module _ (first last : ReadingHold) (answers : List Read) (empty : received firs
       after.0 ∙ ap (λ (l : List Message). received s.1 ++ l) (no_length (updates_read rest) none)
       ∙ append-nil (received s.1) ∙ g.0 ∙ before.0
       ∙ ap (λ (l : List Message). l ++ updates_read front) empty in (
-        subst (λ (l : List Message). IsMarkAfter last.port.floor (known last) l k) all whole,
+        subst (λ (l : List Message). IsMarkAfter last.port.floor (known_book last) l k) all whole,
         all_ended s.1 last rest s.4 some none,
       )
 
@@ -236,7 +236,7 @@ module _ (first last : ReadingHold) (answers : List Read) (empty : received firs
 pub answers_told : FoldsGiveResults → WholeFoldsGiveResults → AnswersAreTold
 answers_told folds wholes first last answers empty none h told =
     let f = last.reading.port.floor in
-    let b = known last.reading in
+    let b = known_book last.reading in
     let got = got_all first.reading last.reading answers empty h in
     let marks = mark_at first.reading last.reading answers empty h told.mark in
     let zero : b.start.number ≡ 0 = told.book.first in

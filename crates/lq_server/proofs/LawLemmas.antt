@@ -8,7 +8,7 @@ use Rattle.lq_desk_sub.specs.declared.read.Read.{Read}
 use Rattle.lq_server_slots.specs.declared.identity.FirstClose.TheVariants.{Never}
 use Rattle.lq_server_slots.specs.Rule.{mark_in}
 use Rattle.lq_server_slots.specs.Opening.{name_or}
-use Rattle.lq_server_slots.specs.Reading.{ReadingHold, known}
+use Rattle.lq_server_slots.specs.Reading.{ReadingHold, known_book}
 use Rattle.lq_server.specs.Closed.{IsCloseAnswer}
 use Rattle.lq_server.specs.Headline.{GoesOn, IsAnswered}
 use Rattle.lq_server_slots.specs.Hold.{ReaderHold}
@@ -25,7 +25,7 @@ waiting_answer old new a w =
       old.reading,
       record {
         port = (refl, refl, refl);
-        known = extends_self (known old.reading);
+        known = extends_self (known_book old.reading);
         received = refl;
         mark = refl;
       },
@@ -36,7 +36,7 @@ waiting_answer old new a w =
       h.1.0.reading,
       record {
         port = s.port;
-        known = rw s.known_stays (extends_self (known old.reading));
+        known = rw s.known_stays (extends_self (known_book old.reading));
         received = s.received_stays;
         mark = ap mark_in s.taken;
       },

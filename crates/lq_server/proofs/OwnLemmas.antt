@@ -13,7 +13,7 @@ use Rattle.lq_board.specs.Slot.{slot_at}
 use Rattle.lq_board.specs.Token.{SeatToken}
 use Rattle.lq_server_slots.specs.declared.identity.Identity.{Identity}
 use Rattle.lq_server_slots.specs.Rule.{all_updates}
-use Rattle.lq_server_slots.specs.Reading.{ReadingHold, IsTold, known, received}
+use Rattle.lq_server_slots.specs.Reading.{ReadingHold, IsTold, known_book, received}
 use Rattle.lq_server_slots.specs.declared.subscription.Subscription.{Subscription}
 use Rattle.lq_server_slots.specs.declared.slots.ServerSlots.{ServerSlots}
 use Rattle.lq_server_slots.specs.Slots.{AreConsistent, asks_of, has_no_free, slot_in}
@@ -84,6 +84,6 @@ first_opening under book start port backlog result stands none table =
 
 -- what was received is a front of the updates over the known book
 pub received_front : (r : ReadingHold) → IsTold r
-    → IsPrefix (received r) (all_updates r.port.floor (known r))
+    → IsPrefix (received r) (all_updates r.port.floor (known_book r))
 received_front r told =
     (option_to_list r.hand ++ told.legal_list.front.0, grind (arith, append_assoc))

@@ -23,7 +23,7 @@ use Rattle.lq_server_slots.specs.Updates.{updates}
 use Rattle.lq_server_slots.specs.Rule.{query_of, message_of, mark_or, messages_in, mark_in, MayFollow}
 use Rattle.lq_server_slots.specs.LegalList.{known_by}
 use Rattle.lq_server_slots.specs.Identity.{identity_of}
-use Rattle.lq_server_slots.specs.Reading.{ReadingHold, known, received, ready, mark_read, is_marked, what_of, IsTold}
+use Rattle.lq_server_slots.specs.Reading.{ReadingHold, known_book, received, ready, mark_read, is_marked, what_of, IsTold}
 use Rattle.lq_server_slots.specs.Standing.{messages_given, upto, moved_mark, IsOut, FirstCloseFits, IsOverrun, StaysTrue, seen_of, told_by}
 use Rattle.lq_server_slots.specs.Opening.{IdentityFits, asks_after, name_or}
 use Rattle.lq_server_slots.specs.Progress.{ShowsProgress}
@@ -136,7 +136,7 @@ module _ (s : Subscription) (old : ReaderHold) (seat : SeatToken Identity) (read
   received_same = grind arith
 
   -- and so does the book that is known from it
-  known_same : known reading ≡ known old.reading
+  known_same : known_book reading ≡ known_book old.reading
   known_same = λ i. known_by (lv.port.2 i) (lv.taken i)
 
   -- the messages that wait, in hand or in the port
@@ -230,10 +230,10 @@ module _ (s : Subscription) (old : ReaderHold) (seat : SeatToken Identity) (read
       (bit (is_some reading.hand)) put_mark lv.stands.done lv.drained waiting_is
 
   -- the book that was known before goes on to the seat's
-  knows : Extends seat.book (known old.reading)
+  knows : Extends seat.book (known_book old.reading)
   knows =
       subst (λ (b : Book). Extends seat.book b) known_same
-      (extends_trans (known reading) (known_by e.floor (all_put e)) seat.book
+      (extends_trans (known_book reading) (known_by e.floor (all_put e)) seat.book
       (known_later e.floor e.taken e.ahead lv.legal)
       (subst (λ (b : Book). Extends seat.book b)
       (λ i. known_by (sym lv.floor i) (sym lv.all i)) lv.stands.later))

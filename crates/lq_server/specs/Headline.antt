@@ -15,7 +15,7 @@ use Rattle.lq_desk_sub.specs.declared.read.Read.TheVariants.{Update, Fin, Empty,
 use Rattle.lq_port.specs.End.{IsSamePort}
 use Rattle.lq_server_slots.specs.declared.delivery.Opening.{Opening}
 use Rattle.lq_server_slots.specs.Rule.{query_of}
-use Rattle.lq_server_slots.specs.Reading.{ReadingHold, Gives, known, received, mark_read}
+use Rattle.lq_server_slots.specs.Reading.{ReadingHold, Gives, known_book, received, mark_read}
 use Rattle.lq_server_slots.specs.Hold.{ReaderHold}
 
 -- the query's update list over a book, from the opening up to change n
@@ -43,16 +43,16 @@ pub record IsMarkAfter (f : Opening) (b : Book) (messages : List Message) (k : M
 -- where the mark was read, the messages received are the whole list up to its change
 abbrev pub EndsWhole : ReadingHold → Type 0
 EndsWhole r =
-    (k : Mark) → mark_read r ≡ Some k → IsMarkAfter r.port.floor (known r) (received r) k
+    (k : Mark) → mark_read r ≡ Some k → IsMarkAfter r.port.floor (known_book r) (received r) k
 
 -- The headline for one reader, over the book that it knows.
 pub record ReaderIsTold (r : ReaderHold) : Type 0 where
   -- its book is lawful and begins at no change, and the opening is within it
-  pub book : IsFullBook (known r.reading)
-  pub opened : r.reading.port.floor.opened ≤ length (known r.reading).changes
+  pub book : IsFullBook (known_book r.reading)
+  pub opened : r.reading.port.floor.opened ≤ length (known_book r.reading).changes
   -- what was received is a prefix of the query's update list, each message once and in order
   pub prefix : IsPrefix (received r.reading)
-      (updates_upto r.reading.port.floor (known r.reading) (length (known r.reading).changes))
+      (updates_upto r.reading.port.floor (known_book r.reading) (length (known_book r.reading).changes))
   pub once : AreNumbered 1 (received r.reading)
   -- the mark comes only after the whole list up to the change that it names
   pub mark : EndsWhole r.reading
@@ -61,23 +61,23 @@ pub record ReaderIsTold (r : ReaderHold) : Type 0 where
       → Gives r.reading next a → a ≡ Ended
   -- after each message that is the last of its change, the result is the query's after that change
   pub settled : IsSettled (received r.reading) → r.reading.result.entries
-      ≡ result_after r.reading.port.floor (known r.reading)
+      ≡ result_after r.reading.port.floor (known_book r.reading)
       (last_change r.reading.port.floor.opened (received r.reading))
   -- after the mark, the result is the query's after the change that the mark names
   pub closed : (k : Mark) → mark_read r.reading ≡ Some k → r.reading.result.entries
-      ≡ result_after r.reading.port.floor (known r.reading) k.change
+      ≡ result_after r.reading.port.floor (known_book r.reading) k.change
 
 -- how a reading goes on over a call of its reader, except a read that answers
 pub record GoesOn (old new : ReadingHold) : Type 0 where
   pub port : IsSamePort old.port new.port
-  pub known : Extends (known new) (known old)
+  pub known : Extends (known_book new) (known_book old)
   pub received : received new ≡ received old
   pub mark : mark_read new ≡ mark_read old
 
 -- and over a read that answers
 pub record IsAnswered (old new : ReadingHold) (a : Read) : Type 0 where
   pub port : IsSamePort old.port new.port
-  pub known : Extends (known new) (known old)
+  pub known : Extends (known_book new) (known_book old)
   pub gives : Gives old new a
 
 -- from old to new the reads of a reader answered these, in their order
@@ -130,4 +130,4 @@ AnswersAreTold =
     → mark_read first.reading ≡ None → AreAnswers first.reading answers last.reading
     → ReaderIsTold last
     → (received last.reading ≡ updates_read answers)
-    × AnswersTell last.reading.port.floor (known last.reading) answers
+    × AnswersTell last.reading.port.floor (known_book last.reading) answers

@@ -16,7 +16,7 @@ use Rattle.lq_server_slots.specs.Rule.{query_of, all_updates, IsMark}
 use Rattle.lq_server_slots.specs.Marking.{hung_mark}
 use Rattle.lq_desk_sub.specs.declared.read.Read.{Read}
 use Rattle.lq_desk_sub.specs.declared.read.Read.TheVariants.{Empty, Ended}
-use Rattle.lq_server_slots.specs.Reading.{known, received, ready, mark_read, is_marked, Gives, Fails}
+use Rattle.lq_server_slots.specs.Reading.{known_book, received, ready, mark_read, is_marked, Gives, Fails}
 use Rattle.lq_server_slots.specs.Standing.{upto, FirstCloseFits, IsOverrun, StaysTrue, seen_of, told_by}
 use Rattle.lq_server_slots.specs.Opening.{name_or}
 use Rattle.lq_server_slots.specs.Own.{IsOwn}
@@ -59,7 +59,7 @@ pub record IsSynced (old new : ReaderHold) (x : Synced) : Type 0 where
   pub taken : new.reading.port.taken ≡ old.reading.port.taken
   pub hand : new.reading.hand ≡ old.reading.hand
   pub result : new.reading.result ≡ old.reading.result
-  pub known_stays : known new.reading ≡ known old.reading
+  pub known_stays : known_book new.reading ≡ known_book old.reading
   pub received_stays : received new.reading ≡ received old.reading
   pub seat : new.seat ≡ record old.seat { book = new.seat.book; name = new.seat.name }
   -- the seat's name says what is told, and what was told before is still so
@@ -69,7 +69,7 @@ pub record IsSynced (old new : ReaderHold) (x : Synced) : Type 0 where
       })
   pub still : IsSomeAnd old.seat.name (λ t. StaysTrue t.told x.mark x.change)
   pub later : Extends new.seat.book old.seat.book
-  pub knows : Extends new.seat.book (known old.reading)
+  pub knows : Extends new.seat.book (known_book old.reading)
   pub lawful : IsFullBook new.seat.book
   pub number : x.change ≡ length new.seat.book.changes
   pub w : List Message
@@ -119,8 +119,8 @@ pub record IsWaitingRead (old new : ReaderHold) (result : Result Read Refusal) :
   pub rest : new ≡ record old { reading = new.reading; seat = new.seat }
   pub port : IsSamePort old.reading.port new.reading.port
   pub received : IsPrefix (received new.reading)
-      (all_updates new.reading.port.floor (known new.reading))
-  pub known : Extends (known new.reading) (known old.reading)
+      (all_updates new.reading.port.floor (known_book new.reading))
+  pub known : Extends (known_book new.reading) (known_book old.reading)
   pub refused : FailsOnlyForMemory result
   pub gives : IfOk result (IsRead old new)
   pub fails : OnErr result (IsUnread old new)

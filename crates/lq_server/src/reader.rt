@@ -9,7 +9,7 @@ ghost use Rattle.lq_update.specs.Fold.{EntriesRise, folded, last_change};
 ghost use Rattle.lq_update.specs.Updates.{IsSettled};
 ghost use Rattle.lq_port.specs.End.{IsSamePort};
 ghost use Rattle.lq_server_slots.specs.Rule.{query_of, all_updates};
-ghost use Rattle.lq_server_slots.specs.Reading.{Gives, Fails, known, received, mark_read, opening_of};
+ghost use Rattle.lq_server_slots.specs.Reading.{Gives, Fails, known_book, received, mark_read, opening_of};
 ghost use Rattle.lq_server_slots.specs.Own.{IsOwn};
 ghost use Rattle.lq_server.specs.Lending.{LendsSeat};
 ghost use Rattle.lq_server.specs.Syncing.{IsWaitingRead};
@@ -140,9 +140,9 @@ impl Reader {
     pub fn read<R: Wait>(&mut self, rt: &R) -> Result<Read, Refusal>
         ensures refused { FailsOnlyForMemory result }
         ensures port { IsSamePort self.old.reading.port self.new.reading.port }
-        ensures known { Extends (known self.new.reading) (known self.old.reading) }
+        ensures known { Extends (known_book self.new.reading) (known_book self.old.reading) }
         ensures received { IsPrefix (received self.new.reading)
-            (all_updates self.new.reading.port.floor (known self.new.reading)) }
+            (all_updates self.new.reading.port.floor (known_book self.new.reading)) }
         ensures gives { IfOk result (Gives self.old.reading self.new.reading) }
         ensures fails { OnErr result (Fails self.old.reading self.new.reading) }
         ensures over { IsSome (mark_read self.old.reading) → result ≡ Ok Read.Ended }
@@ -185,7 +185,7 @@ impl Reader {
             (received self.now.reading) }
         ensures marked { IfSome (mark_read self.now.reading) (λ k. result.now
             ≡ result_of (query_of self.now.reading.port.floor)
-            (state_at (known self.now.reading) k.change)) }
+            (state_at (known_book self.now.reading) k.change)) }
     {
         self.reading.result()
     }
@@ -197,7 +197,7 @@ impl Reader {
         ensures received { (result ≡ true) ↔ IsSettled (received self.now.reading) }
         ensures whole { IsTrue result → self.now.reading.result.entries
             ≡ result_of (query_of self.now.reading.port.floor)
-            (state_at (known self.now.reading) self.now.reading.result.change) }
+            (state_at (known_book self.now.reading) self.now.reading.result.change) }
     {
         self.reading.is_settled()
     }

@@ -13,7 +13,7 @@ use Rattle.lq_update.specs.declared.mark.Cause.TheVariants.{Overrun}
 use Rattle.lq_update.specs.Updates.{step_of}
 use Rattle.lq_volume.specs.Change.{IsLawful}
 use Rattle.lq_update.specs.Laws.{StepsAreFew}
-use Rattle.lq_desk_sub.specs.Held.{Held, Prepared, prepared, committed, opened_with, with_messages, ended_by, overruns, after_messages_by, after_messages}
+use Rattle.lq_desk_sub.specs.Held.{Held, Prepared, prepared_for, committed, opened_with, with_messages, ended_by, overruns, after_messages_by, after_messages}
 use Rattle.lq_port.specs.End.{End, all_put}
 use Rattle.lq_server_slots.specs.declared.delivery.Delivery.{Delivery}
 use Rattle.lq_server_slots.specs.declared.delivery.Opening.{Opening}
@@ -173,7 +173,7 @@ pub none_there : (o : Option Mark) → is_none o ≡ true → o ≡ None
 none_there o e = grind arith
 
 -- the messages of a change are made
-pub ready_of : (s : State) (c : Change) (p q : Prepared) → q ≡ prepared s c p → IsReady q s c
+pub ready_of : (s : State) (c : Change) (p q : Prepared) → q ≡ prepared_for s c p → IsReady q s c
 ready_of s c p q e = rw e (λ _. (refl, refl))
 
 -- a commit makes it stand over the book with the change

@@ -23,7 +23,7 @@ use Rattle.lq_server_slots.specs.declared.delivery.Opening.{Opening}
 use Rattle.lq_server_slots.specs.Updates.{updates}
 use Rattle.lq_server_slots.specs.Rule.{floor_of, query_of, message_of, mark_or, messages_in, mark_in, all_updates, IsMark, MayFollow}
 use Rattle.lq_server_slots.specs.LegalList.{known_by, LegalList}
-use Rattle.lq_server_slots.specs.Reading.{ReadingHold, opening_of, known, received, ready, mark_read, what_of, IsTold, IsReadStep}
+use Rattle.lq_server_slots.specs.Reading.{ReadingHold, opening_of, known_book, received, ready, mark_read, what_of, IsTold, IsReadStep}
 use Rattle.lq_server_slots.proofs.Books.{extends_length, extends_self}
 use Rattle.lq_server_slots.proofs.PortLemmas.{prefix_trans, messages_in-snoc, mark_in-append, last_book-snoc, legal_list-none, legal_list-step}
 
@@ -51,9 +51,9 @@ told_by r got list all folds no_hand =
 
 -- what was received is a front of the updates over the known book
 received_front : (r : ReadingHold) → IsTold r
-    → IsPrefix (received r) (all_updates r.port.floor (known r))
+    → IsPrefix (received r) (all_updates r.port.floor (known_book r))
 received_front r told =
-    prefix_trans (received r) (messages_in r.port.taken) (all_updates r.port.floor (known r))
+    prefix_trans (received r) (messages_in r.port.taken) (all_updates r.port.floor (known_book r))
     (option_to_list r.hand, sym told.all) told.legal_list.front
 
 -- the known book has all changes of the opening
@@ -103,7 +103,7 @@ pub record IsNext (old : ReadingHold) (e : End Delivery Opening) (m : Message) :
   pub folds : old.result ≡ folding_after_all (opening_of e.floor) (received old)
   pub front : IsFront (ready old) (told_update m) (map what_of e.ahead)
   pub port : IsSamePort old.port e
-  pub known : Extends (known_by e.floor e.taken) (known old)
+  pub known : Extends (known_by e.floor e.taken) (known_book old)
   pub was_live : mark_read old ≡ None
   pub live : mark_in e.taken ≡ None
 
@@ -148,7 +148,7 @@ pub hand_next : (old : ReadingHold) (m : Message) → IsTold old → old.hand �
     → IsNext old old.port m
 hand_next old m told there =
     let all : messages_in old.port.taken ≡ received old ++ m ∷ [] = told.all ∙ rw there in
-    let known = extends_self (known old) in
+    let known = extends_self (known_book old) in
     grind arith
 
 -- ---- a parcel that is taken
@@ -164,7 +164,7 @@ module _ (old : ReadingHold) (told : IsTold old) (none : old.hand ≡ None)
     (e : End Delivery Opening) (x : Delivery) (same : IsSamePort old.port e)
     (loses : Loses old.port x e) (comes : MayFollow old.port.taken old.port.floor x) where
   -- the book that the reader knows grows with the parcel
-  later : Extends (known_by e.floor e.taken) (known old)
+  later : Extends (known_by e.floor e.taken) (known_book old)
   later = rw (loses.0, last_book-snoc) comes.later
 
   -- with the parcel, what was taken is still a list that the port allows
@@ -229,7 +229,7 @@ module _ (w : Bool) (old : ReadingHold) (told : IsTold old) where
   pub ended_step : is_some (mark_read old) ≡ true → IsReadStep w old old (Ok Ended)
   ended_step over =
       let received = received_front old told in
-      let known = extends_self (known old) in
+      let known = extends_self (known_book old) in
       grind arith
 
   -- nothing is there, and the read doesn't wait
@@ -237,7 +237,7 @@ module _ (w : Bool) (old : ReadingHold) (told : IsTold old) where
       → (w ≡ true → ⊥) → IsReadStep w old old (Ok Empty)
   empty_step none live ahead stays =
       let received = received_front old told in
-      let known = extends_self (known old) in
+      let known = extends_self (known_book old) in
       grind arith
 
 -- a new reading received nothing
@@ -253,11 +253,11 @@ reads_new e result taken opening full is =
 -- where it is settled, the result is the query's after the latest change
 pub settled_result : FoldsGiveResults → FoldingsFollow → SettledIsTested → (r : ReadingHold)
     → IsTold r → r.result.settled ≡ true
-    → r.result.entries ≡ result_of (query_of r.port.floor) (state_at (known r) r.result.change)
+    → r.result.entries ≡ result_of (query_of r.port.floor) (state_at (known_book r) r.result.change)
 unfolding updates
 settled_result law follow test r told settled =
     let f = r.port.floor in
-    let b = known r in
+    let b = known_book r in
     let full = told.legal_list.full in
     let zero : b.start.number ≡ 0 = full.first in
     let within = opened_within f r.port.taken told.legal_list in
@@ -289,16 +289,16 @@ settled_received follow test r told =
 -- after the mark the result is the query's after the mark's change
 pub marked_result : WholeFoldsGiveResults → FoldingsFollow → (r : ReadingHold) → IsTold r
     → (shown : List Entry) → shown ≡ r.result.entries → (o : Option Mark) → mark_read r ≡ o
-    → IfSome o (λ k. shown ≡ result_of (query_of r.port.floor) (state_at (known r) k.change))
+    → IfSome o (λ k. shown ≡ result_of (query_of r.port.floor) (state_at (known_book r) k.change))
 unfolding updates
 marked_result law follow r told shown now None is = tt
 marked_result law follow r told shown now (Some k) is =
     let f = r.port.floor in
     let full = told.legal_list.full in
-    let fits : IsMark f (messages_in r.port.taken) (known r) k = rw is at told.legal_list.mark in
+    let fits : IsMark f (messages_in r.port.taken) (known_book r) k = rw is at told.legal_list.mark in
     let bare : r.hand ≡ None = told.no_hand (rw is) in
     let got : messages_in r.port.taken ≡ received r = told.all ∙ rw (bare, append-nil) in
-    let zero : (known r).start.number ≡ 0 = full.first in
+    let zero : (known_book r).start.number ≡ 0 = full.first in
     rw (
       now,
       entries_folded follow r told,
@@ -306,5 +306,5 @@ marked_result law follow r told shown now (Some k) is =
       fits.all,
       ← opening_state f r.port.taken told.legal_list,
     )
-    (law (query_of f) f.moved (known r) f.opened k.change full.start full.lawful (omega arith)
+    (law (query_of f) f.moved (known_book r) f.opened k.change full.start full.lawful (omega arith)
     fits.opened)

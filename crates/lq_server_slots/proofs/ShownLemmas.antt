@@ -22,7 +22,7 @@ use Rattle.lq_server_slots.specs.Rule.{messages_in, mark_in}
 use Rattle.lq_server_slots.specs.Standing.{IsConsistentAt, IsReady, upto}
 use Rattle.lq_server_slots.specs.Marking.{held_committed}
 use Rattle.lq_server_slots.specs.Slots.{SlotStands, slot_in}
-use Rattle.lq_server_slots.specs.Shown.{mark_ending, subscribed, slot_shown, mark_to_put, with_mark, PassesOnAs, SlotPassesOn, SlotsShowWorlds, ActsShowWorlds}
+use Rattle.lq_server_slots.specs.Shown.{mark_ending, shown_subscription, slot_shown, mark_to_put, with_mark, PassesOnAs, SlotPassesOn, SlotsShowWorlds, ActsShowWorlds}
 use Rattle.lq_server_slots.proofs.SlotLemmas.{told_length}
 
 -- the opaque list is the query's update list
@@ -40,7 +40,7 @@ covers o book zero = grind arith
 -- the updates due to the subscription of the world
 dues : (asked : Bool) (taken : ℕ) (s : Subscription) (book : Book) → IsFullBook book
     → IsConsistentAt s book
-    → updates_due book (subscribed asked taken s)
+    → updates_due book (shown_subscription asked taken s)
     ≡ messages_in (all_put s.input) ++ s.sub.held.messages
 dues asked taken s book full stands =
     sym (stands.list
@@ -114,10 +114,10 @@ marks true s book is stands n long =
 
 -- a subscription under the lock stands for one of the world
 passed_on : (asked : Bool) (taken : ℕ) (s : Subscription) (book : Book) → IsFullBook book
-    → IsConsistentAt s book → PassesOnAs book (subscribed asked taken s) s
+    → IsConsistentAt s book → PassesOnAs book (shown_subscription asked taken s) s
 passed_on asked taken s book full stands =
     let due = dues asked taken s book full stands in
-    let held : waiting book (subscribed asked taken s) ≡ s.sub.held.messages =
+    let held : waiting book (shown_subscription asked taken s) ≡ s.sub.held.messages =
     ap (drop (length (all_put s.input))) due
     ∙ holds s.sub.held.mark_out s book refl stands in
     record {
@@ -126,7 +126,7 @@ passed_on asked taken s book full stands =
       left = rw (
         held,
         marks s.sub.held.mark_out s book refl stands
-            (length (updates_due book (subscribed asked taken s))) (ap (length {A = Message}) due),
+            (length (updates_due book (shown_subscription asked taken s))) (ap (length {A = Message}) due),
       );
     }
 
@@ -151,8 +151,8 @@ slots_shown slots taken full stands k pos within =
 -- a commit ends it as the change does, where its messages are too many
 change_shown : (asked : Bool) (taken : ℕ) (s : Subscription) (book : Book) (c : Change)
     → IsFullBook book → IsConsistentAt s book → IsReady s.sub (state_of book) c
-    → after_change book c (subscribed asked taken s)
-    ≡ with_mark (subscribed asked taken s) (held_committed s.sub).mark
+    → after_change book c (shown_subscription asked taken s)
+    ≡ with_mark (shown_subscription asked taken s) (held_committed s.sub).mark
 change_shown asked taken s book c full stands ready =
     let passed = passed_on asked taken s book full stands in
     grind arith

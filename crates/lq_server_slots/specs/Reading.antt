@@ -29,8 +29,8 @@ abbrev pub opening_of : Opening → Folding
 opening_of f = opened_at f.opened (result_of (query_of f) (state_of (floor_of f)))
 
 -- the book that a reader knows
-abbrev pub known : ReadingHold → Book
-known r = known_by r.port.floor r.port.taken
+abbrev pub known_book : ReadingHold → Book
+known_book r = known_by r.port.floor r.port.taken
 
 -- the messages received: those that were taken, except the one in hand
 abbrev pub received : ReadingHold → List Message
@@ -66,7 +66,7 @@ Gives old new (Fin k) =
     × IsFront (ready old) (told_fin k) (ready new)
     × (mark_read old ≡ None)
     × (mark_read new ≡ Some k)
-    × IsMark new.port.floor (received new) (known new) k
+    × IsMark new.port.floor (received new) (known_book new) k
 Gives old new Empty = (new ≡ old) × (ready old ≡ []) × (mark_read old ≡ None)
 Gives old new Ended =
     (new ≡ old) × (ready old ≡ map what_of old.port.ahead) × IsSome (mark_read old)
@@ -100,8 +100,8 @@ pub record IsReadStep (waiting : Bool) (old new : ReadingHold) (result : Result 
     : Type 0 where
   pub refused : FailsOnlyForMemory result
   pub same : IsSamePort old.port new.port
-  pub received : IsPrefix (received new) (all_updates new.port.floor (known new))
-  pub known : Extends (known new) (known old)
+  pub received : IsPrefix (received new) (all_updates new.port.floor (known_book new))
+  pub known : Extends (known_book new) (known_book old)
   pub gives : IfOk result (Gives old new)
   pub fails : OnErr result (Fails old new)
   pub hand : OnErr result (IsSome new.hand)

@@ -26,8 +26,8 @@ mark_ending None = None
 mark_ending (Some k) = Some (record { cause = k.cause; change = k.change })
 
 -- a subscription under the lock as one of a world, where this many parcels were taken from its port
-abbrev pub subscribed : Bool → ℕ → Subscription → Subscribed
-subscribed asked taken s = record {
+abbrev pub shown_subscription : Bool → ℕ → Subscription → Subscribed
+shown_subscription asked taken s = record {
   query = s.sub.held.query;
   moved = s.sub.held.moved;
   opened = s.sub.held.opened;
@@ -42,7 +42,7 @@ subscribed asked taken s = record {
 -- a slot that may be free; its end was asked for as far as the keeper knows
 abbrev pub slot_shown : ℕ → Option Subscription → KnownSlot Identity → Option Subscribed
 slot_shown taken None p = None
-slot_shown taken (Some s) p = Some (subscribed (nat_lt s.asks p.asks) taken s)
+slot_shown taken (Some s) p = Some (shown_subscription (nat_lt s.asks p.asks) taken s)
 
 -- the world that the slots show where this many parcels were taken from each port: slot k is at
 -- index k - 1
@@ -95,13 +95,13 @@ with_mark u o = record u { end = mark_ending o }
 pub record ActsAreShown (s : Subscription) (book : Book) (asked : Bool) (taken : ℕ)
     : Type 0 where
   pub change : (c : Change) → IsReady s.sub (state_of book) c
-      → after_change book c (subscribed asked taken s)
-      ≡ with_mark (subscribed asked taken s) (held_committed s.sub).mark
-  pub notice : (noticing book (subscribed asked taken s)).1
-      ≡ Some (with_mark (subscribed asked taken s)
+      → after_change book c (shown_subscription asked taken s)
+      ≡ with_mark (shown_subscription asked taken s) (held_committed s.sub).mark
+  pub notice : (noticing book (shown_subscription asked taken s)).1
+      ≡ Some (with_mark (shown_subscription asked taken s)
       (held_noticed asked (length book.changes) s.sub.held).mark)
-  pub close : (closing book (subscribed asked taken s)).1
-      ≡ Some (with_mark (subscribed asked taken s)
+  pub close : (closing book (shown_subscription asked taken s)).1
+      ≡ Some (with_mark (shown_subscription asked taken s)
       (held_closed (length book.changes) s.sub.held).mark)
 
 abbrev pub ActsShowWorlds : Type 0

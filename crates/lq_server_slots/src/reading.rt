@@ -7,7 +7,7 @@ ghost use Rattle.lq_update.specs.Fold.{EntriesRise, opened_at, folded, last_chan
 ghost use Rattle.lq_update.specs.Updates.{IsSettled};
 ghost use Rattle.lq_port.specs.End.{AreBeside};
 ghost use Rattle.lq_server_slots.specs.Rule.{MayFollow, floor_of, query_of};
-ghost use Rattle.lq_server_slots.specs.Reading.{known, received, is_marked, mark_read, opening_of, IsTold, IsReadStep};
+ghost use Rattle.lq_server_slots.specs.Reading.{known_book, received, is_marked, mark_read, opening_of, IsTold, IsReadStep};
 
 use crate::delivery::Delivery;
 use crate::take_parcel::{keep, take_one};
@@ -124,7 +124,7 @@ impl Reading {
         ensures folded { result.now ≡ folded (opening_of self.now.port.floor).entries
             (received self.now) }
         ensures marked { IfSome (mark_read self.now) (λ k. result.now
-            ≡ result_of (query_of self.now.port.floor) (state_at (known self.now) k.change)) }
+            ≡ result_of (query_of self.now.port.floor) (state_at (known_book self.now) k.change)) }
     {
         // For the proof: what a fold of the whole list gives, and how a fold goes on.
         whole_folds_give_results();
@@ -140,7 +140,7 @@ impl Reading {
         ensures received { (result ≡ true) ↔ IsSettled (received self.now) }
         ensures whole { IsTrue result → self.now.result.entries
             ≡ result_of (query_of self.now.port.floor)
-            (state_at (known self.now) self.now.result.change) }
+            (state_at (known_book self.now) self.now.result.change) }
     {
         // For the proof: what a fold gives where it is settled, and how that is tested.
         folds_give_results();

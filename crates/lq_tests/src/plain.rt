@@ -39,8 +39,8 @@ pub fn step(
     let number = before.changes() + 1;
     let old = before.fetch(predicate)?;
     let new = fetch_after(before, predicate, change)?;
-    let told = told_between(alloc, moved, &old, &new)?;
-    Ok(number_all(alloc, told, number, first_seq)?)
+    let differences = told_between(alloc, moved, &old, &new)?;
+    Ok(number_all(alloc, differences, number, first_seq)?)
 }
 
 // The result after an accepted change, from a copy of the volume.
@@ -72,7 +72,7 @@ fn told_between(
 {
     let gone = missing(alloc, old, new)?;
     let come = missing(alloc, new, old)?;
-    told(alloc, moved, &gone, &come)
+    differences(alloc, moved, &gone, &come)
 }
 
 // The entries of one list that aren't in another.
@@ -114,7 +114,7 @@ fn copy_of(alloc: Global, entry: &Entry) -> Result<Entry, Refusal>
 }
 
 // The messages for the entries that left and those that came.
-fn told(
+fn differences(
     alloc: Global,
     moved: bool,
     gone: &[Entry],
@@ -191,7 +191,7 @@ fn as_moved(
     message: &(Opcode, Entry),
 ) -> Result<(Opcode, Entry), Refusal>
     ensures refused { FailsOnlyForMemory result }
-    ensures value { IfOk result (λ told. told ≡ as_moved all.now message.now) }
+    ensures value { IfOk result (λ differences. differences ≡ as_moved all.now message.now) }
 {
     moved_by(alloc, removed_of(message, all), message)
 }
@@ -212,7 +212,7 @@ fn moved_by(
     message: &(Opcode, Entry),
 ) -> Result<(Opcode, Entry), Refusal>
     ensures refused { FailsOnlyForMemory result }
-    ensures value { IfOk result (λ told. told ≡ option_map_or
+    ensures value { IfOk result (λ differences. differences ≡ option_map_or
         (λ m. (Moved m.1.dir m.1.name, message.now.1)) (option_copied from.entry) message.now) }
 {
     let entry = copy_of(alloc, &message.1)?;
@@ -252,19 +252,19 @@ fn moved_from(alloc: Global, from: &Entry) -> Result<Opcode, Refusal>
 // The messages of a change, numbered from `first_seq` on.
 fn number_all(
     alloc: Global,
-    told: Vec<(Opcode, Entry)>,
+    differences: Vec<(Opcode, Entry)>,
     change: u64,
     first_seq: u64,
 ) -> Result<Vec<Message>, Refusal>
-    requires few { length told.items ≤ 3 }
+    requires few { length differences.items ≤ 3 }
     requires room { first_seq + 2 < 2 ^ 64 }
     ensures refused { FailsOnlyForMemory result }
     ensures messages { IfOk result (λ messages.
-        messages.items ≡ numbered first_seq change told.items) }
+        messages.items ≡ numbered first_seq change differences.items) }
 {
-    let count = told.len();
+    let count = differences.len();
     let mut messages = Vec::new(alloc);
-    for (op, entry) in told {
+    for (op, entry) in differences {
         let place = messages.len();
         let is_last = place + 1 == count;
         messages.push(message(op, entry, change, first_seq + place as u64, is_last))?;

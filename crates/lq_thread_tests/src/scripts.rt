@@ -87,7 +87,7 @@ fn does<T: Threads + Wait + Sync>(
     rt: &T,
     alloc: Global,
     words: &[&str],
-    told: (u8, &str, &str),
+    expected: (u8, &str, &str),
 ) -> Result<bool, AllocError> {
     let mut list = Vec::new(alloc);
     for word in words {
@@ -97,7 +97,7 @@ fn does<T: Threads + Wait + Sync>(
     let mut writer = Host::new(Vec::new(alloc));
     let mut faults = Host::new(Vec::new(alloc));
     let status = program(rt, alloc, &list, &mut reader, &mut writer, &mut faults);
-    let (wanted, output, fault) = told;
+    let (wanted, output, fault) = expected;
     let is_written = writer.into_device().as_slice() == output.as_bytes();
     let is_told = faults.into_device().as_slice() == fault.as_bytes();
     Ok(status == wanted && is_written && is_told)
@@ -114,8 +114,8 @@ const WORDS: [(&[&str], (u8, &str, &str)); 5] = [
 
 #[test]
 fn the_program_does_what_its_words_say(rt: HostRuntime) -> Result<(), Fail> {
-    for (place, (words, told)) in WORDS.iter().enumerate() {
-        if !does(&rt, rt.alloc(), words, *told)? {
+    for (place, (words, expected)) in WORDS.iter().enumerate() {
+        if !does(&rt, rt.alloc(), words, *expected)? {
             return Err(Fail::from(place));
         }
     }

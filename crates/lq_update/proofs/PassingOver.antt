@@ -12,13 +12,13 @@ use Rattle.lq_value.specs.declared.field.Field.TheVariants.{Attribute}
 use Rattle.lq_value.specs.Field.{field_of}
 use Rattle.lq_predicate.specs.Query.{Query}
 use Rattle.lq_predicate.specs.Laws.{BareRowsFail, GoesBy, TruthStaysBesideSpans}
-use Rattle.lq_predicate.specs.Span.{StaysBeside, is_beside, span_of}
+use Rattle.lq_predicate.specs.Span.{StaysBeside, is_outside, span_of}
 use Rattle.lq_predicate.specs.Truth.{truth}
 use Rattle.lq_volume.specs.declared.change.Change.{Change}
 use Rattle.lq_volume.specs.declared.change.Change.TheVariants.{Create, Remove, Move, Write, SetAttr, RemoveAttr}
 use Rattle.lq_volume.specs.AttributeLaws.{ValuesAreFound}
 use Rattle.lq_volume.specs.declared.planned.WrittenNumbers.{WrittenNumbers}
-use Rattle.lq_volume.specs.Plan.{AreWritten}
+use Rattle.lq_volume.specs.Plan.{WritesNumbers}
 use Rattle.lq_volume.specs.State.{State, Record, IsVolume, record_at}
 use Rattle.lq_volume.specs.Change.{after, node_of, altered, altered_at, rewritten, set_attr, remove_attr}
 use Rattle.lq_volume.specs.Result.{result_of, entry_of, entry_if, match_at, shown}
@@ -140,8 +140,8 @@ lookup-altered node f (e ∷ es) = grind (arith, nat_tests, lookup-altered node 
 
 -- what a written record shows is the same, or stays beside the numbers of the query
 shown-beside : (q : Query) (r : Record) (size : ℕ) (time : ℤ)
-    → is_beside (span_of (codes "size") q) (pos r.size) (pos size) ≡ true
-    → is_beside (span_of (codes "last_modified") q) r.time time ≡ true
+    → is_outside (span_of (codes "size") q) (pos r.size) (pos size) ≡ true
+    → is_outside (span_of (codes "last_modified") q) r.time time ≡ true
     → (name : List ℕ) → (shown r name ≡ shown (rewritten size time r) name)
     ⊎ StaysBeside (span_of name q) (shown r name) (shown (rewritten size time r) name)
 shown-beside q r size time sizes times name =
@@ -174,8 +174,8 @@ shown-beside q r size time sizes times name =
 -- a write that leaves the truth of a query leaves its match at the node
 pub match-written : TruthStaysBesideSpans
     → (q : Query) (s : State) (r : Record) (node size : ℕ) (time : ℤ) → record_at s node ≡ Some r
-    → is_beside (span_of (codes "size") q) (pos r.size) (pos size) ≡ true
-    → is_beside (span_of (codes "last_modified") q) r.time time ≡ true
+    → is_outside (span_of (codes "size") q) (pos r.size) (pos size) ≡ true
+    → is_outside (span_of (codes "last_modified") q) r.time time ≡ true
     → match_at q (after s (Write node size time)) node ≡ match_at q s node
 match-written law q s r node size time is sizes times =
     let same : truth q (shown r) ≡ truth q (shown (rewritten size time r)) =
@@ -189,9 +189,9 @@ match-written law q s r node size time is sizes times =
 
 -- that of a write, by the numbers that it finds and leaves
 pub match-numbers : TruthStaysBesideSpans
-    → (q : Query) (s : State) (c : Change) (w : WrittenNumbers) → AreWritten s c w
-    → is_beside (span_of (codes "size") q) (pos w.old_size) (pos w.new_size) ≡ true
-    → is_beside (span_of (codes "last_modified") q) w.old_time w.new_time ≡ true
+    → (q : Query) (s : State) (c : Change) (w : WrittenNumbers) → WritesNumbers s c w
+    → is_outside (span_of (codes "size") q) (pos w.old_size) (pos w.new_size) ≡ true
+    → is_outside (span_of (codes "last_modified") q) w.old_time w.new_time ≡ true
     → match_at q (after s c) (node_of s c) ≡ match_at q s (node_of s c)
 match-numbers law q s c w are sizes times = by (record_at s (node_of s c)) refl are.found
   where
@@ -202,9 +202,9 @@ match-numbers law q s c w are sizes times = by (record_at s (node_of s c)) refl 
     by (Some r) is found =
         ap (λ d. match_at q (after s d) (node_of s c)) are.write
         ∙ match-written law q s r (node_of s c) w.new_size w.new_time is
-        (subst (λ n. is_beside (span_of (codes "size") q) (pos n) (pos w.new_size) ≡ true)
+        (subst (λ n. is_outside (span_of (codes "size") q) (pos n) (pos w.new_size) ≡ true)
         (sym found.0) sizes)
-        (subst (λ t. is_beside (span_of (codes "last_modified") q) t w.new_time ≡ true)
+        (subst (λ t. is_outside (span_of (codes "last_modified") q) t w.new_time ≡ true)
         (sym found.1) times)
 
 -- ---- a creation, where the query needs an attribute

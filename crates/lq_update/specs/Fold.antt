@@ -66,8 +66,8 @@ settled_after settled [] = settled
 settled_after settled (m ∷ ms) = settled_after m.last ms
 
 -- whether the final message was the last of its change; true of no message
-abbrev pub is_settled : List Message → Bool
-is_settled ms = settled_after true ms
+abbrev pub ends_settled : List Message → Bool
+ends_settled ms = settled_after true ms
 
 -- the change of the final message; with no message, the number given
 abbrev pub last_change : ℕ → List Message → ℕ

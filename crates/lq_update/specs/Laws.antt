@@ -17,7 +17,7 @@ use Rattle.lq_volume.specs.Result.{result_of}
 use Rattle.lq_update.specs.declared.message.Message.{Message}
 use Rattle.lq_update.specs.Diff.{diff}
 use Rattle.lq_update.specs.Updates.{step_of, updates_from, updates_of, IsSettled}
-use Rattle.lq_update.specs.Fold.{Folding, is_settled, settled_after, fold_refusals, folding_after_all, opened_at, EntriesRise, folded, fits_in, last_change}
+use Rattle.lq_update.specs.Fold.{Folding, ends_settled, settled_after, fold_refusals, folding_after_all, opened_at, EntriesRise, folded, fits_in, last_change}
 
 -- an update list up to a number is a prefix of the one up to the next number
 abbrev pub UpdatesGrow : Type 0
@@ -103,7 +103,7 @@ FoldingsFollow = (f : Folding) (ms : List Message)
 
 -- a list is settled exactly where the test says so
 abbrev pub SettledIsTested : Type 0
-SettledIsTested = (ms : List Message) → IsSettled ms ↔ (is_settled ms ≡ true)
+SettledIsTested = (ms : List Message) → IsSettled ms ↔ (ends_settled ms ≡ true)
 
 -- the only names under which a change alters what an entry shows, if no place changes
 abbrev pub names_altered : Change → Option (List (List ℕ))

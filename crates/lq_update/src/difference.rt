@@ -9,7 +9,7 @@ ghost use Rattle.lq_update.specs.Updates.{step_of};
 
 use crate::matches::Matches;
 use lq_value::{Entry, Refusal};
-use lq_volume::{EntryView, accepted_changes_keep_trees, clobbered_nodes_go, untouched_nodes_stay};
+use lq_volume::{EntryRow, accepted_changes_keep_trees, clobbered_nodes_go, untouched_nodes_stay};
 use std::alloc::Global;
 
 impl<'s, 'a> Matches<'s, 'a> {
@@ -37,7 +37,7 @@ impl<'s, 'a> Matches<'s, 'a> {
     // What left the result at the change's own node, and what came into it there: nothing where the
     // entry matches before and after, at one place.
     #[inline(always)]
-    pub(crate) fn difference(&self) -> (Option<&'s EntryView<'a>>, Option<&'s EntryView<'a>>)
+    pub(crate) fn difference(&self) -> (Option<&'s EntryRow<'a>>, Option<&'s EntryRow<'a>>)
         ensures removed { entry_at
             (node_of self.now.planned.now.before self.now.planned.now.change)
             (option_copied result.0) ≡ left_at self.now.predicate.now self.now.planned.now.before
@@ -81,7 +81,7 @@ pub(crate) fn changes_touch_few()
 // The entry at a node, from a view of it.
 pub(crate) fn copied(
     alloc: Global,
-    view: Option<&EntryView<'_>>,
+    view: Option<&EntryRow<'_>>,
     node: u64,
 ) -> Result<Option<Entry>, Refusal>
     ensures refused { FailsOnlyForMemory result }

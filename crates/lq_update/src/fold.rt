@@ -24,29 +24,29 @@ pub fn fold(alloc: Global, entries: &mut Vec<Entry>, message: &Message) -> Resul
 {
     match &message.op {
         Opcode::Created => {
-            let Err(place) = place_of(entries, message.node) else {
+            let Err(index) = index_of(entries, message.node) else {
                 return Err(Refusal::Mismatch);
             };
             let entry = entry_of(alloc, message)?;
-            entries.insert(place, entry)?;
+            entries.insert(index, entry)?;
             Ok(())
         }
         Opcode::Removed => {
-            let Some(place) = place_with(entries, message.dir, &message.name, message.node) else {
+            let Some(index) = index_with(entries, message.dir, &message.name, message.node) else {
                 return Err(Refusal::Mismatch);
             };
-            entries.remove(place);
+            entries.remove(index);
             Ok(())
         }
         Opcode::Moved {
             from_dir,
             from_name,
         } => {
-            let Some(place) = place_with(entries, *from_dir, from_name, message.node) else {
+            let Some(index) = index_with(entries, *from_dir, from_name, message.node) else {
                 return Err(Refusal::Mismatch);
             };
             let entry = entry_of(alloc, message)?;
-            entries[place] = entry;
+            entries[index] = entry;
             Ok(())
         }
     }
@@ -64,18 +64,18 @@ fn entry_of(alloc: Global, message: &Message) -> Result<Entry, Refusal>
 }
 
 // The index of an entry, if it is in the result.
-fn place_with(entries: &[Entry], dir: u64, name: &Name, node: u64) -> Option<usize>
+fn index_with(entries: &[Entry], dir: u64, name: &Name, node: u64) -> Option<usize>
     requires { EntriesRise entries.now }
     ensures found { IfSome result
         (IsTripleAt entries.now (record { dir = dir; name = name.now; node = node })) }
     ensures has { has_entry (record { dir = dir; name = name.now; node = node }) entries.now
         ≡ is_some result }
 {
-    let Ok(place) = place_of(entries, node) else {
+    let Ok(index) = index_of(entries, node) else {
         return None;
     };
-    if is_triple(&entries[place], dir, name, node) {
-        Some(place)
+    if is_triple(&entries[index], dir, name, node) {
+        Some(index)
     } else {
         None
     }
@@ -88,7 +88,7 @@ fn is_triple(entry: &Entry, dir: u64, name: &Name, node: u64) -> bool
 }
 
 // The index of a node's entry, or where it would go, found by binary search.
-fn place_of(entries: &[Entry], node: u64) -> Result<usize, usize>
+fn index_of(entries: &[Entry], node: u64) -> Result<usize, usize>
     requires { EntriesRise entries.now }
     ensures found { IfOk result (IsEntryAt entries.now node) }
     ensures absent { IfErr result (IsGapFor entries.now node) }

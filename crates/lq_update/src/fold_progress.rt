@@ -1,6 +1,6 @@
 //! How far a fold of messages has come, which decides whether a message may be next.
 ghost use Rattle.std.specs.Prelude.{◌≡◌, true};
-ghost use Rattle.lq_update.specs.FoldProgress.{may_follow};
+ghost use Rattle.lq_update.specs.FoldProgress.{may_come_next};
 
 use crate::message::Message;
 
@@ -45,7 +45,7 @@ impl FoldProgress {
     /// Whether this message may come next. Its `seq` has to be one more. Its change has to be later
     /// if the latest message was the last of its change, else the same.
     pub fn is_followed_by(self, message: &Message) -> bool
-        ensures { result ≡ may_follow self.seq self.change self.last message.now }
+        ensures { result ≡ may_come_next self.seq self.change self.last message.now }
     {
         if message.seq == 0 || message.seq - 1 != self.seq {
             return false;

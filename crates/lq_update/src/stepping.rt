@@ -14,7 +14,7 @@ use crate::message::{Message, Opcode};
 use crate::message_list::{join, message, put_all};
 use lq_predicate::{Predicate, holds};
 use lq_value::{Entry, Refusal};
-use lq_volume::{Applied, Change, EntryView, Planned, Volume};
+use lq_volume::{Applied, Change, EntryRow, Planned, Volume};
 use std::alloc::Global;
 use std::collections::VecDeque;
 
@@ -118,8 +118,8 @@ impl<'s, 'a> Matches<'s, 'a> {
     fn put_joined(
         &self,
         alloc: Global,
-        left: Option<&EntryView<'_>>,
-        came: Option<&EntryView<'_>>,
+        left: Option<&EntryRow<'_>>,
+        came: Option<&EntryRow<'_>>,
         first_seq: u64,
         moved: bool,
         messages: &mut VecDeque<Message>,
@@ -172,7 +172,7 @@ fn put_one(
     alloc: Global,
     messages: &mut VecDeque<Message>,
     op: Opcode,
-    view: &EntryView<'_>,
+    view: &EntryRow<'_>,
     made: Applied,
     seq: u64,
 ) -> Result<(), Refusal>
@@ -194,7 +194,7 @@ fn put_one(
 fn gone_of(
     alloc: Global,
     predicate: &Predicate,
-    view: &EntryView<'_>,
+    view: &EntryRow<'_>,
     node: u64,
 ) -> Result<Option<Entry>, Refusal>
     ensures refused { FailsOnlyForMemory result }

@@ -11,7 +11,7 @@ use Rattle.lq_value.specs.declared.op.Op.{Op}
 use Rattle.lq_value.specs.declared.op.Op.TheVariants.{Eq, Ne, Lt, Le, Gt, Ge}
 use Rattle.lq_value.specs.Number.{decimal_number}
 use Rattle.lq_value.specs.Form.{pattern_number}
-use Rattle.lq_value_pattern.specs.Pattern.{fits}
+use Rattle.lq_value_pattern.specs.Pattern.{is_fit}
 
 -- whether an operator accepts the order of the two sides
 abbrev pub accepts : Op → Ordering → Bool
@@ -46,7 +46,7 @@ fits_by op fit = false
 
 -- a text is compared with the pattern, or byte by byte
 abbrev pub compares_text : List ℕ → Op → Literal → Bool
-compares_text bytes op (literal.Pattern elements) = fits_by op (fits elements (chars bytes))
+compares_text bytes op (literal.Pattern elements) = fits_by op (is_fit elements (chars bytes))
 compares_text bytes op (literal.Plain text) = accepts op (slice_cmp nat_cmp bytes text)
 
 -- a number is compared as a whole number; with a literal that writes none the answer is false

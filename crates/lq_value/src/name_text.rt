@@ -5,7 +5,7 @@ use std::sync::Arc;
 
 /// The longest name that is stored inline, in bytes. With its length and the tag of its variant it
 /// takes 16 bytes, as a longer one does there.
-const MAX_SHORT: usize = 14;
+const MAX_SHORT_NAME: usize = 14;
 
 /// A text of up to 14 bytes that is stored inline, or a longer one that its copies share.
 ///
@@ -13,6 +13,6 @@ const MAX_SHORT: usize = 14;
 /// of its copies, in one allocation. A contract sees it as its bytes (`specs/Name`).
 #[derive(Drop)]
 pub(crate) enum NameText {
-    Short(ShortText<MAX_SHORT>),
+    Short(ShortText<MAX_SHORT_NAME>),
     Shared(Arc<SmallText>),
 }

@@ -5,7 +5,7 @@ ghost use Rattle.std.specs.String.{string_bytes};
 ghost use Rattle.lq_value.specs.Refusal.{FailsOnlyForMemory, IsRefusedBy};
 ghost use Rattle.lq_value.specs.Form.{pattern_number};
 ghost use Rattle.lq_value.specs.SourceRefusal.{source_refusal};
-ghost use Rattle.lq_value_pattern.specs.Pattern.{Fits, fits, plain_elements};
+ghost use Rattle.lq_value_pattern.specs.Pattern.{Fits, is_fit, plain_elements};
 ghost use Rattle.lq_value_pattern.specs.Sign.{signs_of};
 ghost use Rattle.lq_value_pattern.specs.Source.{pattern_of};
 ghost use Rattle.lq_value_pattern.specs.Written.{HasFaultAt, Writes};
@@ -134,7 +134,7 @@ impl Pattern {
     /// plain characters. In a text of 128 bytes to 4,096 characters many steps are done at once,
     /// and in one of 32 bytes or more where a set has more than 16 items.
     pub fn matches(&self, text: &str) -> bool
-        ensures fits { result ≡ fits self.now (chars text.now) }
+        ensures fits { result ≡ is_fit self.now (chars text.now) }
         ensures split { IsTrue result ↔ Fits self.now (chars text.now) }
     {
         fits_are_splits();

@@ -8,7 +8,7 @@ use std::alloc::Global;
 use std::marker::Model;
 
 /// The longest text that is stored inline, in bytes. A `String` takes as much space there.
-const MAX_SHORT: usize = 30;
+const MAX_SHORT_TEXT: usize = 30;
 
 /// A text of UTF-8. Up to 30 bytes are stored inline and take no memory of their own.
 ///
@@ -20,7 +20,7 @@ pub(crate) struct SmallText {
 
 #[derive(Drop)]
 pub(crate) enum Kept {
-    Here(ShortText<MAX_SHORT>),
+    Here(ShortText<MAX_SHORT_TEXT>),
     Apart(String),
 }
 

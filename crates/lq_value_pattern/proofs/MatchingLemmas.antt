@@ -6,8 +6,8 @@ use Rattle.std.proofs.lemmas.List.Prefix.{front_rest}
 use Rattle.lq_value_pattern.specs.declared.element.Element.{Element}
 use Rattle.lq_value_pattern.specs.declared.element.Element.TheVariants.{Star}
 use Rattle.lq_value_pattern.specs.Element.{takes}
-use Rattle.lq_value_pattern.specs.Pattern.{fits, head_then, is_end, some_rest}
-use Rattle.lq_value_pattern.specs.Matching.{IsSingle, AreSingle, TakesOne, Passes, PassesToStar, Finds}
+use Rattle.lq_value_pattern.specs.Pattern.{is_fit, head_then, is_end, some_rest}
+use Rattle.lq_value_pattern.specs.Matching.{IsSingle, AreSingle, TakesOne, TakesRun, PassesToStar, Finds}
 use Rattle.lq_value_pattern.specs.Seek.{take_front}
 use Rattle.lq_value_pattern.proofs.PatternLemmas.{some_found, some_at, some_dropped}
 
@@ -15,13 +15,13 @@ use Rattle.lq_value_pattern.proofs.PatternLemmas.{some_found, some_at, some_drop
 
 -- a single element takes the first character, and the others fit the rest
 single_fits : (e : Element) (es : List Element) (cs : List ℕ) → IsSingle e
-    → fits (e ∷ es) cs ≡ head_then (takes e) (fits es) cs
+    → is_fit (e ∷ es) cs ≡ head_then (takes e) (is_fit es) cs
 single_fits Star es cs s = absurd s
 single_fits e es cs s = refl
 
 -- single elements take a character each, and the others fit what is left
 pub fits_join : (piece es : List Element) (cs : List ℕ) → AreSingle piece
-    → fits (piece ++ es) cs ≡ (take_front piece cs && fits es (drop (length piece) cs))
+    → is_fit (piece ++ es) cs ≡ (take_front piece cs && is_fit es (drop (length piece) cs))
 fits_join [] es cs s = refl
 fits_join (e ∷ piece) es [] s = single_fits e (piece ++ es) [] s.0
 fits_join (e ∷ piece) es (c ∷ cs) s =
@@ -40,8 +40,8 @@ AreSingle-push (p ∷ piece) e s t = (s.0, AreSingle-push piece e s.1 t)
 
 -- a text that some elements pass, and one element more that takes its next character
 pub passes_more : (es : List Element) (cs : List ℕ) (es' : List Element) (cs' : List ℕ)
-    (es'' : List Element) (cs'' : List ℕ) → Passes es cs es' cs' → TakesOne es' cs' es'' cs''
-    → Passes es cs es'' cs''
+    (es'' : List Element) (cs'' : List ℕ) → TakesRun es cs es' cs' → TakesOne es' cs' es'' cs''
+    → TakesRun es cs es'' cs''
 passes_more es cs es' cs' es'' cs'' p t =
     let s = single t.e t.c t.taken in
     record {
@@ -58,16 +58,16 @@ passes_more es cs es' cs' es'' cs'' p t =
 
 -- a pattern that passes up to a star fits some rest just where the star's part fits
 found_star : (es : List Element) (cs : List ℕ) (es' : List Element) (cs' : List ℕ)
-    → Passes es cs (Star ∷ es') cs' → some_rest (fits es) cs ≡ fits (Star ∷ es') cs'
-found_star es cs es' cs' p = same_from_decides {P = fits (Star ∷ es') cs' ≡ true} _ _ (
+    → TakesRun es cs (Star ∷ es') cs' → some_rest (is_fit es) cs ≡ is_fit (Star ∷ es') cs'
+found_star es cs es' cs' p = same_from_decides {P = is_fit (Star ∷ es') cs' ≡ true} _ _ (
   λ h.
-      let r = some_found (fits es) cs h in
+      let r = some_found (is_fit es) cs h in
       let n = length p.run in
       let there : drop n (drop r.0 cs) ≡ drop r.0 cs' =
       grind (arith, drop-drop n r.0 cs, drop-drop r.0 n cs, front_rest cs p.run cs' p.text) in
       let fit = fits_join p.piece (Star ∷ es') (drop r.0 cs) p.single in
-      some_dropped (fits es') cs' r.0 (grind (arith, r.2, fit, there, p.elements, p.same)),
-  λ h. some_at (fits es) cs 0 (p.fit ∙ h),
+      some_dropped (is_fit es') cs' r.0 (grind (arith, r.2, fit, there, p.elements, p.same)),
+  λ h. some_at (is_fit es) cs 0 (p.fit ∙ h),
 )
     (λ h. h, λ h. h)
 
@@ -75,7 +75,7 @@ found_star es cs es' cs' p = same_from_decides {P = fits (Star ∷ es') cs' ≡ 
 pub found_at_star : (es : List Element) (cs : List ℕ) (e : Element) (es' left : List Element)
     (cs' : List ℕ) → left ≡ e ∷ es' → PassesToStar es cs left cs' → Finds es cs left cs'
 found_at_star es cs Star es' left cs' is p =
-    let from : Passes es cs (Star ∷ es') cs' = rw is at p.passes in
+    let from : TakesRun es cs (Star ∷ es') cs' = rw is at p.passes in
     rw is (record {
       same = found_star es cs es' cs' from;
       star = tt;
@@ -87,26 +87,26 @@ found_at_star es cs e es' left cs' is p = absurd (rw is at p.star)
 pub found_at_end : (es : List Element) (cs : List ℕ) (left : List Element) (cs' : List ℕ)
     → left ≡ [] → is_end cs' ≡ true → PassesToStar es cs left cs' → Finds es cs left cs'
 found_at_end es cs left cs' is end p = rw is (record {
-  same = some_at (fits es) cs 0 (p.passes.fit ∙ (ap (λ l. fits l cs') is ∙ end)) ∙ sym end;
+  same = some_at (is_fit es) cs 0 (p.passes.fit ∙ (ap (λ l. is_fit l cs') is ∙ end)) ∙ sym end;
   star = tt;
   shorter = omega arith;
 })
 
 -- where no element is left and the text goes on, the pattern doesn't fit here
 pub not_found : (es : List Element) (cs : List ℕ) (left : List Element) (cs' : List ℕ)
-    → left ≡ [] → is_end cs' ≡ false → PassesToStar es cs left cs' → fits es cs ≡ false
-not_found es cs left cs' is end p = p.passes.fit ∙ (ap (λ l. fits l cs') is ∙ end)
+    → left ≡ [] → is_end cs' ≡ false → PassesToStar es cs left cs' → is_fit es cs ≡ false
+not_found es cs left cs' is end p = p.passes.fit ∙ (ap (λ l. is_fit l cs') is ∙ end)
 
 -- a place that isn't the first
 pub found_later : (es : List Element) (text cs : List ℕ) (es' : List Element) (cs' : List ℕ)
-    → some_rest (fits es) text ≡ some_rest (fits es) cs → Finds es cs es' cs'
+    → some_rest (is_fit es) text ≡ some_rest (is_fit es) cs → Finds es cs es' cs'
     → Finds es text es' cs'
 found_later es text cs es' cs' e f =
     record { same = e ∙ f.same; star = f.star; shorter = f.shorter }
 
 -- a pattern that doesn't fit here fits some rest just where it fits a later one
-pub some_later : (es : List Element) (c : ℕ) (cs : List ℕ) → fits es (c ∷ cs) ≡ false
-    → some_rest (fits es) (c ∷ cs) ≡ some_rest (fits es) cs
+pub some_later : (es : List Element) (c : ℕ) (cs : List ℕ) → is_fit es (c ∷ cs) ≡ false
+    → some_rest (is_fit es) (c ∷ cs) ≡ some_rest (is_fit es) cs
 some_later es c cs e = rw e refl
 
 -- for the search at one place

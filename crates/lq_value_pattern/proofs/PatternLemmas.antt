@@ -7,7 +7,7 @@ use Rattle.std.proofs.lemmas.Str.{encodes-chars, encodes-append, chars_from_enco
 use Rattle.lq_value_pattern.specs.declared.element.Element.{Element}
 use Rattle.lq_value_pattern.specs.declared.element.Element.TheVariants.{Star, Any, Plain, Set}
 use Rattle.lq_value_pattern.specs.Element.{takes}
-use Rattle.lq_value_pattern.specs.Pattern.{Fits, fits, some_rest, head_then, plain_chars, plain_elements}
+use Rattle.lq_value_pattern.specs.Pattern.{Fits, is_fit, some_rest, head_then, plain_chars, plain_elements}
 
 -- a test that some rest passes is passed at some place
 pub some_found : (p : List ℕ → Bool) (cs : List ℕ) → some_rest p cs ≡ true
@@ -39,27 +39,27 @@ head_found t p [] e = absurd (false≢true e)
 head_found t p (c ∷ cs) e = let h = and_parts (t c) (p cs) e in (c, cs, refl, h.0, h.1)
 
 -- the test is the same as a split
-pub fits-sound : (es : List Element) (cs : List ℕ) → fits es cs ≡ true → Fits es cs
+pub fits-sound : (es : List Element) (cs : List ℕ) → is_fit es cs ≡ true → Fits es cs
 fits-sound [] [] e = refl
 fits-sound [] (c ∷ cs) e = absurd (false≢true e)
 fits-sound (Star ∷ es) cs e =
-    let h = some_found (fits es) cs e in
+    let h = some_found (is_fit es) cs e in
     (take h.0 cs, drop h.0 cs, sym (take-append-drop h.0 cs), tt, fits-sound es (drop h.0 cs) h.2)
 fits-sound (Any ∷ es) cs e =
-    let h = head_found (takes Any) (fits es) cs e in
+    let h = head_found (takes Any) (is_fit es) cs e in
     (h.0 ∷ [], h.1, h.2, (h.0, refl), fits-sound es h.1 h.4)
 fits-sound (Plain d ∷ es) cs e =
-    let h = head_found (takes (Plain d)) (fits es) cs e in
+    let h = head_found (takes (Plain d)) (is_fit es) cs e in
     (h.0 ∷ [], h.1, h.2, ap (λ x. x ∷ []) (sym (eqb-true d h.0 h.3)), fits-sound es h.1 h.4)
 fits-sound (Set n is ∷ es) cs e =
-    let h = head_found (takes (Set n is)) (fits es) cs e in
+    let h = head_found (takes (Set n is)) (is_fit es) cs e in
     (h.0 ∷ [], h.1, h.2, (h.0, refl, grind (arith, h.3)), fits-sound es h.1 h.4)
 
 -- each text that a pattern fits passes its test
-pub fits-complete : (es : List Element) (cs : List ℕ) → Fits es cs → fits es cs ≡ true
+pub fits-complete : (es : List Element) (cs : List ℕ) → Fits es cs → is_fit es cs ≡ true
 fits-complete [] cs h = rw h refl
 fits-complete (Star ∷ es) cs h =
-    some_at (fits es) cs (length h.0) (rw (front_rest cs h.0 h.1 h.2) (fits-complete es h.1 h.4))
+    some_at (is_fit es) cs (length h.0) (rw (front_rest cs h.0 h.1 h.2) (fits-complete es h.1 h.4))
 fits-complete (Any ∷ es) cs h = rw (h.2, h.3.1) (fits-complete es h.1 h.4)
 fits-complete (Plain d ∷ es) cs h = rw (h.2, h.3, eq-eqb d d refl) (fits-complete es h.1 h.4)
 fits-complete (Set n is ∷ es) cs h =

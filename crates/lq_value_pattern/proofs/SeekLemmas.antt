@@ -5,8 +5,8 @@ use Rattle.std.proofs.lemmas.Bool.{and_parts, and_right, both_ways, cases_lt, fa
 use Rattle.std.proofs.lemmas.List.{drop_all}
 use Rattle.lq_value_pattern.specs.declared.element.Element.{Element}
 use Rattle.lq_value_pattern.specs.Element.{takes}
-use Rattle.lq_value_pattern.specs.Pattern.{fits, is_end, some_rest}
-use Rattle.lq_value_pattern.specs.Matching.{AreSingle, Passes, Finds}
+use Rattle.lq_value_pattern.specs.Pattern.{is_fit, is_end, some_rest}
+use Rattle.lq_value_pattern.specs.Matching.{AreSingle, TakesRun, Finds}
 use Rattle.lq_value_pattern.specs.Seek.{take_front, TakeNoneBefore, IsFirstPlace, IsFirstPlaceBefore, TakeNowhere, IsPiece}
 use Rattle.lq_value_pattern.proofs.PatternLemmas.{some_found, some_at}
 use Rattle.lq_value_pattern.proofs.MatchingLemmas.{fits_join, found_at_star, found_later, some_later}
@@ -27,12 +27,12 @@ take_length es cs h = grind (arith, short_not_taken es cs)
 
 -- a text whose first characters are not taken is not fitted
 not_taken : (piece es : List Element) (cs : List ℕ) → AreSingle piece
-    → take_front piece cs ≡ false → fits (piece ++ es) cs ≡ false
+    → take_front piece cs ≡ false → is_fit (piece ++ es) cs ≡ false
 not_taken piece es cs s h = cc (fits_join piece es cs s)
 
 -- elements that take the first characters pass
 passes_taken : (piece es : List Element) (cs : List ℕ) → AreSingle piece
-    → take_front piece cs ≡ true → Passes (piece ++ es) cs es (drop (length piece) cs)
+    → take_front piece cs ≡ true → TakesRun (piece ++ es) cs es (drop (length piece) cs)
 passes_taken piece es cs s h = record {
   piece = piece;
   run = take (length piece) cs;
@@ -47,8 +47,8 @@ passes_taken piece es cs s h = record {
 
 -- places that don't fit are passed over
 skipped : (es : List Element) (cs : List ℕ) (p : ℕ)
-    → ((q : ℕ) → q < p → fits es (drop q cs) ≡ false) → p ≤ length cs
-    → some_rest (fits es) cs ≡ some_rest (fits es) (drop p cs)
+    → ((q : ℕ) → q < p → is_fit es (drop q cs) ≡ false) → p ≤ length cs
+    → some_rest (is_fit es) cs ≡ some_rest (is_fit es) (drop p cs)
 skipped es cs zero none h = refl
 skipped es [] (suc p) none h = absurd (omega arith)
 skipped es (c ∷ cs) (suc p) none h =
@@ -83,15 +83,15 @@ none_taken (e ∷ es) cs q none = elim (cases_lt (length cs) (q + length (e ∷ 
 
 -- then the pattern fits no rest
 pub nowhere_piece : (es piece after : List Element) (cs : List ℕ) → IsPiece es piece after
-    → TakeNowhere piece cs → some_rest (fits es) cs ≡ false
+    → TakeNowhere piece cs → some_rest (is_fit es) cs ≡ false
 nowhere_piece es piece after cs is none = rw is.elements (false_from_ne_true _ (λ t.
-    let r = some_found (fits (piece ++ after)) cs t in
+    let r = some_found (is_fit (piece ++ after)) cs t in
     let no = not_taken piece after (drop r.0 cs) is.single (none_taken piece cs r.0 none) in
-    both_ways (fits (piece ++ after) (drop r.0 cs)) no r.2))
+    both_ways (is_fit (piece ++ after) (drop r.0 cs)) no r.2))
 
 -- a text that is too short has none
 pub short_piece : (es piece after : List Element) (cs : List ℕ) → IsPiece es piece after
-    → length cs < length piece → some_rest (fits es) cs ≡ false
+    → length cs < length piece → some_rest (is_fit es) cs ≡ false
 short_piece es piece after cs is h =
     nowhere_piece es piece after cs is (λ q le. absurd (omega arith))
 
@@ -108,9 +108,9 @@ found_end es piece [] cs end left place is none le at p from =
     let here : place ≡ 0 = omega (arith, p.within, ap length at, long) in
     let taken : take_front piece (drop d cs) ≡ true = rw (here, at) at p.taken in
     let past = drop_all (length piece) (drop d cs) (omega (arith, long)) in
-    let fit : some_rest (fits es) cs ≡ true =
-    some_at (fits es) cs d (cc (is.elements, fits_join piece [] (drop d cs) is.single)) in
-    let done : fits [] left ≡ true = rw (from, drop_all (length cs) cs (omega arith)) refl in
+    let fit : some_rest (is_fit es) cs ≡ true =
+    some_at (is_fit es) cs d (cc (is.elements, fits_join piece [] (drop d cs) is.single)) in
+    let done : is_fit [] left ≡ true = rw (from, drop_all (length cs) cs (omega arith)) refl in
     record { same = fit ∙ sym done; star = tt; shorter = omega arith }
 found_end es piece (e ∷ after) cs end left place is none le at p from =
     absurd (omega (arith, none))
@@ -123,10 +123,10 @@ end_empty cs h = grind arith
 pub nowhere_end : (es piece after : List Element) (cs end : List ℕ) → IsPiece es piece after
     → length after ≡ 0 → length piece ≤ length cs
     → end ≡ drop (length cs - length piece) cs → TakeNowhere piece end
-    → some_rest (fits es) cs ≡ false
+    → some_rest (is_fit es) cs ≡ false
 nowhere_end es piece [] cs end is none le at nowhere =
     rw is.elements (false_from_ne_true _ (λ t.
-    let r = some_found (fits (piece ++ [])) cs t in
+    let r = some_found (is_fit (piece ++ [])) cs t in
     let rest = drop r.0 cs in
     let parts = and_parts (take_front piece rest) (is_end (drop (length piece) rest))
     (sym (fits_join piece [] rest is.single) ∙ r.2) in

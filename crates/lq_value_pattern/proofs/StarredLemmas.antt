@@ -9,7 +9,7 @@ use Rattle.std.proofs.lemmas.Str.{IsCharBoundary-at_seam, IsCharBoundary-start, 
 use Rattle.lq_value_pattern.specs.declared.element.Element.{Element}
 use Rattle.lq_value_pattern.specs.declared.element.Element.TheVariants.{Star}
 use Rattle.lq_value_pattern.specs.declared.starred.Starred.{Starred}
-use Rattle.lq_value_pattern.specs.Pattern.{Fits, fits, plain_elements, starred_elements, with_stars}
+use Rattle.lq_value_pattern.specs.Pattern.{Fits, is_fit, plain_elements, starred_elements, with_stars}
 use Rattle.lq_value_pattern.proofs.PatternLemmas.{fits-sound, fits-complete}
 
 -- A text has these codes in it: at its front where no star stands before them, and at its end
@@ -112,10 +112,10 @@ has-bytes true x true t v u h =
 -- a test of whether the bytes are there is the test of the elements
 tells : (r before : Bool) (x : List ℕ) (behind : Bool) (t : List ℕ) → IsUtf8 x → IsUtf8 t
     → Decides r (HasText before x behind t)
-    → r ≡ fits (with_stars before (chars x) behind) (chars t)
+    → r ≡ is_fit (with_stars before (chars x) behind) (chars t)
 tells r before x behind t v u is =
     let es = with_stars before (chars x) behind in
-    same_from_decides {P = HasText before x behind t} r (fits es (chars t)) is (
+    same_from_decides {P = HasText before x behind t} r (is_fit es (chars t)) is (
       λ e. has-bytes before x behind t v u
           (has-fitted before (chars x) behind (chars t) (fits-sound es (chars t) e)),
       λ h. fits-complete es (chars t)
@@ -126,13 +126,13 @@ tells r before x behind t v u is =
 pub tells-starred : (r : Bool) (s : Starred) (before : Bool) (x : List ℕ) (behind : Bool)
     (t : List ℕ) → s.before ≡ before → x ≡ string_bytes s.text → s.behind ≡ behind
     → IsUtf8 x → IsUtf8 t → Decides r (HasText before x behind t)
-    → r ≡ fits (starred_elements s) (chars t)
+    → r ≡ is_fit (starred_elements s) (chars t)
 tells-starred r s before x behind t b e a v u is =
     rw (b, a, ← e) (tells r before x behind t v u is)
 
 -- plain elements fit the text of their characters alone
 pub fits-text : (x t : List ℕ) → IsUtf8 x → IsUtf8 t
-    → bytes_eq x t ≡ fits (plain_elements (chars x)) (chars t)
+    → bytes_eq x t ≡ is_fit (plain_elements (chars x)) (chars t)
 fits-text x t v u =
     let is = bytes_eq-Decides x t in
     rw (append-nil (plain_elements (chars x))) at (tells (bytes_eq x t) false x false t v u

@@ -6,7 +6,7 @@ use Rattle.lq_value_pattern.specs.declared.sign.Sign.{Sign}
 use Rattle.lq_value_pattern.specs.Sign.{signs_of, signs_len}
 use Rattle.lq_value_pattern.specs.Source.{First, has, after_first, element_at, item_at, pattern_of, pieces_of}
 use Rattle.lq_value_pattern.specs.Written.{HasFaultAt, Writes}
-use Rattle.lq_value_pattern.specs.Pattern.{Fits, fits}
+use Rattle.lq_value_pattern.specs.Pattern.{Fits, is_fit}
 
 -- a text is the source of exactly the elements that it writes
 abbrev pub SourcesAreRead : Type 0
@@ -32,4 +32,4 @@ pub record SourcesAreWalked : Type 0 where
 
 -- the test is true exactly where some split of the text has each part fit its element
 abbrev pub FitsAreSplits : Type 0
-FitsAreSplits = (es : List Element) (cs : List ℕ) → IsTrue (fits es cs) ↔ Fits es cs
+FitsAreSplits = (es : List Element) (cs : List ℕ) → IsTrue (is_fit es cs) ↔ Fits es cs

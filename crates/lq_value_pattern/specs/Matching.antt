@@ -6,7 +6,7 @@ use Rattle.lq_value_pattern.specs.declared.element.Element.TheVariants.{Star}
 use Rattle.lq_value_pattern.specs.declared.matching.Taken.{Taken}
 use Rattle.lq_value_pattern.specs.declared.matching.Taken.TheVariants.{More, AtStar, Never}
 use Rattle.lq_value_pattern.specs.Element.{takes}
-use Rattle.lq_value_pattern.specs.Pattern.{fits, some_rest}
+use Rattle.lq_value_pattern.specs.Pattern.{is_fit, some_rest}
 
 abbrev pub IsSingle : Element → Type 0
 IsSingle Star = ⊥
@@ -31,13 +31,13 @@ pub record TakesOne (es : List Element) (cs : List ℕ) (es' : List Element)
   pub text : cs ≡ c ∷ cs'
   pub taken : takes e c ≡ true
 
-abbrev pub IsTaken : Taken → List Element → List ℕ → Type 0
-IsTaken (More left) es cs = TakesOne es cs left.elements.now (chars left.text.now)
-IsTaken AtStar es cs = IsAtStar es
-IsTaken Never es cs = fits es cs ≡ false
+abbrev pub IsTakenStep : Taken → List Element → List ℕ → Type 0
+IsTakenStep (More left) es cs = TakesOne es cs left.elements.now (chars left.text.now)
+IsTakenStep AtStar es cs = IsAtStar es
+IsTakenStep Never es cs = is_fit es cs ≡ false
 
 -- some elements other than stars took a character each, and these elements and characters are left
-pub record Passes (es : List Element) (cs : List ℕ) (es' : List Element)
+pub record TakesRun (es : List Element) (cs : List ℕ) (es' : List Element)
     (cs' : List ℕ) : Type 0 where
   pub piece : List Element
   pub run : List ℕ
@@ -45,17 +45,17 @@ pub record Passes (es : List Element) (cs : List ℕ) (es' : List Element)
   pub text : cs ≡ run ++ cs'
   pub same : length piece ≡ length run
   pub single : AreSingle piece
-  pub fit : fits es cs ≡ fits es' cs'
+  pub fit : is_fit es cs ≡ is_fit es' cs'
 
 -- the same up to the next star
 pub record PassesToStar (es : List Element) (cs : List ℕ) (es' : List Element)
     (cs' : List ℕ) : Type 0 where
-  pub passes : Passes es cs es' cs'
+  pub passes : TakesRun es cs es' cs'
   pub star : IsAtStar es'
 
 -- the elements up to the next star fit at some place, and the rest after it decides the match
 pub record Finds (es : List Element) (cs : List ℕ) (es' : List Element)
     (cs' : List ℕ) : Type 0 where
-  pub same : some_rest (fits es) cs ≡ fits es' cs'
+  pub same : some_rest (is_fit es) cs ≡ is_fit es' cs'
   pub star : IsAtStar es'
   pub shorter : length es' ≤ length es

@@ -40,9 +40,9 @@ abbrev pub is_end : List ℕ → Bool
 is_end [] = true
 is_end (c ∷ cs) = false
 
-abbrev pub fits : List Element → List ℕ → Bool
-fits [] text = is_end text
-fits (e ∷ es) text = fits_from e (fits es) text
+abbrev pub is_fit : List Element → List ℕ → Bool
+is_fit [] text = is_end text
+is_fit (e ∷ es) text = fits_from e (is_fit es) text
 
 -- the characters, where all elements are plain
 abbrev pub plain_chars : List Element → Option (List ℕ)

@@ -62,10 +62,10 @@ pub record HasElement (first : First Element) (found : Result Element SourceErro
   pub kept : IsFound element found
   pub text : IsUtf8 rest
 
-abbrev pub IsFirst : First Element → FirstElement → Type 0
-IsFirst first first_element.End = first ≡ ends []
-IsFirst first (first_element.Has found rest) = HasElement first found rest.now
-IsFirst first first_element.Faulty = first ≡ faulty
+abbrev pub IsFirstRead : First Element → FirstElement → Type 0
+IsFirstRead first first_element.End = first ≡ ends []
+IsFirstRead first (first_element.Has found rest) = HasElement first found rest.now
+IsFirstRead first first_element.Faulty = first ≡ faulty
 
 -- one more element, or no memory for it or for an earlier one
 abbrev pub IsWithElement : Result (Vec Element) SourceError

@@ -6,8 +6,8 @@ use Rattle.lq_value_pattern.specs.declared.sign.Sign.{Sign}
 use Rattle.lq_value_pattern.specs.declared.sign.Sign.TheVariants.{Bare, Escaped, Dangling}
 
 -- a list of signs, under a name for other crates
-abbrev pub Signs : Type 0
-Signs = List Sign
+abbrev pub SignList : Type 0
+SignList = List Sign
 
 -- the signs of the characters; the flag says whether a `\` is just before them
 abbrev pub signs : Bool → List ℕ → List Sign

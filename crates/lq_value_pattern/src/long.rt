@@ -2,7 +2,7 @@
 ghost use Rattle.std.specs.Prelude.{◌≡◌, ◌≤◌, length, take, drop, IfSome, MatchOption, false};
 ghost use Rattle.std.specs.Str.{chars};
 ghost use Rattle.lq_value_pattern.specs.Matching.{AreSingle, Finds, IsAtStar};
-ghost use Rattle.lq_value_pattern.specs.Pattern.{fits, some_rest};
+ghost use Rattle.lq_value_pattern.specs.Pattern.{is_fit, some_rest};
 ghost use Rattle.lq_value_pattern.specs.Seek.{is_large, IsPiece};
 
 use crate::element::Element;
@@ -46,7 +46,7 @@ struct Piece<'a> {
 /// many items, or more than 4,096 characters. It takes no memory.
 pub(crate) fn fits_long(elements: &[Element], text: &str) -> Option<bool>
     requires { IsAtStar elements.now }
-    ensures { IfSome result (λ r. r ≡ fits elements.now (chars text.now)) }
+    ensures { IfSome result (λ r. r ≡ is_fit elements.now (chars text.now)) }
 {
     if text.len() < LONG_FOR_SETS || text.len() < LONG_TEXT && !elements.iter().any(is_large) {
         return None;
@@ -66,7 +66,7 @@ fn is_large(element: &Element) -> bool
 
 fn fits_copied(elements: &[Element], text: &str) -> Option<bool>
     requires { IsAtStar elements.now }
-    ensures { IfSome result (λ r. r ≡ fits elements.now (chars text.now)) }
+    ensures { IfSome result (λ r. r ≡ is_fit elements.now (chars text.now)) }
 {
     let mut buffer = ['\0'; MAX_CHARS];
     let count = copy_chars(text, &mut buffer)?;
@@ -97,7 +97,7 @@ fn copy_chars(text: &str, buffer: &mut [char]) -> Option<usize>
 
 fn fits_chars(start: Rest<'_>) -> bool
     requires { IsAtStar start.elements.now }
-    ensures { result ≡ fits start.entry.elements.now start.entry.text.now }
+    ensures { result ≡ is_fit start.entry.elements.now start.entry.text.now }
 {
     let mut left = start;
     while let Some((_, after)) = left.elements.split_first() {
@@ -116,7 +116,7 @@ fn fits_chars(start: Rest<'_>) -> bool
 #[tactic(auto, using(crate::proofs::SeekLemmas::pieces_found))]
 fn find<'a>(start: Rest<'a>) -> Option<Rest<'a>>
     ensures { MatchOption result
-        (some_rest (fits start.entry.elements.now) start.entry.text.now ≡ false)
+        (some_rest (is_fit start.entry.elements.now) start.entry.text.now ≡ false)
         (λ found. Finds start.entry.elements.now start.entry.text.now
         found.elements.now found.text.now) }
 {

@@ -14,7 +14,7 @@ use crate::element_runs::kept;
 const ASCII: usize = 128;
 
 // The most places of a text that are read: 512 for one element, and one for each other element.
-const PLACES: usize = 544;
+const CODES: usize = 544;
 
 // The number of characters that have masks: the ASCII ones, and the others of the text.
 const CHARS: usize = 672;
@@ -32,7 +32,7 @@ pub(crate) fn match_window_masked(flags: &mut [u32], elements: &[Element], text:
     ensures { AreKeptBy elements.now text.now flags.old flags.new }
 {
     let used = flags.len() + (elements.len() - 1);
-    let mut codes = [0_u16; PLACES];
+    let mut codes = [0_u16; CODES];
     let mut chars = ['\0'; CHARS];
     let mut masks = [0_u32; CHARS];
     write_ascii(&mut chars);

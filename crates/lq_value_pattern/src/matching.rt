@@ -1,8 +1,8 @@
 //! Matching a text with elements, with backtracking to the latest star only.
 ghost use Rattle.std.specs.Prelude.{◌≡◌, MatchOption, false};
 ghost use Rattle.std.specs.Str.{chars};
-ghost use Rattle.lq_value_pattern.specs.Matching.{Finds, IsAtStar, IsTaken, PassesToStar};
-ghost use Rattle.lq_value_pattern.specs.Pattern.{fits, is_end, some_rest};
+ghost use Rattle.lq_value_pattern.specs.Matching.{Finds, IsAtStar, IsTakenStep, PassesToStar};
+ghost use Rattle.lq_value_pattern.specs.Pattern.{is_fit, is_end, some_rest};
 
 use crate::element::Element;
 use crate::element_chars::takes;
@@ -33,7 +33,7 @@ enum Taken<'a> {
 /// It is never inlined, so that the caller's stack needs no room for a long text.
 #[inline(never)]
 pub fn fits_text(elements: &[Element], text: &str) -> bool
-    ensures { result ≡ fits elements.now (chars text.now) }
+    ensures { result ≡ is_fit elements.now (chars text.now) }
 {
     match pass(Left { elements, text }) {
         None => false,
@@ -45,7 +45,7 @@ pub fn fits_text(elements: &[Element], text: &str) -> bool
 // left.
 fn fits_stars(start: Left<'_>) -> bool
     requires { IsAtStar start.elements.now }
-    ensures { result ≡ fits start.entry.elements.now (chars start.entry.text.now) }
+    ensures { result ≡ is_fit start.entry.elements.now (chars start.entry.text.now) }
 {
     match fits_long(start.elements, start.text) {
         None => fits_short(start),
@@ -56,7 +56,7 @@ fn fits_stars(start: Left<'_>) -> bool
 // As `fits_stars`, by one element and one character at a time.
 fn fits_short(start: Left<'_>) -> bool
     requires { IsAtStar start.elements.now }
-    ensures { result ≡ fits start.entry.elements.now (chars start.entry.text.now) }
+    ensures { result ≡ is_fit start.entry.elements.now (chars start.entry.text.now) }
 {
     let mut left = start;
     while let Some((_, after)) = left.elements.split_first() {
@@ -81,7 +81,7 @@ fn is_at_end(text: &str) -> bool
 #[tactic(auto, using(crate::proofs::MatchingLemmas::later))]
 fn find<'a>(start: Left<'a>) -> Option<Left<'a>>
     ensures { MatchOption result
-        (some_rest (fits start.entry.elements.now) (chars start.entry.text.now) ≡ false)
+        (some_rest (is_fit start.entry.elements.now) (chars start.entry.text.now) ≡ false)
         (λ found. Finds start.entry.elements.now (chars start.entry.text.now)
         found.elements.now (chars found.text.now)) }
 {
@@ -102,7 +102,7 @@ fn find<'a>(start: Left<'a>) -> Option<Left<'a>>
 #[tactic(auto, using(crate::proofs::MatchingLemmas::found_here))]
 fn find_here<'a>(here: Left<'a>) -> Option<Left<'a>>
     ensures { MatchOption result
-        (fits here.entry.elements.now (chars here.entry.text.now) ≡ false)
+        (is_fit here.entry.elements.now (chars here.entry.text.now) ≡ false)
         (λ found. Finds here.entry.elements.now (chars here.entry.text.now)
         found.elements.now (chars found.text.now)) }
 {
@@ -117,7 +117,7 @@ fn find_here<'a>(here: Left<'a>) -> Option<Left<'a>>
 // The rest after each element up to the next star has taken a character.
 fn pass<'a>(start: Left<'a>) -> Option<Left<'a>>
     ensures { MatchOption result
-        (fits start.entry.elements.now (chars start.entry.text.now) ≡ false)
+        (is_fit start.entry.elements.now (chars start.entry.text.now) ≡ false)
         (λ left. PassesToStar start.entry.elements.now (chars start.entry.text.now)
         left.elements.now (chars left.text.now)) }
 {
@@ -133,7 +133,7 @@ fn pass<'a>(start: Left<'a>) -> Option<Left<'a>>
 
 // Matches one element with one character.
 fn take_one<'a>(left: Left<'a>) -> Taken<'a>
-    ensures { IsTaken result left.entry.elements.now (chars left.entry.text.now) }
+    ensures { IsTakenStep result left.entry.elements.now (chars left.entry.text.now) }
 {
     let Some((element, elements)) = left.elements.split_first() else {
         return Taken::AtStar;

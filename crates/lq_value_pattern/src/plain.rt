@@ -2,7 +2,7 @@
 ghost use Rattle.std.specs.Prelude.{◌≡◌, None, IfOk, MatchOption};
 ghost use Rattle.std.specs.Str.{chars};
 ghost use Rattle.std.specs.String.{string_bytes};
-ghost use Rattle.lq_value_pattern.specs.Pattern.{fits, plain_chars, plain_elements};
+ghost use Rattle.lq_value_pattern.specs.Pattern.{is_fit, plain_chars, plain_elements};
 
 use crate::element::Element;
 use std::alloc::{AllocError, Global};
@@ -24,7 +24,7 @@ pub fn plain_text(alloc: Global, elements: &[Element]) -> Result<Option<String>,
 
 /// Whether the plain elements for the characters of `plain` fit the whole text. It takes no memory.
 pub fn fits_plain(plain: &str, text: &str) -> bool
-    ensures { result ≡ fits (plain_elements (chars plain.now)) (chars text.now) }
+    ensures { result ≡ is_fit (plain_elements (chars plain.now)) (chars text.now) }
 {
     plain == text
 }

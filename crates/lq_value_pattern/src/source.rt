@@ -5,7 +5,7 @@ ghost use Rattle.lq_value_pattern.specs.Sign.{signs_of};
 ghost use Rattle.lq_value_pattern.specs.Source.{element_at, item_at, pattern_of, pieces_of, set_with, source_error};
 ghost use Rattle.lq_value_pattern.specs.Written.{HasFaultAt, Writes};
 ghost use Rattle.lq_value_pattern.specs.declared.error.SourceError.TheVariants.{Faulty};
-ghost use Rattle.lq_value_pattern.specs.Reading.{IsFirst, IsWithElement};
+ghost use Rattle.lq_value_pattern.specs.Reading.{IsFirstRead, IsWithElement};
 
 use crate::element::Element;
 use crate::error::SourceError;
@@ -67,7 +67,7 @@ fn with_element(
 }
 
 fn first_element<'a>(alloc: Global, text: &'a str) -> FirstElement<'a>
-    ensures { IsFirst (element_at (signs_of text.entry.now)) result }
+    ensures { IsFirstRead (element_at (signs_of text.entry.now)) result }
 {
     match first_piece(text) {
         FirstPiece::End => FirstElement::End,
@@ -81,7 +81,7 @@ fn first_element<'a>(alloc: Global, text: &'a str) -> FirstElement<'a>
 
 // The set whose items begin the text.
 fn set_of<'a>(alloc: Global, negated: bool, text: &'a str) -> FirstElement<'a>
-    ensures { IsFirst (set_with negated (pieces_of item_at (signs_of text.entry.now))) result }
+    ensures { IsFirstRead (set_with negated (pieces_of item_at (signs_of text.entry.now))) result }
 {
     let Some((items, rest)) = read_items(alloc, text) else {
         return FirstElement::Faulty;

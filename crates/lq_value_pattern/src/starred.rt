@@ -2,7 +2,7 @@
 ghost use Rattle.std.specs.Prelude.{◌≡◌, ◌++◌, IfOk, IfSome, nat_eq};
 ghost use Rattle.std.specs.List.{starts_with};
 ghost use Rattle.std.specs.Str.{chars};
-ghost use Rattle.lq_value_pattern.specs.Pattern.{fits, star_if, starred_elements};
+ghost use Rattle.lq_value_pattern.specs.Pattern.{is_fit, star_if, starred_elements};
 
 use crate::element::Element;
 use crate::plain::plain_text;
@@ -38,7 +38,7 @@ impl Starred {
     ///
     /// The steps are about the text's length in bytes, however long the plain text is.
     pub fn fits(&self, text: &str) -> bool
-        ensures { result ≡ fits (starred_elements self.now) (chars text.now) }
+        ensures { result ≡ is_fit (starred_elements self.now) (chars text.now) }
     {
         let plain = self.text.as_str();
         match (self.before, self.behind) {

@@ -14,7 +14,7 @@ use Rattle.lq_volume_entries.specs.AttributeLaws.{NamesStayApart}
 use Rattle.lq_volume_entries.specs.Kind.{is_folder}
 use Rattle.lq_volume.specs.State.{State, Record, root, record_at, kind_at, is_folder_at, dir_of, reaches, node_in, has_entries, IsTree, IsVolume}
 use Rattle.lq_volume.specs.Change.{refused, refusals, after, node_of, record_left, at_place, rewritten, with_attrs, with_records, altered, without, other_at, other_than, is_other}
-use Rattle.lq_volume_entries.specs.PlaceIndex.{CanMove}
+use Rattle.lq_volume_entries.specs.PlaceIndex.{CanMoveEntry}
 use Rattle.lq_volume.specs.Laws.{ChangesKeepTrees, UntouchedStay, ClobberedGo}
 use Rattle.lq_volume_entries.specs.Laws.{RecordsAreKept}
 use Rattle.lq_volume.proofs.RecordLemmas.{Entries, All-push, All-filter, All-without, All-kept, is_taken-node_in}
@@ -215,7 +215,7 @@ free-create s new h =
 -- an accepted move finds what the entries need of it
 pub can-move : RecordsAreKept → (s : State) (node dir : ℕ) (name : List ℕ) (clobber : Bool)
     → IsVolume s → refused s (Move node dir name clobber) ≡ None
-    → CanMove s.records node dir name (other_at s node dir name)
+    → CanMoveEntry s.records node dir name (other_at s node dir name)
 can-move laws s node dir name clobber v h =
     let rows = none_holds (refusals s (Move node dir name clobber)) h in
     record {

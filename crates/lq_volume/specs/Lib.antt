@@ -3,7 +3,7 @@ pub mod Walk
 pub mod Change
 pub mod Plan
 pub mod Lookup
-pub mod EntryView
+pub mod EntryRow
 pub mod Result
 pub mod Book
 pub mod Laws

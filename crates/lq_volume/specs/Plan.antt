@@ -23,7 +23,7 @@ pub record IsLookedUp (s : State) (c : Change) (found : LookedUp) : Type 0 where
   pub gone : IfSome found.other (λ e. record_at s e.0 ≡ Some e.1.now)
 
 -- the change is a write of the new size and time, and its node has the old ones
-pub record AreWritten (s : State) (c : Change) (w : WrittenNumbers) : Type 0 where
+pub record WritesNumbers (s : State) (c : Change) (w : WrittenNumbers) : Type 0 where
   pub write : c ≡ Write (node_of s c) w.new_size w.new_time
   pub found : IsSomeAnd (record_at s (node_of s c))
       (λ r. (r.size ≡ w.old_size) × (r.time ≡ w.old_time))
@@ -47,4 +47,4 @@ pub record IsPlanned (s : State) (c : Change) (made : Applied)
   pub clobbered : option_map (λ e. e.0) other ≡ clobbered s c
   pub gone : IfSome other (λ e. record_at s e.0 ≡ Some e.1)
   -- the numbers of a write
-  pub written : MatchOption numbers (IsNoWrite c) (AreWritten s c)
+  pub written : MatchOption numbers (IsNoWrite c) (WritesNumbers s c)

@@ -10,7 +10,7 @@
 mod change;
 mod checks;
 mod entry_ref;
-mod entry_view;
+mod entry_row;
 mod laws;
 mod lookup;
 mod planned;
@@ -18,7 +18,7 @@ mod volume;
 
 pub use change::{Applied, Change};
 pub use entry_ref::{EntryRef, Listing};
-pub use entry_view::EntryView;
+pub use entry_row::EntryRow;
 pub use laws::{
     accepted_changes_keep_trees, changes_are_counted, clobbered_nodes_go, untouched_nodes_stay,
     walks_are_bounded,

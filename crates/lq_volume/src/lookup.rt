@@ -3,11 +3,11 @@ ghost use Rattle.std.specs.Prelude.{◌≡◌, Some, None, IfOk, IfErr, OnOk};
 
 use crate::checks::check_folder;
 use crate::entry_ref::{EntryRef, Listing};
-use crate::entry_view::EntryView;
+use crate::entry_row::EntryRow;
 use crate::volume::{ROOT, Volume};
 use lq_predicate::{Predicate, holds};
 use lq_value::{Entry, Kind, Name, Refusal};
-use lq_volume_entries::{StoredRecord, Test};
+use lq_volume_entries::{RecordFilter, StoredRecord};
 
 impl Volume {
     ghost use Rattle.lq_value.specs.Refusal.{FailsOnlyForMemory, IsRefusedBy, first_refusal};
@@ -115,13 +115,13 @@ struct Matching<'a> {
     predicate: &'a Predicate,
 }
 
-impl<'a> Test for Matching<'a> {
+impl<'a> RecordFilter for Matching<'a> {
     ghost use Rattle.lq_predicate.specs.Truth.{truth};
     ghost use Rattle.lq_volume.specs.Result.{shown};
 
     ghost picks = { λ matching r. truth matching.predicate.now (shown r) };
 
     fn passes(&self, stored: &StoredRecord) -> bool {
-        holds(self.predicate, &EntryView::stored(stored))
+        holds(self.predicate, &EntryRow::stored(stored))
     }
 }

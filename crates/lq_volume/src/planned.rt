@@ -5,13 +5,13 @@ ghost use Rattle.std.specs.Option.{option_copied, option_map};
 ghost use Rattle.lq_volume.specs.State.{record_at, IsVolume};
 ghost use Rattle.lq_value.specs.Refusal.{first_refusal};
 ghost use Rattle.lq_volume.specs.Change.{after, clobbered, own_tests, node_of, record_left, refused, IsLawful};
-ghost use Rattle.lq_volume.specs.Plan.{AreWritten, IsLookedUp, IsNoWrite};
+ghost use Rattle.lq_volume.specs.Plan.{WritesNumbers, IsLookedUp, IsNoWrite};
 
 use crate::change::{Applied, Change};
 use crate::checks::{
     check_create, check_move, check_remove, check_remove_attr, check_set_attr, check_write,
 };
-use crate::entry_view::{EntryView, record_of};
+use crate::entry_row::{EntryRow, record_of};
 use crate::volume::Volume;
 use lq_value::Refusal;
 use lq_volume_entries::{StoredRecord, records_are_kept};
@@ -36,9 +36,9 @@ pub struct Planned<'a> {
     volume: &'a Volume,
     change: &'a Change,
     applied: Applied,
-    before: Option<EntryView<'a>>,
-    after: Option<EntryView<'a>>,
-    clobbered: Option<(u64, EntryView<'a>)>,
+    before: Option<EntryRow<'a>>,
+    after: Option<EntryRow<'a>>,
+    clobbered: Option<(u64, EntryRow<'a>)>,
     written: Option<WrittenNumbers>,
 }
 
@@ -78,11 +78,11 @@ impl Volume {
             volume: self,
             change,
             applied: self.applied_by(change),
-            before: found.stored.map(EntryView::stored),
+            before: found.stored.map(EntryRow::stored),
             after: view_after(self, change, found.stored),
             clobbered: found
                 .other
-                .map(|(node, stored)| (node, EntryView::stored(stored))),
+                .map(|(node, stored)| (node, EntryRow::stored(stored))),
             written: written_by(self, change, found.stored),
         })
     }
@@ -111,7 +111,7 @@ impl<'a> Planned<'a> {
     }
 
     /// The entry of the change's own node before the change; `None` where the change creates it.
-    pub fn entry_before(&self) -> Option<&EntryView<'a>>
+    pub fn entry_before(&self) -> Option<&EntryRow<'a>>
         ensures { option_copied result
             ≡ record_at self.now.before (node_of self.now.before self.now.change) }
     {
@@ -119,7 +119,7 @@ impl<'a> Planned<'a> {
     }
 
     /// The entry of the change's own node after the change; `None` where the change removes it.
-    pub fn entry_after(&self) -> Option<&EntryView<'a>>
+    pub fn entry_after(&self) -> Option<&EntryRow<'a>>
         ensures { option_copied result ≡ record_at (after self.now.before self.now.change)
             (node_of self.now.before self.now.change) }
     {
@@ -128,7 +128,7 @@ impl<'a> Planned<'a> {
     }
 
     /// The other node that a move removes, and its entry.
-    pub fn clobbered(&self) -> Option<(u64, &EntryView<'a>)>
+    pub fn clobbered(&self) -> Option<(u64, &EntryRow<'a>)>
         ensures node { option_map (λ e. e.0) result ≡ clobbered self.now.before self.now.change }
         ensures entry { IfSome result (λ e. record_at self.now.before e.0 ≡ Some e.1.now) }
     {
@@ -140,7 +140,7 @@ impl<'a> Planned<'a> {
     /// write.
     pub fn written(&self) -> Option<WrittenNumbers>
         ensures { MatchOption result (IsNoWrite self.now.change)
-            (AreWritten self.now.before self.now.change) }
+            (WritesNumbers self.now.before self.now.change) }
     {
         self.written
     }
@@ -197,7 +197,7 @@ fn view_after<'a>(
     volume: &Volume,
     change: &'a Change,
     stored: Option<&'a StoredRecord>,
-) -> Option<EntryView<'a>>
+) -> Option<EntryRow<'a>>
     requires volume { IsVolume volume.now }
     requires lawful { IsLawful volume.now change.now }
     requires stored { option_copied stored
@@ -207,11 +207,11 @@ fn view_after<'a>(
     match change {
         Change::Remove { .. } => None,
         Change::Create { dir, name, .. } | Change::Move { dir, name, .. } => {
-            Some(EntryView::changed(*dir, name, stored, change))
+            Some(EntryRow::changed(*dir, name, stored, change))
         }
         Change::Write { .. } | Change::SetAttr { .. } | Change::RemoveAttr { .. } => {
             let record = record_of(stored);
-            Some(EntryView::changed(record.dir(), record.name(), stored, change))
+            Some(EntryRow::changed(record.dir(), record.name(), stored, change))
         }
     }
 }
@@ -225,7 +225,7 @@ fn written_by(
     requires lawful { IsLawful volume.now change.now }
     requires stored { option_copied stored
         ≡ record_at volume.now (node_of volume.now change.now) }
-    ensures { MatchOption result (IsNoWrite change.now) (AreWritten volume.now change.now) }
+    ensures { MatchOption result (IsNoWrite change.now) (WritesNumbers volume.now change.now) }
 {
     let Change::Write { size, time, .. } = change else {
         return None;

@@ -8,9 +8,9 @@ use Rattle.std.proofs.lemmas.Slice.Eq.{bytes_eq-Decides}
 use Rattle.lq_value.specs.NameHash.{hash_of}
 use Rattle.lq_volume_entries.specs.Record.{Record, Rises, node_in}
 use Rattle.lq_volume_entries.specs.Edits.{altered}
-use Rattle.lq_volume_entries.specs.PlaceIndex.{found, stands, IsIndex, IsApart}
+use Rattle.lq_volume_entries.specs.PlaceIndex.{found, is_under_hash, IsIndex, IsApart}
 use Rattle.lq_volume_entries.specs.declared.places.Places.{Places}
-use Rattle.lq_volume_entries.specs.Places.{first_in, other_in, is_first, SamePlaces, Puts, Takes}
+use Rattle.lq_volume_entries.specs.Places.{first_in, other_in, is_first, SamePlaces, PutsNode, TakesNode}
 use Rattle.lq_volume_entries.proofs.RecordLemmas.{Entries, lookup-altered, lookup-filter, lookup-push, lookup-above}
 use Rattle.lq_volume_entries.proofs.PlaceLemmas.{at-node, node_in-push, node_in-left, node_in-altered}
 
@@ -24,7 +24,7 @@ index-same p q es s i = record {
 -- one record more
 module _ (p q : Places) (es : Entries) (k : ℕ) (v : Record) (i : IsIndex p es)
     (last : AllByRecursion (λ e. e.0 < k) es) (free : node_in es v.dir v.name ≡ None)
-    (puts : Puts p q v.dir v.name k None) where
+    (puts : PutsNode p q v.dir v.name k None) where
   -- the entries with it
   abbrev more : Entries
   more = es ++ (k, v) ∷ []
@@ -57,10 +57,10 @@ module _ (p q : Places) (es : Entries) (k : ℕ) (v : Record) (i : IsIndex p es)
           grind (arith, nat_tests)
 
   -- what stands under a hash
-  added-sound : (d h x : ℕ) → first_in q d h ≡ Some x → stands more d h x ≡ true
+  added-sound : (d h x : ℕ) → first_in q d h ≡ Some x → is_under_hash more d h x ≡ true
   added-sound d h x now = go (first_in p d h) refl
     where
-      go : (o : Option ℕ) → first_in p d h ≡ o → stands more d h x ≡ true
+      go : (o : Option ℕ) → first_in p d h ≡ o → is_under_hash more d h x ≡ true
       go None was =
           let f = puts.first d h in
           let look = lookup-push es k v k last in
@@ -85,7 +85,7 @@ filter-added (e ∷ es) k v h = grind (arith, nat_tests, filter-added es k v h.1
 -- one record less
 module _ (p q : Places) (es : Entries) (k : ℕ) (r : Record) (rise : Rises es) (apart : IsApart es)
     (is : lookup (nat_eq k) es ≡ Some r) (i : IsIndex p es)
-    (takes : Takes p q r.dir r.name (is_first p r.dir r.name k)) where
+    (takes : TakesNode p q r.dir r.name (is_first p r.dir r.name k)) where
   -- the entries without it
   abbrev fewer : Entries
   fewer = filter (λ e. not (eqb e.0 k)) es
@@ -115,10 +115,10 @@ module _ (p q : Places) (es : Entries) (k : ℕ) (r : Record) (rise : Rises es) 
           grind (arith, nat_tests)
 
   -- what stands under a hash
-  taken-sound : (d h x : ℕ) → first_in q d h ≡ Some x → stands fewer d h x ≡ true
+  taken-sound : (d h x : ℕ) → first_in q d h ≡ Some x → is_under_hash fewer d h x ≡ true
   taken-sound d h x now = go (first_in p d h) refl
     where
-      go : (o : Option ℕ) → first_in p d h ≡ o → stands fewer d h x ≡ true
+      go : (o : Option ℕ) → first_in p d h ≡ o → is_under_hash fewer d h x ≡ true
       go None was =
           let f = takes.first d h in
           grind (arith, nat_tests)

@@ -9,9 +9,9 @@ use Rattle.std.proofs.lemmas.Slice.Eq.{bytes_eq-Decides}
 use Rattle.lq_value.specs.NameHash.{hash_of}
 use Rattle.lq_volume_entries.specs.Record.{Record, Rises, node_in}
 use Rattle.lq_volume_entries.specs.Edits.{altered, at_place, without}
-use Rattle.lq_volume_entries.specs.PlaceIndex.{is_named, found, stands, IsIndex, CanMove}
+use Rattle.lq_volume_entries.specs.PlaceIndex.{is_named, found, is_under_hash, IsIndex, CanMoveEntry}
 use Rattle.lq_volume_entries.specs.declared.places.Places.{Places}
-use Rattle.lq_volume_entries.specs.Places.{first_in, other_in, is_first, Puts, Takes}
+use Rattle.lq_volume_entries.specs.Places.{first_in, other_in, is_first, PutsNode, TakesNode}
 use Rattle.lq_volume_entries.proofs.Puts.{is_free}
 use Rattle.lq_volume_entries.proofs.RecordLemmas.{Entries, lookup-altered, node_in-some, Rises-altered}
 use Rattle.lq_volume_entries.proofs.ByNode.{same_records}
@@ -19,7 +19,7 @@ use Rattle.lq_volume_entries.proofs.PlaceLemmas.{at-node, goes-there, look-new, 
 
 -- what stands under a hash after a put
 put-first : (p q : Places) (dir : ℕ) (name : List ℕ) (node : ℕ) (over : Option ℕ)
-    → Puts p q dir name node over → (d h : ℕ) (o : Option ℕ) → first_in p d h ≡ o
+    → PutsNode p q dir name node over → (d h : ℕ) (o : Option ℕ) → first_in p d h ≡ o
     → first_in q d h
     ≡ cond (is_free over o && ((d == dir) && (h == hash_of name))) (Some node) o
 put-first p q dir name node over puts d h o was =
@@ -27,7 +27,7 @@ put-first p q dir name node over puts d h o was =
 
 -- what stands under a name after a put
 put-other : (p q : Places) (dir : ℕ) (name : List ℕ) (node : ℕ) (over : Option ℕ)
-    → Puts p q dir name node over → (d : ℕ) (n : List ℕ) (o : Option ℕ)
+    → PutsNode p q dir name node over → (d : ℕ) (n : List ℕ) (o : Option ℕ)
     → first_in p d (hash_of n) ≡ o → other_in q d n
     ≡ cond (not (is_free over o) && ((d == dir) && bytes_eq name n)) (Some node) (other_in p d n)
 put-other p q dir name node over puts d n o was =
@@ -37,7 +37,7 @@ put-other p q dir name node over puts d n o was =
 
 -- what stands under a hash after a node was taken from its place
 take-first : (p mid q : Places) (dir : ℕ) (name : List ℕ) (node : ℕ)
-    → Takes mid q dir name (is_first p dir name node) → (d h : ℕ) (o : Option ℕ)
+    → TakesNode mid q dir name (is_first p dir name node) → (d h : ℕ) (o : Option ℕ)
     → first_in p d h ≡ o → first_in q d h
     ≡ cond (option_map_or (λ there. there == node) o false && ((d == dir) && (h == hash_of name)))
     None (first_in mid d h)
@@ -46,10 +46,10 @@ take-first p mid q dir name node takes d h o was =
 
 -- one node at another place, and perhaps another taken away
 module _ (p mid q : Places) (es : Entries) (node dir : ℕ) (name : List ℕ) (other : Option ℕ)
-    (r : Record) (rise : Rises es) (m : CanMove es node dir name other)
+    (r : Record) (rise : Rises es) (m : CanMoveEntry es node dir name other)
     (is : lookup (nat_eq node) es ≡ Some r) (i : IsIndex p es)
-    (puts : Puts p mid dir name node other)
-    (takes : Takes mid q r.dir r.name (is_first p r.dir r.name node))
+    (puts : PutsNode p mid dir name node other)
+    (takes : TakesNode mid q r.dir r.name (is_first p r.dir r.name node))
     (away : ((r.dir == dir) && bytes_eq r.name name) ≡ false) where
   -- the entries after the move
   abbrev moved : Entries
@@ -153,10 +153,10 @@ module _ (p mid q : Places) (es : Entries) (node dir : ℕ) (name : List ℕ) (o
               grind (arith, nat_tests)
 
   -- what stands under a hash
-  moved-sound : (d h x : ℕ) → first_in q d h ≡ Some x → stands moved d h x ≡ true
+  moved-sound : (d h x : ℕ) → first_in q d h ≡ Some x → is_under_hash moved d h x ≡ true
   moved-sound d h x now = go (first_in p d h) refl
     where
-      go : (o : Option ℕ) → first_in p d h ≡ o → stands moved d h x ≡ true
+      go : (o : Option ℕ) → first_in p d h ≡ o → is_under_hash moved d h x ≡ true
       go None was =
           let f = after d h None was in
           let l = look node in
@@ -182,7 +182,7 @@ altered-same es k f r rise is same = same_records (altered k f es) es (Rises-alt
 
 -- a node that is at its new place already
 pub index-stays : (p : Places) (es : Entries) (node dir : ℕ) (name : List ℕ) (other : Option ℕ)
-    (r : Record) → Rises es → CanMove es node dir name other → lookup (nat_eq node) es ≡ Some r
+    (r : Record) → Rises es → CanMoveEntry es node dir name other → lookup (nat_eq node) es ≡ Some r
     → IsIndex p es → ((r.dir == dir) && bytes_eq r.name name) ≡ true
     → IsIndex p (altered node (at_place dir name) (without other es))
 index-stays p es node dir name other r rise m is i at =

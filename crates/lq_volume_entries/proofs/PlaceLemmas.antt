@@ -10,7 +10,7 @@ use Rattle.std.proofs.lemmas.Bool.Decides.{nat_tests}
 use Rattle.std.proofs.lemmas.Slice.Eq.{bytes_eq-Decides}
 use Rattle.lq_volume_entries.specs.Record.{Record, Rises, node_in}
 use Rattle.lq_volume_entries.specs.Edits.{altered, at_place, without}
-use Rattle.lq_volume_entries.specs.PlaceIndex.{IsApart, CanMove}
+use Rattle.lq_volume_entries.specs.PlaceIndex.{IsApart, CanMoveEntry}
 use Rattle.lq_volume_entries.proofs.RecordLemmas.{Entries, lookup-above, lookup-altered, lookup-filter, node_in-some, node_in-none, Rises-filter, Rises-without, Rises-front}
 
 -- an entry in a folder has a place there
@@ -173,7 +173,7 @@ look-without (Some k) es x = lookup-filter es k x
 
 -- one node at another place, and perhaps another taken away
 module _ (es : Entries) (node dir : ℕ) (name : List ℕ) (other : Option ℕ)
-    (r : Record) (rise : Rises es) (m : CanMove es node dir name other)
+    (r : Record) (rise : Rises es) (m : CanMoveEntry es node dir name other)
     (is : lookup (nat_eq node) es ≡ Some r) where
   -- the entries without the node that goes
   abbrev others : Entries

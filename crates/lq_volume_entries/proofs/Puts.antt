@@ -5,7 +5,7 @@ use Rattle.std.specs.Option.{option_eq, option_map_or}
 use Rattle.std.proofs.lemmas.Bool.Decides.{nat_tests}
 use Rattle.lq_value.specs.NameHash.{hash_of}
 use Rattle.lq_volume_entries.specs.declared.places.Places.{Places}
-use Rattle.lq_volume_entries.specs.Places.{first_in, Puts, PutsFirst, PutsOther, SamePlaces}
+use Rattle.lq_volume_entries.specs.Places.{first_in, PutsNode, PutsFirst, PutsOther, SamePlaces}
 
 -- whether nothing stands under a hash, or only a node that goes
 abbrev pub is_free : Option ℕ → Option ℕ → Bool
@@ -14,7 +14,7 @@ is_free over o = option_map_or (λ there. option_map_or (nat_eq there) over fals
 -- a node that is put under a free hash has the place
 pub puts-first : (a b c : Places) (dir hash : ℕ) (name : List ℕ) (node : ℕ)
     (over first : Option ℕ) → SamePlaces a b → hash ≡ hash_of name → first ≡ first_in b dir hash
-    → is_free over first ≡ true → PutsFirst b c dir hash node → Puts a c dir name node over
+    → is_free over first ≡ true → PutsFirst b c dir hash node → PutsNode a c dir name node over
 puts-first a b c dir hash name node over first same hash_is there free put = record {
   first = λ d h.
       let x = put.first d h in
@@ -44,7 +44,7 @@ puts-back a b c d dir hash node there same was put back = record {
 -- a node that is put under its name, where the hash isn't free, has the place
 pub puts-other : (a b c : Places) (dir hash : ℕ) (name : List ℕ) (node : ℕ)
     (over first : Option ℕ) → SamePlaces a b → hash ≡ hash_of name → first ≡ first_in a dir hash
-    → is_free over first ≡ false → PutsOther b c dir name node → Puts a c dir name node over
+    → is_free over first ≡ false → PutsOther b c dir name node → PutsNode a c dir name node over
 puts-other a b c dir hash name node over first same hash_is there shut put = record {
   first = λ d h. let x = put.first d h in let y = same.first d h in grind (arith, nat_tests);
   others = λ d n. let x = put.others d n in let y = same.others d n in grind (arith, nat_tests);

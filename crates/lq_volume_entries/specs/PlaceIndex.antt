@@ -18,8 +18,8 @@ abbrev pub found : List (ℕ × Record) → List ℕ → Option ℕ → Option �
 found es name first other = if option_map_or (is_named es name) first false then first else other
 
 -- whether the record of a node is in a folder, under a name with this hash
-abbrev pub stands : List (ℕ × Record) → ℕ → ℕ → ℕ → Bool
-stands es dir hash node =
+abbrev pub is_under_hash : List (ℕ × Record) → ℕ → ℕ → ℕ → Bool
+is_under_hash es dir hash node =
     option_map_or (λ r. (r.dir == dir) && (hash_of r.name == hash)) (lookup (nat_eq node) es) false
 
 -- this is the index of the records
@@ -28,7 +28,7 @@ pub record IsIndex (places : Places) (es : List (ℕ × Record)) : Type 0 where
   pub finds : (d : ℕ) (n : List ℕ)
       → found es n (first_in places d (hash_of n)) (other_in places d n) ≡ node_in es d n
   -- a node under a hash has a record whose name has that hash
-  pub sound : (d h x : ℕ) → first_in places d h ≡ Some x → stands es d h x ≡ true
+  pub sound : (d h x : ℕ) → first_in places d h ≡ Some x → is_under_hash es d h x ≡ true
 
 -- no two of the records share a folder and a name
 abbrev pub IsApart : List (ℕ × Record) → Type 0
@@ -36,7 +36,7 @@ IsApart es = (m n : ℕ) (q r : Record) → lookup (nat_eq m) es ≡ Some q
     → lookup (nat_eq n) es ≡ Some r → q.dir ≡ r.dir → q.name ≡ r.name → m ≡ n
 
 -- the precondition of a move: the node is there, and the other node at its place is removed
-pub record CanMove (es : List (ℕ × Record)) (node dir : ℕ) (name : List ℕ)
+pub record CanMoveEntry (es : List (ℕ × Record)) (node dir : ℕ) (name : List ℕ)
     (other : Option ℕ) : Type 0 where
   pub apart : IsApart es
   pub there : IsSome (lookup (nat_eq node) es)

@@ -65,7 +65,7 @@ pub record PutsOther (old new : Places) (dir : ℕ) (name : List ℕ) (node : �
       ≡ (if (d == dir) && bytes_eq name n then Some node else other_in old d n)
 
 -- a node is put at a place: under the hash where that is open, else under the name
-pub record Puts (old new : Places) (dir : ℕ) (name : List ℕ) (node : ℕ)
+pub record PutsNode (old new : Places) (dir : ℕ) (name : List ℕ) (node : ℕ)
     (over : Option ℕ) : Type 0 where
   pub first : (d h : ℕ) → first_in new d h
       ≡ (if is_open old dir name over && ((d == dir) && (h == hash_of name)) then Some node
@@ -75,7 +75,7 @@ pub record Puts (old new : Places) (dir : ℕ) (name : List ℕ) (node : ℕ)
       else other_in old d n)
 
 -- nothing is under a name any more, nor under its hash if the node was there
-pub record Takes (old new : Places) (dir : ℕ) (name : List ℕ) (was_first : Bool) : Type 0 where
+pub record TakesNode (old new : Places) (dir : ℕ) (name : List ℕ) (was_first : Bool) : Type 0 where
   pub first : (d h : ℕ) → first_in new d h
       ≡ (if was_first && ((d == dir) && (h == hash_of name)) then None else first_in old d h)
   pub others : (d : ℕ) (n : List ℕ) → other_in new d n

@@ -79,15 +79,15 @@ impl AttrTable {
     }
 
     /// The name and value at an index, counted from 0.
-    pub fn at(&self, place: usize) -> Option<(&AttrName, &Value)>
-        ensures { option_map deref_pair result ≡ slice_get self.now place }
+    pub fn at(&self, index: usize) -> Option<(&AttrName, &Value)>
+        ensures { option_map deref_pair result ≡ slice_get self.now index }
     {
         match &self.many {
             None => {
-                let pair = self.few.get(place)?;
+                let pair = self.few.get(index)?;
                 Some((&pair.0, &pair.1))
             }
-            Some(many) => many.get_index(place),
+            Some(many) => many.get_index(index),
         }
     }
 
@@ -177,17 +177,17 @@ fn find<'a>(list: &'a [(AttrName, Value)], attr: &AttrName) -> Option<&'a Value>
 }
 
 // The index of an attribute in a list, counted from 0.
-fn place_of(list: &[(AttrName, Value)], attr: &AttrName) -> Option<usize>
-    ensures found { IfSome result (λ place.
-        option_map (λ a. a.0) (slice_get list.now place) ≡ Some attr.now) }
+fn index_of(list: &[(AttrName, Value)], attr: &AttrName) -> Option<usize>
+    ensures found { IfSome result (λ index.
+        option_map (λ a. a.0) (slice_get list.now index) ≡ Some attr.now) }
     ensures none { IfNone result (value_of list.now attr.now ≡ None) }
 {
-    let mut place = 0;
+    let mut index = 0;
     for pair in list {
         if same_text(attr.as_str(), pair.0.as_str()) {
-            return Some(place);
+            return Some(index);
         }
-        place += 1;
+        index += 1;
     }
     None
 }
@@ -199,12 +199,12 @@ fn put(list: &mut Vec<(AttrName, Value)>, attr: AttrName, value: Value) -> Resul
     ensures ok { OnOk result (list.new.items ≡ with_attr list.old.items attr value) }
     ensures err { OnErr result (list.new.items ≡ list.old.items) }
 {
-    match place_of(list, &attr) {
+    match index_of(list, &attr) {
         None => {
             list.reserve_exact(1)?;
             list.push((attr, value))?;
         }
-        Some(place) => list[place] = (attr, value),
+        Some(index) => list[index] = (attr, value),
     }
     Ok(())
 }
@@ -214,8 +214,8 @@ fn take_out(list: &mut Vec<(AttrName, Value)>, attr: &AttrName)
     requires { HasOwnNames list.old.items }
     ensures { list.new.items ≡ without_attr list.old.items attr.now }
 {
-    if let Some(place) = place_of(list, attr) {
-        list.remove(place);
+    if let Some(index) = index_of(list, attr) {
+        list.remove(index);
     }
 }
 

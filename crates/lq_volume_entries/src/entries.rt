@@ -6,9 +6,9 @@ ghost use Rattle.std.specs.Option.{option_copied};
 ghost use Rattle.lq_value.specs.Refusal.{FailsOnlyForMemory};
 
 use crate::places::Places;
+use crate::record_filter::RecordFilter;
 use crate::records::Records;
 use crate::stored_record::StoredRecord;
-use crate::test::Test;
 use lq_value::{AttrName, Entry, Name, Refusal, Value};
 use std::alloc::Global;
 use std::marker::Model;
@@ -50,7 +50,7 @@ impl Entries {
     ghost use Rattle.lq_volume_entries.specs.Record.{climbs, dir_of, node_in, root, Rises, entry_of};
     ghost use Rattle.lq_volume_entries.specs.Folder.{AreChildren, CanClimb, Leads};
     ghost use Rattle.lq_volume_entries.specs.Edits.{without, altered, at_place, rewritten, set_attr, remove_attr};
-    ghost use Rattle.lq_volume_entries.specs.PlaceIndex.{IsApart, CanMove};
+    ghost use Rattle.lq_volume_entries.specs.PlaceIndex.{IsApart, CanMoveEntry};
 
     /// No entries.
     pub fn new(alloc: Global) -> Entries
@@ -162,7 +162,7 @@ impl Entries {
         name: &Name,
         other: Option<u64>,
     ) -> Result<(), Refusal>
-        requires { CanMove self.old node dir name.now other }
+        requires { CanMoveEntry self.old node dir name.now other }
         ensures refused { FailsOnlyForMemory result }
         ensures ok { OnOk result
             (self.new ≡ altered node (at_place dir name.now) (without other self.old)) }
@@ -211,7 +211,7 @@ impl Entries {
     }
 
     /// The entries whose records pass the test, by rising node. Refused: `NoMemory`.
-    pub fn fetch<T: Test>(&self, test: &T) -> Result<Vec<Entry>, Refusal>
+    pub fn fetch<T: RecordFilter>(&self, test: &T) -> Result<Vec<Entry>, Refusal>
         ensures refused { FailsOnlyForMemory result }
         ensures entries { IfOk result (λ entries. entries.items
             ≡ map entry_of (filter (λ e. T.picks test.now e.1) self.now)) }

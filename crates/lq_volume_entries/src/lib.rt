@@ -15,11 +15,11 @@ mod entries;
 mod laws;
 mod node_hash;
 mod places;
+mod record_filter;
 mod records;
 mod stored_record;
-mod test;
 
 pub use entries::Entries;
 pub use laws::{names_stay_apart, records_are_kept, values_are_found};
+pub use record_filter::RecordFilter;
 pub use stored_record::StoredRecord;
-pub use test::Test;

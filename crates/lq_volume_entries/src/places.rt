@@ -64,7 +64,7 @@ pub struct Places {
 }
 
 impl Places {
-    ghost use Rattle.lq_volume_entries.specs.Places.{first_in, other_in, has_names, is_first, HasFolder, IsNameless, Puts, PutsFirst, PutsOther, Takes, SamePlaces};
+    ghost use Rattle.lq_volume_entries.specs.Places.{first_in, other_in, has_names, is_first, HasFolder, IsNameless, PutsNode, PutsFirst, PutsOther, TakesNode, SamePlaces};
 
     /// No places. It takes no memory.
     pub fn new(alloc: Global) -> Places
@@ -136,7 +136,7 @@ impl Places {
         over: Option<u64>,
     ) -> Result<(), Refusal>
         ensures refused { FailsOnlyForMemory result }
-        ensures ok { OnOk result (Puts self.old self.new dir name.now node over) }
+        ensures ok { OnOk result (PutsNode self.old self.new dir name.now node over) }
         ensures err { OnErr result (SamePlaces self.old self.new) }
     {
         let hash = name.hash();
@@ -207,7 +207,7 @@ impl Places {
 
     /// Empties a place, also under the hash if its node was the one there.
     pub fn take(&mut self, dir: u64, name: &Name, was_first: bool)
-        ensures { Takes self.old self.new dir name.now was_first }
+        ensures { TakesNode self.old self.new dir name.now was_first }
     {
         if !self.take_name(dir, name, was_first) {
             self.drop_names(dir);
@@ -217,7 +217,7 @@ impl Places {
     // Empties a place, and answers whether the folder has other names.
     fn take_name(&mut self, dir: u64, name: &Name, was_first: bool) -> bool
         ensures has { result ≡ has_names self.new dir }
-        ensures takes { Takes self.old self.new dir name.now was_first }
+        ensures takes { TakesNode self.old self.new dir name.now was_first }
     {
         match self.folders.get_mut(&dir) {
             None => false,

@@ -9,8 +9,8 @@ ghost use Rattle.lq_volume_entries.specs.Order.{shown_pair};
 ghost use Rattle.lq_volume_entries.specs.Record.{entry_of};
 
 use crate::node_hash::NodeHashes;
+use crate::record_filter::RecordFilter;
 use crate::stored_record::StoredRecord;
-use crate::test::Test;
 use indexmap::IndexMap;
 use lq_value::{AttrName, Entry, Name, Refusal, Value};
 use std::alloc::Global;
@@ -174,7 +174,7 @@ impl Records {
     }
 
     /// The entries whose records pass the test, by rising node. Refused: `NoMemory`.
-    pub fn fetch<T: Test>(&self, alloc: Global, test: &T) -> Result<Vec<Entry>, Refusal>
+    pub fn fetch<T: RecordFilter>(&self, alloc: Global, test: &T) -> Result<Vec<Entry>, Refusal>
         ensures refused { FailsOnlyForMemory result }
         ensures entries { IfOk result (λ entries. entries.items
             ≡ map entry_of (filter (λ e. T.picks test.now e.1) self.now)) }
@@ -274,7 +274,7 @@ fn pairs_of(
 }
 
 // The entries of a map whose records pass the test, in its order. Refused: `NoMemory`.
-fn finds_in<T: Test>(
+fn finds_in<T: RecordFilter>(
     stored: &IndexMap<u64, StoredRecord, NodeHashes>,
     alloc: Global,
     test: &T,

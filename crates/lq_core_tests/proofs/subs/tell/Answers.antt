@@ -1,7 +1,7 @@
 -- A change makes at most three messages more.
 use Rattle.std.proofs.Common.{◌≡◌, ◌+◌, ◌≤◌, length, sym, ap, ◌∙◌, subst}
 use Rattle.lq_update.specs.Updates.{step_of}
-use Rattle.lq_desk_sub.specs.Held.{Prepared, prepared, committed}
+use Rattle.lq_desk_sub.specs.Held.{Prepared, prepared_for, committed}
 use Rattle.lq_core_tests.proofs.SubLemmas.{sent_after}
 use Rattle.lq_core_tests.proofs.subs.tell.Goals as goal
 
@@ -10,7 +10,7 @@ returns-then-is_live-clause-few c =
     let p = c.args.sub.now in
     let s = c.args.volume.now in
     let change = c.in_ok-create.create in
-    let told : c.commit.new.self ≡ committed (prepared s change p) =
+    let told : c.commit.new.self ≡ committed (prepared_for s change p) =
     c.commit.ensures ∙ ap committed c.in_ok-ready.ensures.ok in
     let few : length (step_of p.held.query p.held.moved s change (p.held.sent + 1)) ≤ 3 =
     c.steps_are_few.ensures p.held.query p.held.moved s change (p.held.sent + 1)

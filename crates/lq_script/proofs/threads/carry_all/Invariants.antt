@@ -1,5 +1,5 @@
 use Rattle.std.proofs.Common.{◌≡◌, [], Ok}
-use Rattle.lq_script.specs.Progress.{Carries, seat_standing}
+use Rattle.lq_script.specs.Progress.{Carries, standing_of_seat}
 use Rattle.lq_script.proofs.threads.carry_all.Given as goal
 
 abbrev pub invariant-loop : goal.invariant-loop
@@ -9,8 +9,8 @@ invariant-loop g l = record {
   same : l.runner.output.writer.ghost_name ≡ l.fn.runner.output.writer.ghost_name;
   empty : l.runner.output.replies.items ≡ [];
   carried : Carries (Ok tt)
-      (seat_standing l.fn.runner.session.seat (g.W.Sink.written l.fn.runner.output.writer.now)
+      (standing_of_seat l.fn.runner.session.seat (g.W.Sink.written l.fn.runner.output.writer.now)
       l.fn.runner.output.replies.items)
-      (seat_standing l.runner.session.seat (g.W.Sink.written l.runner.output.writer.now)
+      (standing_of_seat l.runner.session.seat (g.W.Sink.written l.runner.output.writer.now)
       l.runner.output.replies.items);
 }

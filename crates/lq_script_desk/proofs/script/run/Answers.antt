@@ -4,7 +4,7 @@ use Rattle.std.specs.Io.KnownBytes.{Appends, Keeps}
 use Rattle.std.specs.Prelude.{Bool, Option, Some, None, Result, true, false}
 use Rattle.lq_script_lines.specs.Lines.{Rules}
 use Rattle.lq_script_lines.specs.Output.{output_of}
-use Rattle.lq_script_lines.specs.Outcome.{IsRunOutcome, reader_log, writer_log}
+use Rattle.lq_script_lines.specs.Outcome.{IsRunOutcome, log_of_reader, log_of_writer}
 use Rattle.lq_script_lines.specs.declared.run_fault.RunFault.{RunFault}
 use Rattle.lq_script_lines.specs.declared.run_fault.RunFault.TheVariants.{Memory}
 use Rattle.lq_script_desk.specs.Script.{script_session, world_rules}
@@ -23,7 +23,7 @@ no_memory : {State : Type 0} (rules : Rules State) (state : State)
     (result : Result (Unit {0}) RunFault) → result ≡ Err Memory → Keeps written written'
     → (flushed ≡ true) ⊎ (failed ≡ true) → fails ≡ false → stalled ≡ false
     → IsRunOutcome rules state result
-    (reader_log left left fails) (writer_log written written' failed stalled flushed)
+    (log_of_reader left left fails) (log_of_writer written written' failed stalled flushed)
 no_memory rules state left written written' fails failed stalled flushed result is same flush reads
     writes =
     rw is record {

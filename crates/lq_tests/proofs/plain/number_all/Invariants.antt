@@ -9,6 +9,6 @@ invariant-loop-op l = record {
   can : (goal.iterator-loop-op).can_next l.op-iterator;
   finite : (goal.iterator-loop-op).is_finite l.op-iterator;
   all : l.messages.items ++ numbered (l.first_seq + length l.messages.items) l.change
-      (into_iter_items l.op-iterator) ≡ numbered l.first_seq l.change l.fn.told.items;
+      (into_iter_items l.op-iterator) ≡ numbered l.first_seq l.change l.fn.differences.items;
   count : length l.messages.items + length (into_iter_items l.op-iterator) ≡ l.count;
 }

@@ -8,7 +8,7 @@ use Rattle.lq_update.proofs.fold.fold.Goals as goal
 
 pub returns-in_ok-insert-in-Created-clause-ok : goal.returns-in_ok-insert-in-Created-clause-ok
 returns-in_ok-insert-in-Created-clause-ok c =
-    let gap : IsGapFor c.args.entries.now.items c.args.message.now.node c.in-Err.place =
+    let gap : IsGapFor c.args.entries.now.items c.args.message.now.node c.in-Err.index =
     rw (← c.deref.ensures.value) c.in-Err.ensures.absent in
     rw c.in-Created.is (c.in_ok-insert-in-Created.ensures.items
     ∙ rw c.in_ok-entry-in-Created.ensures.value
@@ -24,7 +24,7 @@ returns-in_ok-insert-in-Created-clause-rise c =
 pub returns-in-Some-clause-ok : goal.returns-in-Some-clause-ok
 returns-in-Some-clause-ok c =
     let at : IsTripleAt c.args.entries.now.items (message_entry c.args.message.now)
-    c.in-Some.place =
+    c.in-Some.index =
     rw (← c.deref-in-Removed.ensures.value) c.in-Some.ensures.found in
     rw c.in-Removed.is (c.remove.ensures.items ∙ remove-triple _ _ _ c.requires at)
 
@@ -36,8 +36,8 @@ pub returns-in_ok-entry-in-Moved-clause-ok : goal.returns-in_ok-entry-in-Moved-c
 returns-in_ok-entry-in-Moved-clause-ok c =
     let old = old_entry c.in-Moved.from_dir c.in-Moved.from_name
     (message_entry c.args.message.now) in
-    let at : IsTripleAt c.args.entries.now.items old c.in-Some-place_with.place =
-    rw (← c.deref-in-Moved.ensures.value) c.in-Some-place_with.ensures.found in
+    let at : IsTripleAt c.args.entries.now.items old c.in-Some-index_with.index =
+    rw (← c.deref-in-Moved.ensures.value) c.in-Some-index_with.ensures.found in
     rw (c.in-Moved.is, c.in_ok-entry-in-Moved.ensures.value)
     (set-triple _ _ (message_entry c.args.message.now) _ c.requires at refl)
 
@@ -47,5 +47,5 @@ returns-in_ok-entry-in-Moved-clause-rise c =
     (message_entry c.args.message.now) in
     rw (returns-in_ok-entry-in-Moved-clause-ok c, c.in-Moved.is)
     (rises-replaced (message_entry c.args.message.now) old c.args.entries.now.items c.requires
-    (ap (has_entry old) (sym c.deref-in-Moved.ensures.value) ∙ c.in-Some-place_with.ensures.has)
+    (ap (has_entry old) (sym c.deref-in-Moved.ensures.value) ∙ c.in-Some-index_with.ensures.has)
     refl)

@@ -1,6 +1,6 @@
 use Rattle.std.proofs.Common.{◌≡◌, length, false, arith, rules}
 use Rattle.std.proofs.lemmas.Bool.Decides.{nat_tests}
-use Rattle.lq_value_pattern.specs.Pattern.{fits, some_rest}
+use Rattle.lq_value_pattern.specs.Pattern.{is_fit, some_rest}
 use Rattle.lq_value_pattern.proofs.SeekLemmas.{found_piece, nowhere_end}
 use Rattle.lq_value_pattern.proofs.long.find.Goals as goal
 
@@ -9,7 +9,7 @@ returns-in_err-find_place c =
     let es = c.args.start.elements.now in
     let cs = c.args.start.text.now in
     let none : length c.split_at_star-piece.result.after.now ≡ 0 = grind (arith, nat_tests) in
-    let no : some_rest (fits es) cs ≡ false =
+    let no : some_rest (is_fit es) cs ≡ false =
     nowhere_end es _ _ cs c.from_place-end.result.now c.split_at_star-piece.ensures none
     (omega arith) c.from_place-end.ensures c.in_err-find_place.ensures in
     search rules

@@ -7,13 +7,13 @@ use Rattle.lq_volume_entries.proofs.records.finds_in.Goals as goal
 
 pub loop-node-preserved-in_ok-push : goal.loop-node-preserved-in_ok-push
 loop-node-preserved-in_ok-push g c =
-    let last = found-last (λ e. g.T.Test.picks c.args.test.now e.1) c.loop-node.yielded
+    let last = found-last (λ e. g.T.RecordFilter.picks c.args.test.now e.1) c.loop-node.yielded
     (c.in-Some.node, c.in-Some.record) in
     grind (arith, nat_tests, c.in_ok-push.ensures.items, c.in_ok-entry.ensures.value)
 
 pub loop-node-preserved : goal.loop-node-preserved
 loop-node-preserved g c =
-    let last = found-last (λ e. g.T.Test.picks c.args.test.now e.1) c.loop-node.yielded
+    let last = found-last (λ e. g.T.RecordFilter.picks c.args.test.now e.1) c.loop-node.yielded
     (c.in-Some.node, c.in-Some.record) in
     grind (arith, nat_tests)
 

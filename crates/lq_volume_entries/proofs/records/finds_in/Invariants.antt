@@ -6,4 +6,4 @@ use Rattle.lq_volume_entries.proofs.records.finds_in.Given as goal
 -- the entries of the records so far that pass
 abbrev pub invariant-loop-node : goal.invariant-loop-node
 invariant-loop-node g l = l.finds.items
-    ≡ map entry_of (filter (λ e. g.T.Test.picks l.test e.1) (map deref_pair l.yielded))
+    ≡ map entry_of (filter (λ e. g.T.RecordFilter.picks l.test e.1) (map deref_pair l.yielded))

@@ -31,7 +31,7 @@ use Rattle.lq_desk_world.specs.contracts.event.Event as event
 use Rattle.lq_desk_world.specs.World.{World}
 use Rattle.lq_desk.specs.contracts.reply.Reply as reply
 use Rattle.lq_desk.specs.Reply.{answer_of}
-use Rattle.lq_desk.specs.Turn.{turned}
+use Rattle.lq_desk.specs.Turn.{world_after_turn}
 use Rattle.lq_desk.specs.contracts.witness.Witness as witness
 use Rattle.lq_desk.specs.contracts.witness.Witness.turn as f
 use Rattle.lq_desk.specs.contracts.witness.Witness.turn.Key.{name as key}
@@ -67,7 +67,7 @@ module _ {M : Type 1} {𝓤 : Ura M} (𝓛 : Logic 𝓤) (mem : Memory → SProp
 
     -- the world that it has
     abbrev world : World
-    world = turned a.0.now.world a.1.0.now (answer_of a.1.1.0.now)
+    world = world_after_turn a.0.now.world a.1.0.now (answer_of a.1.1.0.now)
 
     abbrev bound : (walk_of 𝓛 f.ended stayed (f.clauses 𝓛 mem run)).Ghost
     bound = ((κs, qs, tt, a, (of_before ∷ [], (of_event ∷ [], (of_reply ∷ [], tt)))), tt)

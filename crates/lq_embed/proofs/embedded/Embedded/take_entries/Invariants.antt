@@ -3,8 +3,8 @@ use Rattle.lq_embed.specs.SessionState.{holds}
 use Rattle.lq_embed.proofs.RowLemmas.{AreGiven}
 use Rattle.lq_embed.proofs.embedded.Embedded.take_entries.Given as goal
 
-abbrev pub invariant-loop-place : goal.invariant-loop-place
-invariant-loop-place l = record {
-  count : l.count ≡ l.place-index;
-  given : AreGiven (holds l.initial.self) (holds l.self) l.place-index l.initial.out l.out;
+abbrev pub invariant-loop-row : goal.invariant-loop-row
+invariant-loop-row l = record {
+  count : l.count ≡ l.row-index;
+  given : AreGiven (holds l.initial.self) (holds l.self) l.row-index l.initial.out l.out;
 }

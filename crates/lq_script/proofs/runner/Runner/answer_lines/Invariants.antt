@@ -1,5 +1,5 @@
 use Rattle.std.proofs.Common.{◌≡◌, ◌≤◌, length, Ok}
-use Rattle.lq_script.specs.Progress.{Carries, seat_standing}
+use Rattle.lq_script.specs.Progress.{Carries, standing_of_seat}
 use Rattle.lq_script.proofs.runner.Runner.answer_lines.Given as goal
 
 abbrev pub invariant-loop-count : goal.invariant-loop-count
@@ -7,9 +7,9 @@ invariant-loop-count g l = record {
   within : length l.rest ≤ length l.lines;
   same : l.self.output.writer.ghost_name ≡ l.fn.self.output.writer.ghost_name;
   carried : Carries (Ok tt)
-      (seat_standing l.fn.self.session.seat (g.W.Sink.written l.fn.self.output.writer.now)
+      (standing_of_seat l.fn.self.session.seat (g.W.Sink.written l.fn.self.output.writer.now)
       l.fn.self.output.replies.items)
-      (seat_standing l.self.session.seat (g.W.Sink.written l.self.output.writer.now)
+      (standing_of_seat l.self.session.seat (g.W.Sink.written l.self.output.writer.now)
       l.self.output.replies.items);
 }
 

@@ -1,7 +1,7 @@
 use Rattle.std.proofs.Common.{◌≡◌, sym, ap, ◌∙◌, subst}
 use Rattle.std.proofs.lemmas.Option.{MatchOption-at_some}
 use Rattle.lq_update.specs.declared.mark.Mark.{Mark}
-use Rattle.lq_server_slots.specs.Reading.{known}
+use Rattle.lq_server_slots.specs.Reading.{known_book}
 use Rattle.lq_server.specs.Headline.{ReaderIsTold, result_after}
 use Rattle.lq_server.proofs.HeadlineLemmas.{ends_whole, once_told, only_ended, opened_told, prefix_told}
 use Rattle.lq_server.proofs.reader.Reader.headline.Goals as goal
@@ -11,7 +11,7 @@ returns c =
     let r = c.self.inside.reading in
     let told = c.update_facts.ensures in
     let ends = ends_whole r told in
-    let after = result_after r.port.floor (known r) in
+    let after = result_after r.port.floor (known_book r) in
     subst ReaderIsTold c.self.view_is (record {
       book = told.legal_list.full;
       opened = opened_told r told;

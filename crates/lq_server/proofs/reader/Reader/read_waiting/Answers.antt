@@ -3,7 +3,7 @@ use Rattle.std.proofs.lemmas.Result.{IfOk-weaker, on_err_weaker}
 use mathlib.Core.List.{IsPrefix}
 use Rattle.lq_volume.specs.Book.{Book, Extends}
 use Rattle.lq_server_slots.specs.Rule.{all_updates}
-use Rattle.lq_server_slots.specs.Reading.{Gives, known, received, is_marked}
+use Rattle.lq_server_slots.specs.Reading.{Gives, known_book, received, is_marked}
 use Rattle.lq_server_slots.specs.Hold.{ReaderHold}
 use Rattle.lq_server.specs.Syncing.{IsSynced, IsRead}
 use Rattle.lq_server.proofs.OwnLemmas.{hold, received_front}
@@ -17,7 +17,7 @@ returns-then-is_ended g c = record {
   rest = refl;
   port = search rules;
   received = subst (λ (r : ReaderHold). IsPrefix (received r.reading)
-      (all_updates r.reading.port.floor (known r.reading))) c.self.view_is
+      (all_updates r.reading.port.floor (known_book r.reading))) c.self.view_is
       (received_front c.self.inside.reading c.update_facts.ensures);
   known = search rules;
   refused = search rules;
@@ -45,7 +45,7 @@ returns g c =
       rest = λ k. hold new i.seat (s.slot k) (s.hang_up_asked k);
       port = (w.same.0 ∙ s.port.0, w.same.1 ∙ s.port.1, w.same.2 ∙ s.port.2);
       received = search rules;
-      known = subst (λ (b : Book). Extends (known new) b) s.known_stays w.known;
+      known = subst (λ (b : Book). Extends (known_book new) b) s.known_stays w.known;
       refused = search rules;
       gives = IfOk-weaker c.read_waiting.result (Gives mid.reading new)
           (IsRead old (record mid { reading = new }))

@@ -1,8 +1,8 @@
 use Rattle.std.proofs.Common.{◌≡◌, ◌∙◌, rules, sym, true, false}
 use Rattle.std.specs.Str.{bytes_eq}
-use Rattle.lq_volume.specs.EntryView.{record_before}
-use Rattle.lq_volume.proofs.entry_view.EntryView.value.Goals as goal
-use Rattle.lq_volume.proofs.entry_view.EntryView.value.Goals.{in-Some+in-SetAttr+else-same_text, in-Some+in-RemoveAttr+else-same_text-2, in-Some+in-Remove-1, in-Some+in-Move-1, in-Some+in-Write-1, in_default}
+use Rattle.lq_volume.specs.EntryRow.{record_before}
+use Rattle.lq_volume.proofs.entry_row.EntryRow.value.Goals as goal
+use Rattle.lq_volume.proofs.entry_row.EntryRow.value.Goals.{in-Some+in-SetAttr+else-same_text, in-Some+in-RemoveAttr+else-same_text-2, in-Some+in-Remove-1, in-Some+in-Move-1, in-Some+in-Write-1, in_default}
 
 pub returns-then-same_text : goal.returns-then-same_text
 returns-then-same_text c =

@@ -1,7 +1,7 @@
 use Rattle.std.proofs.Common.{rules}
 use Rattle.std.proofs.lemmas.List.Sorted.{answers_always}
 use Rattle.lq_update.proofs.PlaceLemmas.{searched, has_node-search}
-use Rattle.lq_update.proofs.fold.place_of.Goals as goal
+use Rattle.lq_update.proofs.fold.index_of.Goals as goal
 
 -- the closure gives an entry's node
 pub returns : goal.returns

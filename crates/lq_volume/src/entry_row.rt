@@ -3,7 +3,7 @@ ghost use Rattle.std.specs.Prelude.{◌≡◌, ◌<◌, ◌^◌, Some, IfOk, IsS
 ghost use Rattle.std.specs.Option.{option_copied};
 ghost use Rattle.lq_value.specs.Refusal.{FailsOnlyForMemory};
 ghost use Rattle.lq_volume_entries.specs.Attributes.{value_of};
-ghost use Rattle.lq_volume.specs.EntryView.{view_of, IsEntryView};
+ghost use Rattle.lq_volume.specs.EntryRow.{view_of, IsEntryRow};
 
 use crate::change::Change;
 use lq_predicate::Row;
@@ -17,7 +17,7 @@ use std::marker::Model;
 /// What it shows beside its place is in the change, where that says it, else in the record.
 /// Contracts see it as its `Record`. Its size fits into an `i64`.
 #[derive(Drop)]
-pub struct EntryView<'a> {
+pub struct EntryRow<'a> {
     dir: u64,
     name: &'a Name,
     // The entry's record; none where the change creates the entry.
@@ -26,29 +26,29 @@ pub struct EntryView<'a> {
     change: Option<&'a Change>,
 }
 
-impl<'a> Model for EntryView<'a> {
+impl<'a> Model for EntryRow<'a> {
     ghost use Rattle.lq_volume.specs.Change.{at_place};
-    ghost use Rattle.lq_volume.specs.EntryView.{view_of, IsEntryView};
+    ghost use Rattle.lq_volume.specs.EntryRow.{view_of, IsEntryRow};
     ghost use Rattle.lq_volume.specs.State.{Record};
 
     ghost Value = { Record };
 
     ghost view = { λ v. at_place v.dir v.name.now (view_of v.stored v.change) };
 
-    ghost invariant = { λ v. IsEntryView v.stored v.change };
+    ghost invariant = { λ v. IsEntryRow v.stored v.change };
 }
 
-impl<'a> EntryView<'a> {
+impl<'a> EntryRow<'a> {
     ghost use Rattle.lq_volume_entries.specs.Attributes.{value_of};
     ghost use Rattle.lq_volume.specs.Change.{at_place};
     ghost use Rattle.lq_volume.specs.Result.{entry_of};
-    ghost use Rattle.lq_volume.specs.EntryView.{has_same_place, view_of, IsEntryView};
+    ghost use Rattle.lq_volume.specs.EntryRow.{has_same_place, view_of, IsEntryRow};
 
     /// An entry as it is.
-    pub(crate) fn stored(stored: &'a StoredRecord) -> EntryView<'a>
+    pub(crate) fn stored(stored: &'a StoredRecord) -> EntryRow<'a>
         ensures { result ≡ stored.now }
     {
-        EntryView {
+        EntryRow {
             dir: stored.dir(),
             name: stored.name(),
             stored: Some(stored),
@@ -63,11 +63,11 @@ impl<'a> EntryView<'a> {
         name: &'a Name,
         stored: Option<&'a StoredRecord>,
         change: &'a Change,
-    ) -> EntryView<'a>
-        requires { IsEntryView stored (Some change) }
+    ) -> EntryRow<'a>
+        requires { IsEntryRow stored (Some change) }
         ensures { result ≡ at_place dir name.now (view_of stored.entry (Some change.entry)) }
     {
-        EntryView {
+        EntryRow {
             dir,
             name,
             stored,
@@ -104,7 +104,7 @@ impl<'a> EntryView<'a> {
     }
 
     /// Whether another entry has the same place: the same folder and name. It takes no memory.
-    pub fn shares_place(&self, other: &EntryView<'_>) -> bool
+    pub fn shares_place(&self, other: &EntryRow<'_>) -> bool
         ensures { result ≡ has_same_place self.now other.now }
     {
         self.dir == other.dir && *self.name == *other.name
@@ -158,7 +158,7 @@ pub(crate) fn record_of<'a>(stored: Option<&'a StoredRecord>) -> &'a StoredRecor
     }
 }
 
-impl<'a> Row for EntryView<'a> {
+impl<'a> Row for EntryRow<'a> {
     ghost use Rattle.lq_volume.specs.Result.{shown};
 
     ghost looks = { shown };

@@ -5,8 +5,8 @@ ghost use Rattle.lq_volume_entries.specs.Record.{Record};
 
 use crate::stored_record::StoredRecord;
 
-/// A test that each record passes or fails.
-pub trait Test {
+/// A filter that each record passes or fails.
+pub trait RecordFilter {
     /// Which records pass.
     ghost picks: { Self → Record → Bool };
 

@@ -44,7 +44,7 @@ size_given (Write node size time) = size
 size_given c = 0
 
 -- the entry has a record or the change creates it, and its size fits into an i64
-pub record IsEntryView (stored : Option (Bor Record)) (change : Option (Bor Change)) : Type 0 where
+pub record IsEntryRow (stored : Option (Bor Record)) (change : Option (Bor Change)) : Type 0 where
   pub there : (is_some stored || option_map_or (λ c. creates c.now) change false) ≡ true
   pub fits : option_map_or (λ c. size_given c.now) change 0 < 2 ^ 63
 

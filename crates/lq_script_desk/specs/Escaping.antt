@@ -2,5 +2,5 @@
 use Rattle.std.specs.Prelude.{ℕ, Bool, not, ◌||◌, ◌==◌, nat_lt}
 
 -- whether the byte is no control character, quote or backslash
-abbrev pub is_plain : ℕ → Bool
-is_plain x = not (nat_lt x 32 || (x == 34 || x == 92))
+abbrev pub needs_no_escape : ℕ → Bool
+needs_no_escape x = not (nat_lt x 32 || (x == 34 || x == 92))
