@@ -3,10 +3,8 @@
 //!
 //! Contracts see how it was opened, the messages that it holds and its mark (`specs/Held`). The
 //! desk puts its parcels into its own port, the server for threads into a shared one. Nothing here
-//! waits. Begin with `sub`, then `prepare_commit`, then `watch`; for the slots, `slot_table`.
-//!
-//! A type of this repository whose `drop` only takes it apart is dropped by a single call, instead
-//! of by code at each place.
+//! waits. Tests: `subs` and `watches` of lq_core_tests. Begin with `sub`, then `prepare_commit`,
+//! then `watch`; for the slots, `slot_table`.
 #![tactic(auto)]
 
 mod bits;

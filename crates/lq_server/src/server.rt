@@ -71,7 +71,6 @@ pub struct Server<N: Named> {
     pub(crate) board: Board<Identity>,
 }
 
-// Dropping one is a single call, instead of code at each place.
 impl<N: Named> Drop for Server<N> {
     fn drop(self) {
         let Server { state: _, board: _ } = self;

@@ -33,7 +33,6 @@ pub struct Reading {
     opened: u64,
 }
 
-// Dropping one is a single call, instead of code at each place.
 impl Drop for Reading {
     fn drop(self) {
         let Reading {

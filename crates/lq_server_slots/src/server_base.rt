@@ -49,7 +49,6 @@ pub struct Base {
     alloc: Global,
 }
 
-// Dropping one is a single call, instead of code at each place.
 impl Drop for Base {
     fn drop(self) {
         let Base {

@@ -42,7 +42,6 @@ pub struct ServerState<N: Named> {
     of: PhantomData<N>,
 }
 
-// Dropping one is a single call, instead of code at each place.
 impl<N: Named> Drop for ServerState<N> {
     fn drop(self) {
         let ServerState {

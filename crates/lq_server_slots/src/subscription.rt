@@ -32,7 +32,6 @@ pub struct Subscription {
     pub first_close: FirstClose,
 }
 
-// Dropping one is a single call, instead of code at each place.
 impl Drop for Subscription {
     fn drop(self) {
         let Subscription {
