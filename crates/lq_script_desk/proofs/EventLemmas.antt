@@ -52,6 +52,13 @@ filled-same [] i o same = refl
 filled-same (x ∷ xs) zero o same = ap (λ b. b ∷ map is_some xs) same
 filled-same (x ∷ xs) (suc i) o same = ap (λ bs. is_some x ∷ bs) (filled-same xs i o same)
 
+-- a place that is set to what it has
+pub set_same : {A : Type 0} (xs : List (Option A)) (i : ℕ) (o : Option A)
+    → option_flatten (slice_get xs i) ≡ o → slice_set xs i o ≡ xs
+set_same [] i o is = refl
+set_same (x ∷ xs) zero o is = ap (λ y. y ∷ xs) (sym is)
+set_same (x ∷ xs) (suc i) o is = ap (λ ys. x ∷ ys) (set_same xs i o is)
+
 -- what is in each place is changed
 filled-map : {A : Type 0} (f : A → A) (xs : List (Option A))
     → map is_some (map (option_map f) xs) ≡ map is_some xs

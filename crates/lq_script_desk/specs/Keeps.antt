@@ -6,7 +6,7 @@ use Rattle.lq_script_desk.specs.declared.session.Session.{Session}
 
 -- the desk's world and the folds of the slots
 abbrev pub keeps : Session → spec.Session
-keeps s = spec.session_with s.desk s.rebuilds.items
+keeps s = spec.session_with s.desk s.rebuilds
 
 -- the session with no fold at a slot
 abbrev pub without_fold : spec.Session → ℕ → spec.Session

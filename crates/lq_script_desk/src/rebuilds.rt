@@ -1,29 +1,17 @@
 //! Keeps the result of each slot, rebuilt from what was read from it, so that a script can compare
 //! it with a fetch.
-ghost use Rattle.std.specs.Prelude.{◌≡◌, ◌⊎◌, ◌<◌, ◌+◌, length, true, MatchOption, IfOk, IfErr, OnOk, OnErr};
+ghost use Rattle.std.specs.Prelude.{◌≡◌, true, IfErr, OnOk, OnErr};
 ghost use Rattle.std.specs.Option.{option_map};
 ghost use Rattle.lq_value.specs.declared.refusal.Refusal.TheVariants.{NoMemory};
-ghost use Rattle.lq_value.specs.Refusal.{FailsOnlyForMemory};
 ghost use Rattle.lq_desk.specs.Reply.{answer_of};
-ghost use Rattle.lq_script_desk.specs.Folds.{ResultRises, after_message, fold_at, folds_after, is_folded, no_folds, with_fold};
+ghost use Rattle.lq_script_desk.specs.Folds.{ResultRises, after_message, fold_at, folds_after, is_folded, with_fold};
 ghost use Rattle.lq_script_desk.specs.Turned.{Follow, folded_slot};
 
-use lq_desk::{Read, Reply, SLOTS};
+use lq_desk::{Read, Reply};
+use lq_desk_sub::{SlotIndex, SlotTable};
 use lq_update::{IndexedRebuild, Message};
 use lq_value::Refusal;
 use std::alloc::Global;
-
-/// A list with no rebuilt result for any slot. Refused: `NoMemory`.
-pub fn no_rebuilds(alloc: Global) -> Result<Vec<Option<IndexedRebuild>>, Refusal>
-    ensures refused { FailsOnlyForMemory result }
-    ensures none { IfOk result (λ rebuilds. rebuilds.items ≡ no_folds) }
-{
-    let mut rebuilds = Vec::with_capacity(alloc, SLOTS)?;
-    for _ in 0..SLOTS {
-        rebuilds.push_reserved(None);
-    }
-    Ok(rebuilds)
-}
 
 /// Updates the results by the reply to an event of a slot: starts one for an opening, folds an
 /// update that was read into it, and drops it when the slot is freed.
@@ -31,14 +19,14 @@ pub fn no_rebuilds(alloc: Global) -> Result<Vec<Option<IndexedRebuild>>, Refusal
 /// Refused: `NoMemory`, for an opening or an update; the results are then unchanged.
 pub fn fold_reply(
     alloc: Global,
-    rebuilds: &mut Vec<Option<IndexedRebuild>>,
+    rebuilds: &mut SlotTable<IndexedRebuild>,
     slot: u64,
     reply: &Reply,
 ) -> Result<(), Refusal>
     requires rises { ResultRises (answer_of reply.now) }
-    ensures ok { OnOk result (rebuilds.new.items
-        ≡ folds_after slot (answer_of reply.now) rebuilds.old.items) }
-    ensures err { OnErr result (rebuilds.new.items ≡ rebuilds.old.items) }
+    ensures ok { OnOk result (rebuilds.new
+        ≡ folds_after slot (answer_of reply.now) rebuilds.old) }
+    ensures err { OnErr result (rebuilds.new ≡ rebuilds.old) }
     ensures memory { IfErr result (λ e. e ≡ NoMemory) }
     ensures folded { OnErr result (is_folded (answer_of reply.now) ≡ true) }
 {
@@ -69,9 +57,9 @@ pub fn fold_reply(
 
 /// Updates the results by the reply to an event of a slot, as `fold_reply` does. Where memory runs
 /// out, the slot whose result is to be updated has none afterwards.
-pub fn follow(alloc: Global, rebuilds: &mut Vec<Option<IndexedRebuild>>, slot: u64, reply: &Reply)
+pub fn follow(alloc: Global, rebuilds: &mut SlotTable<IndexedRebuild>, slot: u64, reply: &Reply)
     requires rises { ResultRises (answer_of reply.now) }
-    ensures { Follow slot (answer_of reply.now) rebuilds.old.items rebuilds.new.items }
+    ensures { Follow slot (answer_of reply.now) rebuilds.old rebuilds.new }
 {
     if fold_reply(alloc, rebuilds, slot, reply).is_err() {
         put(rebuilds, folded_slot(slot, reply), None);
@@ -88,64 +76,63 @@ pub(crate) fn folded_slot(slot: u64, reply: &Reply) -> u64
     }
 }
 
-// The index of a slot's result. `None`: there is no such slot.
-fn index_of(rebuilds: &[Option<IndexedRebuild>], slot: u64) -> Option<usize>
-    ensures { MatchOption result ((slot ≡ 0) ⊎ (length rebuilds.now < slot))
-        (λ index. (index + 1 ≡ slot) × (index < length rebuilds.now)) }
+/// Puts a slot's result into the table, or removes it.
+pub fn put(rebuilds: &mut SlotTable<IndexedRebuild>, slot: u64, rebuild: Option<IndexedRebuild>)
+    ensures { rebuilds.new ≡ with_fold rebuilds.old slot rebuild }
 {
-    if slot == 0 || slot > rebuilds.len() as u64 {
-        return None;
-    }
-    Some((slot - 1) as usize)
-}
-
-/// Puts a slot's result at its index, or removes it.
-pub fn put(rebuilds: &mut Vec<Option<IndexedRebuild>>, slot: u64, rebuild: Option<IndexedRebuild>)
-    ensures { rebuilds.new.items ≡ with_fold rebuilds.old.items slot rebuild }
-{
-    if let Some(index) = index_of(rebuilds, slot) {
-        rebuilds[index] = rebuild;
+    // A call for what it proves: a table has 64 slots, so no number above them names one.
+    let _ = rebuilds.taken();
+    let Some(slot) = SlotIndex::of(slot) else {
+        return;
+    };
+    match rebuild {
+        Some(rebuild) => rebuilds.insert(slot, rebuild),
+        None => {
+            let _ = rebuilds.remove(slot);
+        }
     }
 }
 
 // Folds a message into the rebuilt result of a slot.
+#[tactic(auto, using(crate::proofs::EventLemmas::set_same))]
 fn fold_message_at(
-    rebuilds: &mut Vec<Option<IndexedRebuild>>,
+    rebuilds: &mut SlotTable<IndexedRebuild>,
     slot: u64,
     message: &Message,
 ) -> Result<(), Refusal>
-    ensures ok { OnOk result (rebuilds.new.items ≡ with_fold rebuilds.old.items slot
-        (option_map (after_message message.now) (fold_at rebuilds.old.items slot))) }
-    ensures err { OnErr result (rebuilds.new.items ≡ rebuilds.old.items) }
+    ensures ok { OnOk result (rebuilds.new ≡ with_fold rebuilds.old slot
+        (option_map (after_message message.now) (fold_at rebuilds.old slot))) }
+    ensures err { OnErr result (rebuilds.new ≡ rebuilds.old) }
     ensures memory { IfErr result (λ e. e ≡ NoMemory) }
 {
-    match index_of(rebuilds, slot) {
-        Some(index) => fold_message(&mut rebuilds[index], message),
+    // A call for what it proves, as in `put`.
+    let _ = rebuilds.taken();
+    let Some(slot) = SlotIndex::of(slot) else {
+        return Ok(());
+    };
+    match rebuilds.get_mut(slot) {
+        Some(rebuild) => fold_message(rebuild, message),
         None => Ok(()),
     }
 }
 
 // Folds a message into a result. One that isn't the next or doesn't fit is ignored.
-fn fold_message(rebuild: &mut Option<IndexedRebuild>, message: &Message) -> Result<(), Refusal>
-    ensures ok { OnOk result (rebuild.new ≡ option_map (after_message message.now) rebuild.old) }
+fn fold_message(rebuild: &mut IndexedRebuild, message: &Message) -> Result<(), Refusal>
+    ensures ok { OnOk result (rebuild.new ≡ after_message message.now rebuild.old) }
     ensures err { OnErr result (rebuild.new ≡ rebuild.old) }
     ensures memory { IfErr result (λ e. e ≡ NoMemory) }
 {
-    let Some(there) = rebuild else {
-        return Ok(());
-    };
-    match there.apply(message) {
+    match rebuild.apply(message) {
         Err(Refusal::NoMemory) => Err(Refusal::NoMemory),
         Ok(()) | Err(_) => Ok(()),
     }
 }
 
 /// The rebuilt result of a slot; `None` if the slot has none.
-pub fn rebuild_at(rebuilds: &[Option<IndexedRebuild>], slot: u64) -> Option<&IndexedRebuild>
+pub fn rebuild_at(rebuilds: &SlotTable<IndexedRebuild>, slot: u64) -> Option<&IndexedRebuild>
     ensures { option_map (λ r. r.now) result ≡ fold_at rebuilds.now slot }
 {
-    match index_of(rebuilds, slot) {
-        Some(index) => rebuilds[index].as_ref(),
-        None => None,
-    }
+    // A call for what it proves, as in `put`.
+    let _ = rebuilds.taken();
+    rebuilds.get(SlotIndex::of(slot)?)
 }

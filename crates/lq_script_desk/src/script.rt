@@ -6,9 +6,9 @@ ghost use Rattle.lq_script_desk.specs.Script.{script_session, world_rules};
 ghost use Rattle.lq_script_desk.specs.History.{TellsReaders};
 
 use crate::laws::scripts_tell_readers;
-use crate::rebuilds::no_rebuilds;
 use crate::session::Session;
 use lq_desk::Desk;
+use lq_desk_sub::SlotTable;
 use lq_script_lines::{Client, RunFault, Sink, out_of_memory, run_lines};
 use lq_volume::{MAX_CHANGES, Volume};
 use std::alloc::Global;
@@ -61,7 +61,7 @@ pub fn run<R: Client, W: Sink>(
     let Ok(desk) = Desk::new(alloc, Volume::new(alloc, MAX_CHANGES)) else {
         return Err(out_of_memory(writer));
     };
-    let Ok(rebuilds) = no_rebuilds(alloc) else {
+    let Ok(rebuilds) = SlotTable::new(alloc) else {
         return Err(out_of_memory(writer));
     };
     let mut session = Session::new(alloc, desk, rebuilds);

@@ -18,6 +18,7 @@ use crate::rebuilds::{fold_reply, folded_slot, put};
 use crate::reply::{put_event_reply, put_reply};
 use crate::response::Response;
 use lq_desk::{Desk, Event, Reply};
+use lq_desk_sub::SlotTable;
 use lq_script_lines::Responder;
 use lq_script_request::{Look, Request, Scratch, request_in};
 use lq_update::{IndexedRebuild, results_rise};
@@ -28,7 +29,7 @@ use std::alloc::Global;
 pub struct Session {
     alloc: Global,
     desk: Desk,
-    rebuilds: Vec<Option<IndexedRebuild>>,
+    rebuilds: SlotTable<IndexedRebuild>,
     // The scratch for reading lines, reused from line to line.
     scratch: Scratch,
 }
@@ -46,9 +47,9 @@ impl Drop for Session {
 
 impl Session {
     /// A session over a desk and the rebuilt results of its slots. It takes no memory.
-    pub fn new(alloc: Global, desk: Desk, rebuilds: Vec<Option<IndexedRebuild>>) -> Session
+    pub fn new(alloc: Global, desk: Desk, rebuilds: SlotTable<IndexedRebuild>) -> Session
         ensures desk { result.desk ≡ desk }
-        ensures rebuilds { result.rebuilds.items ≡ rebuilds.items }
+        ensures rebuilds { result.rebuilds ≡ rebuilds }
     {
         Session {
             alloc,
@@ -62,10 +63,10 @@ impl Session {
     // Where memory runs out for the result, the slot is left without one.
     fn write_answer(&mut self, event: &Event, out: &mut Vec<u8>) -> Result<(), Refusal>
         ensures ok { OnOk result (out.new.items ≡ out.old.items
-            ++ reply_text (answered_event (slot_named event.now) self.old.rebuilds.items
+            ++ reply_text (answered_event (slot_named event.now) self.old.rebuilds
             (turn_outcome self.old.desk event.now)).0) }
-        ensures after { OnOk result (session_with self.new.desk self.new.rebuilds.items ≡
-            (answered_event (slot_named event.now) self.old.rebuilds.items
+        ensures after { OnOk result (session_with self.new.desk self.new.rebuilds ≡
+            (answered_event (slot_named event.now) self.old.rebuilds
             (turn_outcome self.old.desk event.now)).1) }
         ensures err { OnErr result (IsPrefix out.old.items out.new.items) }
         ensures memory { IfErr result (λ e. e ≡ NoMemory) }
@@ -139,16 +140,16 @@ impl Responder for Session {
 
     ghost State = { spec.Session };
 
-    ghost state = { λ s. session_with s.desk s.rebuilds.items };
+    ghost state = { λ s. session_with s.desk s.rebuilds };
 
     ghost rules = { world_rules };
 
     // The trait's clauses, and the turn.
     fn respond(&mut self, line: &[u8], out: &mut Vec<u8>) -> Result<(), Refusal>
         ensures ok { OnOk result (out.new.items ≡ out.old.items ++ world_rules.reply
-            (session_with self.old.desk self.old.rebuilds.items) line.now) }
-        ensures after { OnOk result (session_with self.new.desk self.new.rebuilds.items
-            ≡ world_rules.after (session_with self.old.desk self.old.rebuilds.items) line.now) }
+            (session_with self.old.desk self.old.rebuilds) line.now) }
+        ensures after { OnOk result (session_with self.new.desk self.new.rebuilds
+            ≡ world_rules.after (session_with self.old.desk self.old.rebuilds) line.now) }
         ensures err { OnErr result (IsPrefix out.old.items out.new.items) }
         ensures memory { IfErr result (λ e. e ≡ NoMemory) }
         ensures turned { TurnedByLine (keeps self.old) (keeps self.new) result

@@ -16,10 +16,11 @@ ghost use Rattle.lq_script_desk.specs.Script.{script_session};
 ghost use Rattle.lq_script_desk.specs.Session.{volume_of};
 ghost use Rattle.lq_script_desk.specs.Turned.{Turned};
 
-use crate::rebuilds::{follow, no_rebuilds, put, rebuild_at};
+use crate::rebuilds::{follow, put, rebuild_at};
 use crate::response::Response;
 use crate::session::{Session, slot_of};
 use lq_desk::{Desk, Event, Reply};
+use lq_desk_sub::SlotTable;
 use lq_script_request::Look;
 use lq_update::{IndexedRebuild, results_rise};
 use lq_value::Refusal;
@@ -35,7 +36,7 @@ impl Session {
         ensures value { IfOk result (λ session. keeps session ≡ script_session) }
     {
         let desk = Desk::new(alloc, Volume::new(alloc, MAX_CHANGES))?;
-        Ok(Session::new(alloc, desk, no_rebuilds(alloc)?))
+        Ok(Session::new(alloc, desk, SlotTable::new(alloc)?))
     }
 
     /// The volume as it is now. It takes no memory.

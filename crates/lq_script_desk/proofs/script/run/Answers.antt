@@ -58,9 +58,9 @@ returns-in_default g c =
       readers = run-tells c.scripts_tell_readers.ensures _ _ _ outcome;
     }
 
-pub returns-in_default-no_rebuilds : goal.returns-in_default-no_rebuilds
-returns-in_default-no_rebuilds g c =
-    let says = c.out_of_memory-in_default-no_rebuilds.ensures in
+pub returns-in_default-new : goal.returns-in_default-new
+returns-in_default-new g c =
+    let says = c.out_of_memory-in_default-new.ensures in
     let outcome = no_memory world_rules script_session _ _ _ _ _ _ _ _
     (ap Err says.fault) says.bytes says.flushed c.requires.reader_works
     (says.stalls ∙ c.requires.writer_moves) in record {
@@ -75,7 +75,7 @@ run_lines-requires-clause-waits g c =
     rw (
       c.new-session.ensures.desk,
       c.new-session.ensures.rebuilds,
-      c.in-Ok-no_rebuilds.ensures.none,
+      c.in-Ok-new.ensures.free,
       c.in-Ok.ensures.world,
       c.new.ensures,
     ) c.requires.waits
@@ -85,7 +85,7 @@ returns g c =
     let outcome = rw (
       c.new-session.ensures.desk,
       c.new-session.ensures.rebuilds,
-      c.in-Ok-no_rebuilds.ensures.none,
+      c.in-Ok-new.ensures.free,
       c.in-Ok.ensures.world,
       c.new.ensures,
     )
