@@ -10,6 +10,7 @@ use crate::gate::Gate;
 use crate::readers::Readers;
 use crate::tasks::Task;
 use crate::workers::Workers;
+use lq_desk_sub::SlotIndex;
 use lq_script_desk::{Reply, Response, put_reply};
 use lq_server::{Named, OwnReader, Read, Server, servers_may_be_shared};
 use lq_value::Refusal;
@@ -24,21 +25,21 @@ pub struct SlotReads<'a, N: Named, G> {
     server: &'a Server<N>,
     gate: &'a G,
     reader: OwnReader<N>,
-    slot: u64,
+    slot: SlotIndex,
     reads: usize,
     answers: Vec<Read>,
     told: usize,
 }
 
 impl<'a, N: Named, G: Gate> Task for SlotReads<'a, N, G> {
-    fn slot(&self) -> u64 {
+    fn slot(&self) -> SlotIndex {
         self.slot
     }
 
     // Each read in order. It ends before the reads do where memory was wanting.
     fn run<R: Wait>(&mut self, rt: &R) {
         for _ in 0..self.reads {
-            self.gate.pass(rt, self.slot);
+            self.gate.pass(rt, self.slot.number());
             let Ok(answer) = self.reader.read(rt, self.server) else {
                 return;
             };
@@ -61,7 +62,7 @@ impl<'a, N: Named, G> SlotReads<'a, N, G> {
         let answer = mem::replace(place, Read::Ended);
         self.told = told + 1;
         Ok(Response::Reply {
-            slot: self.slot,
+            slot: self.slot.number(),
             reply: Reply::Took(answer),
         })
     }
@@ -145,7 +146,7 @@ fn reads_at<'t, 'a, N: Named, G>(
     slot: u64,
 ) -> Option<&'t mut SlotReads<'a, N, G>> {
     for reads in batch {
-        if reads.slot == slot {
+        if reads.slot.number() == slot {
             return Some(reads);
         }
     }
@@ -161,16 +162,19 @@ fn batch_of<'a, N: Named, G: Gate>(
     slots: &[u64],
 ) -> Result<Vec<SlotReads<'a, N, G>>, Refusal> {
     let mut batch = Vec::new(alloc);
-    for slot in slots {
-        let Ok(reader) = readers.take(*slot) else {
+    for number in slots {
+        let Some(slot) = SlotIndex::of(*number) else {
             continue;
         };
-        let reads = count_of(slots, *slot);
+        let Ok(reader) = readers.take(slot) else {
+            continue;
+        };
+        let reads = count_of(slots, *number);
         batch.push(SlotReads {
             server,
             gate,
             reader,
-            slot: *slot,
+            slot,
             reads,
             answers: Vec::with_capacity(alloc, reads)?,
             told: 0,

@@ -1,57 +1,50 @@
-//! The readers of the slots. No clause says what these calls do.
-use lq_desk_sub::SlotIndex;
-use lq_script_desk::SLOTS;
+//! The readers that a run has opened and not finished. No clause says what these calls do.
+use lq_desk_sub::{SlotIndex, SlotTable};
 use lq_server::{Named, OwnReader};
 use lq_value::Refusal;
 use std::alloc::Global;
 
-/// The readers of the slots 1 to 64; none of a slot that is free.
+/// The readers of the slots.
 #[derive(Drop)]
 pub struct Readers<N: Named> {
-    slots: Vec<Option<OwnReader<N>>>,
+    slots: SlotTable<OwnReader<N>>,
 }
 
 impl<N: Named> Readers<N> {
     /// All slots free. Refused: `NoMemory`.
     pub fn new(alloc: Global) -> Result<Readers<N>, Refusal> {
-        let mut slots = Vec::with_capacity(alloc, SLOTS)?;
-        for _ in 0..SLOTS {
-            slots.push_reserved(None);
-        }
+        let slots = SlotTable::new(alloc)?;
         Ok(Readers { slots })
     }
 
-    /// The reader of a slot. Refused: `NotOpen` where it has none.
-    pub fn reader(&mut self, slot: u64) -> Result<&mut OwnReader<N>, Refusal> {
-        match self.place(slot)? {
+    /// The reader of a slot. Refused: `NotOpen` if it has none.
+    pub fn reader(&mut self, slot: SlotIndex) -> Result<&mut OwnReader<N>, Refusal> {
+        match self.slots.get_mut(slot) {
             Some(reader) => Ok(reader),
             None => Err(Refusal::NotOpen),
         }
     }
 
-    /// Takes the reader of a slot out. Refused: `NotOpen` where it has none.
-    pub fn take(&mut self, slot: u64) -> Result<OwnReader<N>, Refusal> {
-        match self.place(slot)?.take() {
+    /// Takes the reader of a slot out. Refused: `NotOpen` if it has none.
+    pub fn take(&mut self, slot: SlotIndex) -> Result<OwnReader<N>, Refusal> {
+        match self.slots.remove(slot) {
             Some(reader) => Ok(reader),
             None => Err(Refusal::NotOpen),
         }
     }
 
-    /// Puts a reader in the place of its slot.
+    /// Puts a reader into its slot.
     pub fn put(&mut self, reader: OwnReader<N>) {
-        if let Ok(place) = self.place(reader.reader().slot()) {
-            *place = Some(reader);
+        if let Some(slot) = SlotIndex::of(reader.reader().slot()) {
+            self.slots.insert(slot, reader);
         }
     }
+}
 
-    // The place of a slot. Refused: `NotOpen` where there is no such slot.
-    fn place(&mut self, slot: u64) -> Result<&mut Option<OwnReader<N>>, Refusal> {
-        let Some(index) = SlotIndex::of(slot) else {
-            return Err(Refusal::NotOpen);
-        };
-        match self.slots.get_mut(index.place()) {
-            Some(place) => Ok(place),
-            None => Err(Refusal::NotOpen),
-        }
+/// The slot with this number. Refused: `NotOpen` if it is none of 1 to 64.
+pub fn slot_of(number: u64) -> Result<SlotIndex, Refusal> {
+    match SlotIndex::of(number) {
+        Some(slot) => Ok(slot),
+        None => Err(Refusal::NotOpen),
     }
 }

@@ -7,7 +7,7 @@ ghost use Rattle.lq_script.specs.Progress.{AppendsReads};
 
 use crate::batch::{SlotReads, read_beside};
 use crate::gate::Gate;
-use crate::readers::Readers;
+use crate::readers::{Readers, slot_of};
 use crate::workers::Workers;
 use lq_predicate::Predicate;
 use lq_script_desk::{Reply, Response};
@@ -148,7 +148,7 @@ impl<
         ensures seat { self.new.seat ≡ self.old.seat }
         ensures none { IfOk result (λ r. change_told (response_of r) ≡ []) }
     {
-        let reader = self.readers.reader(slot)?.reader();
+        let reader = self.readers.reader(slot_of(slot)?)?.reader();
         Ok(Response::Rebuilt {
             change: reader.last_change(),
             result: copied(self.alloc, reader.result())?,
@@ -210,7 +210,7 @@ impl<
         ensures seat { self.new.seat ≡ self.old.seat }
         ensures none { IfOk result (λ r. change_told (response_of r) ≡ []) }
     {
-        self.readers.reader(slot)?.hang_up(self.server);
+        self.readers.reader(slot_of(slot)?)?.hang_up(self.server);
         let reply = Reply::Asked;
         Ok(Response::Reply { slot, reply })
     }
@@ -219,7 +219,10 @@ impl<
         ensures seat { self.new.seat ≡ self.old.seat }
         ensures none { IfOk result (λ r. change_told (response_of r) ≡ []) }
     {
-        let change = self.readers.reader(slot)?.close(self.rt, self.server)?;
+        let change = self
+            .readers
+            .reader(slot_of(slot)?)?
+            .close(self.rt, self.server)?;
         let reply = Reply::Shut(change);
         Ok(Response::Reply { slot, reply })
     }
@@ -228,9 +231,10 @@ impl<
         ensures seat { self.new.seat ≡ self.old.seat }
         ensures none { IfOk result (λ r. change_told (response_of r) ≡ []) }
     {
-        match self.readers.take(slot)?.finish(self.rt, self.server) {
+        let index = slot_of(slot)?;
+        match self.readers.take(index)?.finish(self.rt, self.server) {
             Ok(()) => {
-                self.workers.end(slot)?;
+                self.workers.end(index)?;
                 Ok(Response::Reply {
                     slot,
                     reply: Reply::Finished,

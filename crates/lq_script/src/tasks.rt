@@ -1,11 +1,12 @@
 //! The tasks of a batch, from asked for to done. No clause says what these calls do.
+use lq_desk_sub::SlotIndex;
 use std::alloc::AllocError;
 use std::sync::Wait;
 
 /// A task, which the thread of its slot is given, carries out and gives back.
 pub trait Task {
-    /// The slot whose thread it is for, 1 to 64.
-    fn slot(&self) -> u64;
+    /// The slot whose thread it is for.
+    fn slot(&self) -> SlotIndex;
 
     /// Carries the task out.
     fn run<R: Wait>(&mut self, rt: &R);
@@ -16,7 +17,7 @@ pub trait Task {
 pub struct Tasks<T: Drop> {
     waiting: Vec<T>,
     done: Vec<T>,
-    // The slots whose threads are to end, each once for each thread.
+    // The numbers of the slots whose threads are to end, each once for each thread.
     ending: Vec<u64>,
     is_over: bool,
 }
@@ -39,8 +40,9 @@ impl<T: Task + Drop> Tasks<T> {
     }
 
     /// The task of a slot, for its thread; `None` where none waits.
-    pub fn begin(&mut self, slot: u64) -> Option<T> {
-        let index = self.waiting.iter().position(|task| task.slot() == slot)?;
+    pub fn begin(&mut self, slot: SlotIndex) -> Option<T> {
+        let at = slot.index();
+        let index = self.waiting.iter().position(|t| t.slot().index() == at)?;
         if index >= self.waiting.len() {
             return None;
         }
@@ -62,8 +64,8 @@ impl<T: Task + Drop> Tasks<T> {
     }
 
     /// Asks one thread of this slot to end. Refused: no memory.
-    pub fn end(&mut self, slot: u64) -> Result<(), AllocError> {
-        self.ending.push(slot)?;
+    pub fn end(&mut self, slot: SlotIndex) -> Result<(), AllocError> {
+        self.ending.push(slot.number())?;
         Ok(())
     }
 
@@ -73,11 +75,12 @@ impl<T: Task + Drop> Tasks<T> {
     }
 
     /// Whether the calling thread, which serves this slot, is to end. If so, it has to.
-    pub fn ends(&mut self, slot: u64) -> bool {
+    pub fn ends(&mut self, slot: SlotIndex) -> bool {
         if self.is_over {
             return true;
         }
-        match self.ending.iter().position(|other| *other == slot) {
+        let number = slot.number();
+        match self.ending.iter().position(|other| *other == number) {
             Some(index) if index < self.ending.len() => {
                 self.ending.swap_remove(index);
                 true

@@ -1,6 +1,6 @@
 //! The threads of the slots, which stay over batches. No clause says what these calls do.
 use crate::tasks::{Task, Tasks};
-use lq_script_desk::SLOTS;
+use lq_desk_sub::{SLOTS, SlotIndex, SlotSet};
 use std::alloc::{AllocError, Global};
 use std::hint::spin_loop;
 use std::sync::atomic::{AtomicU64, Ordering};
@@ -39,14 +39,14 @@ impl<T: Task + Drop> Shared<T> {
 
     // Asks for these tasks, and wakes the thread of each. `done` is empty and has room for them.
     fn ask<R: Wait>(&self, rt: &R, waiting: Vec<T>, done: Vec<T>) {
-        let slots = slots_of(&waiting);
+        let mut slots = slots_of(&waiting);
         let mut tasks = self.tasks.lock(rt);
         self.left.store(waiting.len() as u64, Ordering::SeqCst);
         tasks.ask(waiting, done);
         drop(tasks);
         // Out of the lock, since a thread that wakes takes it at once.
-        for slot in 1..=SLOTS as u64 {
-            if slots & bit_of(slot) != 0 {
+        for _ in 0..SLOTS {
+            if let Some(slot) = slots.pop_lowest() {
                 self.wake(slot);
             }
         }
@@ -76,8 +76,8 @@ impl<T: Task + Drop> Shared<T> {
     }
 
     // The next task of a slot, for its thread, which waits for it; `None` where it is to end.
-    fn next<R: Wait>(&self, rt: &R, slot: u64) -> Option<T> {
-        let condition = self.of_slots.get(index_of(slot))?;
+    fn next<R: Wait>(&self, rt: &R, slot: SlotIndex) -> Option<T> {
+        let condition = self.of_slots.get(slot.index())?;
         let mut tasks = self.tasks.lock(rt);
         for _ in rt.forever() {
             if tasks.ends(slot) {
@@ -104,7 +104,7 @@ impl<T: Task + Drop> Shared<T> {
     }
 
     // Ends a thread of a slot. Refused: no memory.
-    fn end<R: Wait>(&self, rt: &R, slot: u64) -> Result<(), AllocError> {
+    fn end<R: Wait>(&self, rt: &R, slot: SlotIndex) -> Result<(), AllocError> {
         let mut tasks = self.tasks.lock(rt);
         tasks.end(slot)?;
         drop(tasks);
@@ -123,26 +123,20 @@ impl<T: Task + Drop> Shared<T> {
     }
 
     // Wakes the thread of a slot.
-    fn wake(&self, slot: u64) {
-        if let Some(condition) = self.of_slots.get(index_of(slot)) {
+    fn wake(&self, slot: SlotIndex) {
+        if let Some(condition) = self.of_slots.get(slot.index()) {
             condition.notify_one();
         }
     }
 }
 
-// The slots of these tasks, a bit each.
-fn slots_of<T: Task>(tasks: &[T]) -> u64 {
-    tasks
-        .iter()
-        .fold(0, |slots, task| slots | bit_of(task.slot()))
-}
-
-fn bit_of(slot: u64) -> u64 {
-    1 << (slot.wrapping_sub(1) % 64)
-}
-
-fn index_of(slot: u64) -> usize {
-    slot.wrapping_sub(1) as usize
+// The slots of these tasks.
+fn slots_of<T: Task>(tasks: &[T]) -> SlotSet {
+    let mut slots = SlotSet::new();
+    for task in tasks {
+        slots.insert(task.slot());
+    }
+    slots
 }
 
 /// The threads of a run, at most one for each slot beside those that are to end.
@@ -153,7 +147,7 @@ pub struct Workers<'s, E: 's, R, T: Drop> {
     scope: &'s Scope<'s, E>,
     shared: Arc<Shared<T>, Global>,
     // The slots that have a thread.
-    slots: Vec<u64>,
+    slots: SlotSet,
 }
 
 impl<'s, E: 's, R: Wait, T: Task + Drop> Workers<'s, E, R, T> {
@@ -169,19 +163,17 @@ impl<'s, E: 's, R: Wait, T: Task + Drop> Workers<'s, E, R, T> {
             alloc,
             scope,
             shared,
-            slots: Vec::new(alloc),
+            slots: SlotSet::new(),
         })
     }
 
     /// Ends the thread of a slot, where it has one. Refused: no memory.
-    pub fn end(&mut self, slot: u64) -> Result<(), AllocError> {
-        match self.slots.iter().position(|other| *other == slot) {
-            Some(index) if index < self.slots.len() => {
-                self.slots.swap_remove(index);
-                self.shared.end(self.rt, slot)
-            }
-            _ => Ok(()),
+    pub fn end(&mut self, slot: SlotIndex) -> Result<(), AllocError> {
+        if !self.slots.contains(slot) {
+            return Ok(());
         }
+        self.slots.remove(slot);
+        self.shared.end(self.rt, slot)
     }
 
     /// Ends all threads. The scope waits for them.
@@ -221,11 +213,10 @@ impl<'s, E: 's, R: Threads + Wait + Sync, T: Task + Send + Drop + 's> Workers<'s
     }
 
     // Whether a slot has a thread, which is made where there is none. Refused: no memory.
-    fn has_thread(&mut self, slot: u64) -> Result<bool, AllocError> {
-        if self.slots.contains(&slot) {
+    fn has_thread(&mut self, slot: SlotIndex) -> Result<bool, AllocError> {
+        if self.slots.contains(slot) {
             return Ok(true);
         }
-        self.slots.reserve(1)?;
         let rt = self.rt;
         let shared = Arc::try_clone(&self.shared)?;
         if self
@@ -235,7 +226,7 @@ impl<'s, E: 's, R: Threads + Wait + Sync, T: Task + Send + Drop + 's> Workers<'s
         {
             return Ok(false);
         }
-        self.slots.push(slot)?;
+        self.slots.insert(slot);
         Ok(true)
     }
 }
@@ -247,7 +238,7 @@ fn run_each<T: Task, R: Wait>(rt: &R, tasks: &mut [T]) {
 }
 
 // Does each task of a slot, in its thread, until that is to end.
-fn serve_slot<T: Task + Drop, R: Wait>(rt: &R, shared: &Shared<T>, slot: u64) {
+fn serve_slot<T: Task + Drop, R: Wait>(rt: &R, shared: &Shared<T>, slot: SlotIndex) {
     for _ in rt.forever() {
         let Some(mut task) = shared.next(rt, slot) else {
             return;
