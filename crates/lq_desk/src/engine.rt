@@ -8,17 +8,13 @@ ghost use Rattle.lq_volume.specs.Change.{refused, node_of};
 use crate::reply::Reply;
 use crate::slot::Slot;
 use crate::slots::Slots;
-use lq_desk_sub::MAX_BACKLOG;
 use lq_desk_world::{Act, Event};
 use lq_predicate::Predicate;
 use lq_update::{OpenOptions, steps_are_few};
-use lq_value::Refusal;
+use lq_value::{MAX_BACKLOG, MAX_PLACES, Refusal};
 use lq_volume::{Applied, Change, Volume, changes_are_counted};
 use std::alloc::Global;
 use std::marker::Model;
-
-/// The most places of a port.
-const MAX_PLACES: u64 = 1024;
 
 /// The volume, the slots, and the number of openings so far.
 ///

@@ -25,6 +25,6 @@ pub use read::Read;
 pub use slot_index::SlotIndex;
 pub use slot_set::SlotSet;
 pub use slot_table::{SLOTS, SlotTable};
-pub use sub::{MAX_BACKLOG, Sub};
+pub use sub::Sub;
 pub use visit::Visit;
 pub use watch::Watch;

@@ -10,9 +10,6 @@ use lq_value::Refusal;
 use std::alloc::Global;
 use std::marker::Model;
 
-/// The largest backlog, in messages.
-pub const MAX_BACKLOG: u64 = 65_536;
-
 /// One subscription: its query, the messages that it holds and those of a change that isn't made
 /// yet, and its mark.
 pub struct Sub {

@@ -7,11 +7,8 @@ ghost use Rattle.lq_embed.specs.BoundFormula.{Binds, between, first_missing, fir
 use crate::parameters::{Parameter, read_parameters};
 use crate::quoting::put_literal;
 use lq_predicate_formula::one_token_list;
-use lq_value::{Refusal, Value};
+use lq_value::{MAX_FORMULA, Refusal, Value};
 use std::alloc::Global;
-
-/// The most bytes of a formula.
-const MAX_FORMULA: usize = 4096;
 
 /// Why values can't be put in place of a formula's parameters.
 #[derive(Clone, Copy, Drop)]

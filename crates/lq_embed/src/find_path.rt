@@ -5,13 +5,9 @@ ghost use Rattle.lq_embed.specs.PathNames.{FindsPath, name_length, named_request
 ghost use Rattle.lq_embed.specs.SessionState.{holds};
 
 use crate::embedded::Embedded;
+use crate::folders::SLASH;
 use crate::statuses::status;
-use lq_value::Refusal;
-
-const SLASH: u8 = 47;
-
-/// The most bytes of a name.
-const MAX_NAME: usize = 255;
+use lq_value::{MAX_NAME, Refusal};
 
 impl Embedded {
     /// Finds the node at the end of a path from the folder `dir`: its names have one `/` or more

@@ -9,7 +9,8 @@ use crate::statuses::status;
 use lq_value::{Name, Refusal};
 use std::alloc::Global;
 
-const SLASH: u8 = 47;
+/// What separates the names of a path.
+pub(crate) const SLASH: u8 = b'/';
 
 impl Embedded {
     /// The entries in a folder by rising name, which are then to be given; writes how many they

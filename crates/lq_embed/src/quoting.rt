@@ -7,10 +7,7 @@ ghost use Rattle.lq_embed.specs.Quoting.{has_meaning, literal_for, quoted_for};
 
 use crate::out_text::put_nul;
 use itoa::{Buffer, Integer};
-use lq_value::{Op, Refusal, Value};
-
-/// The most bytes of a text.
-const MAX_VALUE_TEXT: usize = 4096;
+use lq_value::{MAX_VALUE_TEXT, Op, Refusal, Value};
 
 /// Writes a text to the start of `out` as a literal that means just this text after `==`, `=` and
 /// `!=`, and answers the literal's size: between `"` marks, with `\` before each `*`, `?`, `[`, `\`

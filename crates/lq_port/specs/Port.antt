@@ -5,7 +5,7 @@ use mathlib.Core.Option.{some}
 use lib.ListN.{get_elem?}
 use Rattle.lq_value.specs.declared.refusal.Refusal.{Refusal}
 use Rattle.lq_value.specs.declared.refusal.Refusal.TheVariants.{BadPort}
-use Rattle.lq_port.specs.declared.ends.TheConstants.{MAX_PLACES}
+use Rattle.lq_value.specs.declared.limits.TheConstants.{MAX_PLACES}
 use Rattle.lq_port.specs.Known.{Known}
 
 -- why a port with this many places is refused

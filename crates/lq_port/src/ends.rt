@@ -8,13 +8,10 @@ use crate::channel::{PortPass, PortReceiver, PortSender, meet, wait_for_ever};
 use crate::item_law::Follows;
 use crate::step_types::{InOrder, Known, Put, Take};
 use crossbeam_channel::{TrySendError, bounded_with};
-use lq_value::Refusal;
+use lq_value::{MAX_PLACES, Refusal};
 use std::alloc::Global;
 use std::marker::{Brand, Model};
 use std::sync::Wait;
-
-/// The most items that a port holds.
-pub const MAX_PLACES: u64 = 1_024;
 
 /// The end of a port for puts.
 ///

@@ -11,5 +11,5 @@ mod ends;
 mod item_law;
 mod step_types;
 
-pub use ends::{MAX_PLACES, PortIn, PortOut, make};
+pub use ends::{PortIn, PortOut, make};
 pub use item_law::Follows;

@@ -10,11 +10,8 @@ use crate::builder::Builder;
 use crate::stop::Stop;
 use arrayvec::ArrayVec;
 use lq_predicate_formula::Token;
-use lq_value::Op;
+use lq_value::{MAX_DEPTH, Op};
 use std::mem;
-
-/// How deep parentheses and `!` may nest.
-const MAX_DEPTH: usize = 64;
 
 // What comes next.
 #[derive(Drop)]

@@ -4,8 +4,8 @@ ghost use Rattle.lq_value.specs.Refusal.{FailsOnlyForMemory};
 ghost use Rattle.lq_value.specs.Compare.{suits};
 
 use crate::literal_source::has_source;
-use lq_predicate_formula::{MAX_CANONICAL, Tree, comparison_size, fit_joined, fits_not};
-use lq_value::{AttrName, Literal, Op, Refusal};
+use lq_predicate_formula::{Tree, comparison_size, fit_joined, fits_not};
+use lq_value::{AttrName, Literal, MAX_FORMULA, Op, Refusal};
 use std::alloc::Global;
 use std::marker::Model;
 
@@ -75,7 +75,7 @@ impl Predicate {
         if !literal.suits(op) || !has_source(&literal) {
             return None;
         }
-        if comparison_size(&attr, op, &literal) > MAX_CANONICAL {
+        if comparison_size(&attr, op, &literal) > MAX_FORMULA {
             return None;
         }
         // Its contract says that an attribute's name is one.

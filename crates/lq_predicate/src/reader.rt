@@ -17,14 +17,8 @@ use crate::sizes::Sizes;
 use crate::stop::Stop;
 use crate::trees::Trees;
 use lq_predicate_formula::{Tree, one_reading, read_is_good};
-use lq_value::Refusal;
+use lq_value::{MAX_DEPTH, MAX_FORMULA, Refusal};
 use std::alloc::{AllocError, Global};
-
-/// The most bytes of a formula, and of a predicate's canonical text.
-const MAX_FORMULA: usize = 4096;
-
-/// How deep a predicate may be.
-const MAX_DEPTH: usize = 64;
 
 /// The predicate that a formula writes, with BQuery's operators.
 ///

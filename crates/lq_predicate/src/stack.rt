@@ -11,12 +11,9 @@ use crate::operand::Operand;
 use crate::predicate::Predicate;
 use crate::stack_item::StackItem;
 use itoa::Buffer;
-use lq_value::{AttrName, Refusal};
+use lq_value::{AttrName, MAX_VALUE_TEXT, Refusal};
 use std::alloc::Global;
 use std::marker::Model;
-
-/// The most bytes of a pushed text.
-const MAX_VALUE_TEXT: usize = 4096;
 
 /// A stack that takes attributes, values and operators in postfix order, as BQuery does, and gives
 /// a predicate.

@@ -9,23 +9,21 @@ ghost use Rattle.lq_predicate_formula.specs.Query.{Compare};
 ghost use Rattle.lq_predicate_formula.specs.PredicateLimits.{is_within};
 ghost use Rattle.lq_predicate.specs.Stack.{star_count, starred};
 
-use lq_predicate_formula::{
-    MAX_CANONICAL, characters_size, comparison_size_with, pattern_size, plain_size,
-};
-use lq_value::{AttrName, Op, Pattern};
+use lq_predicate_formula::{characters_size, comparison_size_with, pattern_size, plain_size};
+use lq_value::{AttrName, MAX_FORMULA, Op, Pattern};
 
 // Whether a comparison with this text is within the limits.
 pub(crate) fn fits_plain(attr: &AttrName, op: Op, text: &str) -> bool
     ensures { result ≡ is_within (Compare attr.now op (literal.Plain text.now)) }
 {
-    comparison_size_with(attr, op, plain_size(text)) <= MAX_CANONICAL
+    comparison_size_with(attr, op, plain_size(text)) <= MAX_FORMULA
 }
 
 // Whether a comparison with this pattern is within the limits.
 pub(crate) fn fits_pattern(attr: &AttrName, op: Op, pattern: &Pattern) -> bool
     ensures { result ≡ is_within (Compare attr.now op (literal.Pattern pattern.now)) }
 {
-    comparison_size_with(attr, op, pattern_size(pattern)) <= MAX_CANONICAL
+    comparison_size_with(attr, op, pattern_size(pattern)) <= MAX_FORMULA
 }
 
 // Whether `Eq` with the characters of a text, and a star before them, after them or both, is
@@ -34,7 +32,7 @@ pub(crate) fn fits_starred(attr: &AttrName, before: bool, text: &str, behind: bo
     ensures { result
         ≡ is_within (Compare attr.now op.Eq (literal.Pattern (starred before text.now behind))) }
 {
-    comparison_size_with(attr, Op::Eq, starred_size(before, text, behind)) <= MAX_CANONICAL
+    comparison_size_with(attr, Op::Eq, starred_size(before, text, behind)) <= MAX_FORMULA
 }
 
 // The pattern with the characters of a text and a star before them, after them or both.

@@ -6,22 +6,14 @@ ghost use Rattle.lq_predicate_formula.specs.PredicateLimits.{is_within};
 
 use crate::size::pair_size;
 use crate::tree::Tree;
-
-/// The greatest depth of a predicate.
-const MAX_DEPTH: usize = 64;
-
-/// The most comparisons of a predicate.
-const MAX_COMPARISONS: u64 = 256;
-
-/// The most bytes of a predicate's canonical text.
-pub const MAX_CANONICAL: usize = 4096;
+use lq_value::{MAX_COMPARISONS, MAX_DEPTH, MAX_FORMULA};
 
 /// Whether `Not` of a tree is within the limits of a predicate. It takes no memory.
 pub fn fits_not(tree: &Tree) -> bool
     requires { comparisons tree.now ≤ 256 }
     ensures { result ≡ is_within (Not tree.now) }
 {
-    tree.is_shallow(MAX_DEPTH - 1) && tree.size() < MAX_CANONICAL
+    tree.is_shallow(MAX_DEPTH - 1) && tree.size() < MAX_FORMULA
 }
 
 /// Whether two trees, joined by `And` or by `Or`, are within the limits of a predicate. It takes no
@@ -35,5 +27,5 @@ pub fn fit_joined(lower: &Tree, upper: &Tree) -> bool
 {
     let shallow = lower.is_shallow(MAX_DEPTH - 1) && upper.is_shallow(MAX_DEPTH - 1);
     let few = lower.comparisons() + upper.comparisons() <= MAX_COMPARISONS;
-    shallow && few && pair_size(lower.size(), upper.size()) <= MAX_CANONICAL
+    shallow && few && pair_size(lower.size(), upper.size()) <= MAX_FORMULA
 }

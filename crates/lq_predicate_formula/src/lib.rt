@@ -26,7 +26,7 @@ mod token;
 mod tree;
 mod writing;
 
-pub use fitting::{MAX_CANONICAL, fit_joined, fits_not};
+pub use fitting::{fit_joined, fits_not};
 pub use laws::{
     bare_rows_fail, canonical_is_read, joined_texts_add, machine_reads, one_reading,
     one_token_list, patterns_are_good, read_is_good, reads_one, truth_goes_by_names,

@@ -23,11 +23,11 @@ use crate::server_state::ServerState;
 use crate::slots::ServerSlots;
 use crate::subscription::Subscription;
 use lq_board::{Board, Keeper, Seat};
-use lq_desk_sub::{MAX_BACKLOG, SlotIndex, Sub};
-use lq_port::{MAX_PLACES, make};
+use lq_desk_sub::{SlotIndex, Sub};
+use lq_port::make;
 use lq_predicate::Predicate;
 use lq_update::{OpenOptions, Rebuild, results_rise};
-use lq_value::Refusal;
+use lq_value::{MAX_BACKLOG, MAX_PLACES, Refusal};
 use lq_volume::Volume;
 use std::alloc::Global;
 

@@ -12,6 +12,7 @@ ghost use Rattle.lq_value.specs.Name.{is_attr_name};
 ghost use Rattle.lq_value.specs.Field.{field_of};
 
 use crate::field::Field;
+use crate::limits::MAX_ATTR_NAME;
 use crate::refusal::Refusal;
 use crate::small_text::SmallText;
 use crate::text::same_text;
@@ -20,9 +21,6 @@ use std::fmt;
 use std::hash::{Hash, Hasher};
 use std::marker::Model;
 use std::sync::Arc;
-
-/// The longest name of an attribute, in bytes.
-pub const MAX_ATTR_NAME: usize = 255;
 
 /// The name of an attribute: 1 to 255 bytes of UTF-8 without NUL.
 ///

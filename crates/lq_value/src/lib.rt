@@ -11,6 +11,7 @@ mod digits;
 mod entry;
 mod field;
 mod kind;
+mod limits;
 mod literal;
 mod name;
 mod name_text;
@@ -24,11 +25,15 @@ mod value;
 mod value_text;
 mod view;
 
-pub use attr_name::{AttrName, MAX_ATTR_NAME};
+pub use attr_name::AttrName;
 pub use digits::number_of_bytes;
 pub use entry::Entry;
 pub use field::Field;
 pub use kind::Kind;
+pub use limits::{
+    MAX_ATTR_NAME, MAX_BACKLOG, MAX_COMPARISONS, MAX_DEPTH, MAX_FORMULA, MAX_NAME, MAX_PLACES,
+    MAX_VALUE_TEXT,
+};
 pub use literal::{Literal, compare};
 pub use lq_value_pattern::{
     Element, FirstItem, FirstPiece, Item, Items, faults_are_found, first_item, first_piece,

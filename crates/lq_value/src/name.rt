@@ -9,6 +9,7 @@ ghost use Rattle.lq_value.specs.Name.{is_name, is_name_byte};
 ghost use Rattle.lq_value.specs.NameHash.{hash_of};
 ghost use Rattle.std.specs.List.{list_all};
 
+use crate::limits::MAX_NAME;
 use crate::name_text::NameText;
 use crate::refusal::Refusal;
 use crate::short_text::ShortText;
@@ -19,9 +20,6 @@ use std::cmp::Ordering;
 use std::fmt;
 use std::marker::Model;
 use std::sync::Arc;
-
-/// The longest name of an entry, in bytes.
-const MAX_NAME: usize = 255;
 
 /// The modulus of a hash before the next byte is added, which keeps 55 bits.
 const KEPT: u64 = 1 << 55;

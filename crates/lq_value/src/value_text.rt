@@ -3,14 +3,12 @@ ghost use Rattle.std.specs.Prelude.{◌≡◌, ◌≤◌, IfOk, length};
 ghost use Rattle.lq_value.specs.Refusal.{FailsOnlyForMemory, IsRefusedBy};
 ghost use Rattle.lq_value.specs.Value.{text_refusal};
 
+use crate::limits::MAX_VALUE_TEXT;
 use crate::refusal::Refusal;
 use crate::small_text::SmallText;
 use std::alloc::Global;
 use std::fmt;
 use std::marker::Model;
-
-/// The longest text of a value, in bytes.
-const MAX_VALUE_TEXT: usize = 4096;
 
 /// The text of a value: at most 4,096 bytes of UTF-8.
 ///

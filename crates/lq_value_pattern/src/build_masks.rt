@@ -6,8 +6,8 @@ ghost use Rattle.lq_value_pattern.specs.Masks.{AreBitsOff, AreFlipped, AreMasks,
 
 use crate::element::{Element, Item};
 
-// The number of ASCII characters.
-const ASCII: usize = 128;
+/// The number of ASCII characters.
+pub(crate) const ASCII: usize = 128;
 
 /// Puts a bit for each element in the masks of the characters that it takes.
 pub(crate) fn put_elements(masks: &mut [u32], elements: &[Element], chars: &[char])

@@ -6,12 +6,9 @@ ghost use Rattle.std.specs.Int.{bit_at};
 ghost use Rattle.lq_value_pattern.specs.Seek.{kept, AreKeptBy, AreOff};
 ghost use Rattle.lq_value_pattern.specs.Masks.{AreCodes, AreMasksOfCodes, AreNextEnds, IsAlphabet, IsAscii, IsEntered};
 
-use crate::build_masks::put_elements;
+use crate::build_masks::{ASCII, put_elements};
 use crate::element::Element;
 use crate::element_runs::kept;
-
-// The number of ASCII characters.
-const ASCII: usize = 128;
 
 // The most places of a text that are read: 512 for one element, and one for each other element.
 const CODES: usize = 544;
