@@ -6,7 +6,7 @@ use denote.Param.SendFields.{declared_send}
 use Rattle.std.proofs.Crossing.{crosses, Vec-send}
 use Rattle.lq_desk_sub.specs.contracts.read.Read as read
 use Rattle.lq_server_slots.specs.declared.server_base.Named.{Ghosts}
-use Rattle.lq_server.specs.contracts.own_tokens.OwnReader as own_reader
+use Rattle.lq_server.specs.contracts.own_reader.OwnReader as own_reader
 use Rattle.lq_server.specs.contracts.server.Server as server
 use Rattle.lq_script.specs.contracts.batch.SlotReads as slot_reads
 

@@ -111,6 +111,14 @@ IsUnread old new =
     × ((mid : ReaderHold) × (x : Synced) × IsSynced old mid x × Fails mid.reading new.reading
     × (new ≡ record mid { reading = new.reading }))
 
+-- a read, without waiting, of a reader whose port was filled
+pub record IsReadAfter (filled new : ReaderHold) (result : Result Read Refusal) : Type 0 where
+  pub refused : FailsOnlyForMemory result
+  pub gives : IfOk result (Gives filled.reading new.reading)
+  pub fails : OnErr result (Fails filled.reading new.reading)
+  pub over : IsSome (mark_read filled.reading) → result ≡ Ok Ended
+  pub rest : new ≡ record filled { reading = new.reading }
+
 -- Old and new are the reader before and after a read that fills its port first and may wait.
 pub record IsWaitingRead (old new : ReaderHold) (result : Result Read Refusal) : Type 0 where
   pub own : IsOwn new

@@ -4,7 +4,7 @@ use Rattle.lq_volume.specs.Book.{Book, Extends}
 use Rattle.lq_board.specs.Token.{SeatToken}
 use Rattle.lq_server_slots.specs.declared.identity.Identity.{Identity}
 use Rattle.lq_server.proofs.ParcelLemmas.{extends_trans}
-use Rattle.lq_server.proofs.own_tokens.OwnSeat.retire.Goals as goal
+use Rattle.lq_server.proofs.own_seat.OwnSeat.retire.Goals as goal
 
 pub returns-clause-retired : goal.returns-clause-retired
 returns-clause-retired g c =

@@ -5,7 +5,7 @@ use Rattle.lq_board.specs.Token.{SeatToken}
 use Rattle.lq_server_slots.specs.declared.identity.Identity.{Identity}
 use Rattle.lq_server.specs.Made.{MakesMore}
 use Rattle.lq_server.proofs.MadeLemmas.{made_by, made_err}
-use Rattle.lq_server.proofs.own_tokens.OwnSeat.apply.Goals as goal
+use Rattle.lq_server.proofs.own_seat.OwnSeat.apply.Goals as goal
 
 pub returns-clause-made : goal.returns-clause-made
 returns-clause-made g c =

@@ -1,14 +1,23 @@
-//! A seat and readers that hold the preconditions of a server's calls as invariants, so that their
-//! own calls require little. Clauses say which changes the seat makes.
-ghost use Rattle.std.specs.Prelude.{◌≡◌, [], ◌∷◌, IfOk, OnErr, true};
+//! A seat that holds the preconditions of a server's calls as invariants, so that its own calls
+//! require little. Clauses say which changes it makes.
+ghost use Rattle.std.specs.Prelude.{◌≡◌, [], ◌∷◌, length, IfOk, IfErr, OnOk, OnErr, IfSome, IfNone, Some, None, Err, true, unwrap_or};
+ghost use Rattle.lq_value.specs.declared.refusal.Refusal.TheVariants.{NoMemory};
+ghost use Rattle.lq_value.specs.Refusal.{FailsOnlyForMemory, IsRefusedBy, first_refusal};
+ghost use Rattle.lq_volume.specs.Book.{state_of};
+ghost use Rattle.lq_volume.specs.Change.{refused};
+ghost use Rattle.lq_volume.specs.Lookup.{entry_refusals, find_refusals, listed};
+ghost use Rattle.lq_volume.specs.Result.{result_of};
+ghost use Rattle.lq_volume.specs.State.{node_in, record_at};
 ghost use Rattle.lq_board.specs.Author.{leader, with_roll};
 ghost use Rattle.lq_board.specs.Roll.{numbers};
+ghost use Rattle.lq_server_slots.specs.Applied.{IsAdded};
+ghost use Rattle.lq_server_slots.specs.Opening.{IsOpeningRefused, size_refusal};
 ghost use Rattle.lq_server.specs.Made.{MakesMore};
+ghost use Rattle.lq_server.specs.Opened.{IsNewReader};
 ghost use Rattle.lq_server.specs.Retired.{IsRetired};
 
-use crate::reader::Reader;
+use crate::own_reader::OwnReader;
 use crate::server::{Retired, Server};
-use lq_desk_sub::Read;
 use lq_predicate::Predicate;
 use lq_server_slots::{Found, Named, Seat};
 use lq_value::{Name, Refusal};
@@ -76,12 +85,15 @@ impl<N: Named> OwnSeat<N> {
         change: &Change,
     ) -> Result<Applied, Refusal>
         ensures made { IfOk result (λ a. MakesMore self.old self.new (a ∷ [])) }
-        ensures err { OnErr result (MakesMore self.old self.new []) }
+        ensures none { OnErr result (MakesMore self.old self.new []) }
+        ensures ok { IfOk result (λ a. IsAdded self.old.book self.new.book a change.now) }
+        ensures err { IfErr result (λ e.
+            e ≡ unwrap_or (refused (state_of self.new.book) change.now) NoMemory) }
     {
         server.apply(rt, &mut self.seat, change)
     }
 
-    /// Opens a live query. Refused as `Server::open` is.
+    /// Opens a live query, with the clauses of `Server::open` that speak of the answer alone.
     #[tactic(auto, using(crate::proofs::MadeLemmas::made_moments))]
     pub fn open<R: Wait>(
         &mut self,
@@ -93,6 +105,10 @@ impl<N: Named> OwnSeat<N> {
         moved: bool,
     ) -> Result<OwnReader<N>, Refusal>
         ensures made { MakesMore self.old self.new [] }
+        ensures opened { IfOk result (λ r.
+            IsNewReader r N.board self.new.book predicate.now moved port backlog) }
+        ensures refused { IfSome (size_refusal port backlog) (λ e. result ≡ Err e) }
+        ensures others { IfNone (size_refusal port backlog) (IfErr result IsOpeningRefused) }
     {
         let reader = server.open(rt, &mut self.seat, predicate, port, backlog, moved)?;
         Ok(OwnReader {
@@ -110,6 +126,10 @@ impl<N: Named> OwnSeat<N> {
         predicate: &Predicate,
     ) -> Result<Found, Refusal>
         ensures made { MakesMore self.old self.new [] }
+        ensures at { IfOk result (λ found. found.at ≡ length self.new.book.changes) }
+        ensures entries { IfOk result (λ found.
+            found.entries.items ≡ result_of predicate.now (state_of self.new.book)) }
+        ensures refused { FailsOnlyForMemory result }
     {
         server.fetch(rt, &mut self.seat, predicate)
     }
@@ -124,6 +144,12 @@ impl<N: Named> OwnSeat<N> {
         name: &Name,
     ) -> Result<u64, Refusal>
         ensures made { MakesMore self.old self.new [] }
+        ensures value { IfOk result (λ node.
+            node_in (state_of self.new.book).records dir name.now ≡ Some node) }
+        ensures ok { OnOk result
+            (first_refusal (find_refusals (state_of self.new.book) dir name.now) ≡ None) }
+        ensures err { IfErr result (λ e.
+            first_refusal (find_refusals (state_of self.new.book) dir name.now) ≡ Some e) }
     {
         server.find(rt, &mut self.seat, dir, name)
     }
@@ -137,6 +163,10 @@ impl<N: Named> OwnSeat<N> {
         node: u64,
     ) -> Result<Listing, Refusal>
         ensures made { MakesMore self.old self.new [] }
+        ensures value { IfOk result (λ listing.
+            record_at (state_of self.new.book) node ≡ Some (listed listing)) }
+        ensures refused { IsRefusedBy result
+            (first_refusal (entry_refusals (state_of self.new.book) node)) }
     {
         server.listing(rt, &mut self.seat, node)
     }
@@ -155,66 +185,5 @@ impl<N: Named> OwnSeat<N> {
         server.meet(rt, &mut seat, &mut head);
         server.dismiss(&mut head, &mut seat);
         server.retire(rt, head)
-    }
-}
-
-/// A reader of N's board, with the seat of its own slot. A contract sees which board it is.
-pub struct OwnReader<N: Named> {
-    reader: Reader,
-    of: PhantomData<N>,
-}
-
-// One call takes it apart, wherever one is dropped.
-impl<N: Named> Drop for OwnReader<N> {
-    fn drop(self) {
-        let OwnReader { reader: _, of: _ } = self;
-    }
-}
-
-impl<N: Named> Model for OwnReader<N> {
-    ghost use Rattle.std.specs.Prelude.{◌≡◌};
-    ghost use Rattle.lq_board.specs.Token.{BoardName};
-    ghost use Rattle.lq_server_slots.specs.Own.{IsOwn};
-
-    ghost Value = { BoardName };
-
-    ghost view = { λ h. h.reader.seat.board };
-
-    ghost invariant = { λ h. (h.reader.seat.board ≡ N.board) × IsOwn h.reader };
-}
-
-impl<N: Named> OwnReader<N> {
-    /// The reader. Its slot and its result are read through it. It takes no lock.
-    pub fn reader(&self) -> &Reader {
-        &self.reader
-    }
-
-    /// Fills its port, and reads the next message or the mark. Refused as `Reader::read` is.
-    pub fn read<R: Wait>(&mut self, rt: &R, server: &Server<N>) -> Result<Read, Refusal> {
-        server.pump(rt, &mut self.reader);
-        self.reader.read(rt)
-    }
-
-    /// Asks for the end of its subscription. It takes no lock.
-    pub fn hang_up(&mut self, server: &Server<N>) {
-        self.reader.hang_up(server);
-    }
-
-    /// Closes its subscription. The answer and the refusals are those of `Server::close`.
-    pub fn close<R: Wait>(&mut self, rt: &R, server: &Server<N>) -> Result<u64, Refusal> {
-        server.close(rt, &mut self.reader)
-    }
-
-    /// Frees its slot. Refused as `Server::finish` is; it then comes back.
-    pub fn finish<R: Wait>(
-        self,
-        rt: &R,
-        server: &Server<N>,
-    ) -> Result<(), (OwnReader<N>, Refusal)> {
-        let OwnReader { reader, of } = self;
-        match server.finish(rt, reader) {
-            Ok(()) => Ok(()),
-            Err((reader, refusal)) => Err((OwnReader { reader, of }, refusal)),
-        }
     }
 }
