@@ -21,6 +21,7 @@ mod lines;
 mod readers;
 mod runner;
 mod server_session;
+mod slot_calls;
 mod tasks;
 mod threads;
 mod workers;

@@ -7,13 +7,12 @@ ghost use Rattle.lq_script.specs.Progress.{AppendsReads};
 
 use crate::batch::{SlotReads, read_beside};
 use crate::gate::Gate;
-use crate::readers::{Readers, slot_of};
+use crate::readers::Readers;
 use crate::workers::Workers;
-use lq_predicate::Predicate;
 use lq_script_desk::{Reply, Response};
 use lq_script_request::{Event, Look, Request};
-use lq_server::{Named, OwnReader, OwnSeat, Server};
-use lq_value::{Entry, Refusal};
+use lq_server::{Named, OwnSeat, Server};
+use lq_value::Refusal;
 use lq_volume::Change;
 use std::alloc::Global;
 use std::sync::Wait;
@@ -22,13 +21,13 @@ use std::thread::Threads;
 /// A seat and the readers at a server, that answer the lines of a script.
 #[derive(Drop)]
 pub struct ServerSession<'s, E: 's, N: Named, R, G> {
-    rt: &'s R,
-    alloc: Global,
-    server: &'s Server<N>,
+    pub(crate) rt: &'s R,
+    pub(crate) alloc: Global,
+    pub(crate) server: &'s Server<N>,
     gate: &'s G,
-    seat: OwnSeat<N>,
-    readers: Readers<N>,
-    workers: Workers<'s, E, R, SlotReads<'s, N, G>>,
+    pub(crate) seat: OwnSeat<N>,
+    pub(crate) readers: Readers<N>,
+    pub(crate) workers: Workers<'s, E, R, SlotReads<'s, N, G>>,
 }
 
 impl<
@@ -143,19 +142,6 @@ impl<
         }
     }
 
-    // The result that was rebuilt from what a slot's reader has read.
-    fn rebuilt(&mut self, slot: u64) -> Result<Response, Refusal>
-        ensures seat { self.new.seat ≡ self.old.seat }
-        ensures none { IfOk result (λ r. change_told (response_of r) ≡ []) }
-    {
-        let reader = self.readers.reader(slot_of(slot)?)?.reader();
-        Ok(Response::Rebuilt {
-            change: reader.last_change(),
-            result: copied(self.alloc, reader.result())?,
-            settled: reader.is_settled(),
-        })
-    }
-
     fn event(&mut self, event: &Event) -> Result<Response, Refusal>
         ensures made { IfOk result (λ r.
             MakesMore self.old.seat self.new.seat (change_told (response_of r))) }
@@ -187,90 +173,4 @@ impl<
         let reply = Reply::Changed(applied);
         Ok(Response::Reply { slot: 0, reply })
     }
-
-    fn open(
-        &mut self,
-        predicate: &Predicate,
-        port: u64,
-        backlog: u64,
-        moved: bool,
-    ) -> Result<Response, Refusal>
-        ensures made { MakesMore self.old.seat self.new.seat [] }
-        ensures none { IfOk result (λ r. change_told (response_of r) ≡ []) }
-    {
-        let reader = self
-            .seat
-            .open(self.rt, self.server, predicate, port, backlog, moved)?;
-        let opened = opened(self.alloc, &reader);
-        self.readers.put(reader);
-        opened
-    }
-
-    fn hang_up(&mut self, slot: u64) -> Result<Response, Refusal>
-        ensures seat { self.new.seat ≡ self.old.seat }
-        ensures none { IfOk result (λ r. change_told (response_of r) ≡ []) }
-    {
-        self.readers.reader(slot_of(slot)?)?.hang_up(self.server);
-        let reply = Reply::Asked;
-        Ok(Response::Reply { slot, reply })
-    }
-
-    fn close(&mut self, slot: u64) -> Result<Response, Refusal>
-        ensures seat { self.new.seat ≡ self.old.seat }
-        ensures none { IfOk result (λ r. change_told (response_of r) ≡ []) }
-    {
-        let change = self
-            .readers
-            .reader(slot_of(slot)?)?
-            .close(self.rt, self.server)?;
-        let reply = Reply::Shut(change);
-        Ok(Response::Reply { slot, reply })
-    }
-
-    fn finish(&mut self, slot: u64) -> Result<Response, Refusal>
-        ensures seat { self.new.seat ≡ self.old.seat }
-        ensures none { IfOk result (λ r. change_told (response_of r) ≡ []) }
-    {
-        let index = slot_of(slot)?;
-        match self.readers.take(index)?.finish(self.rt, self.server) {
-            Ok(()) => {
-                self.workers.end(index)?;
-                Ok(Response::Reply {
-                    slot,
-                    reply: Reply::Finished,
-                })
-            }
-            Err((reader, refusal)) => {
-                self.readers.put(reader);
-                Err(refusal)
-            }
-        }
-    }
-}
-
-// The reply to an opening, with the result then. Refused: `NoMemory`.
-fn opened<N: Named>(alloc: Global, reader: &OwnReader<N>) -> Result<Response, Refusal>
-    ensures none { IfOk result (λ r. change_told (response_of r) ≡ []) }
-{
-    let reader = reader.reader();
-    let slot = reader.slot();
-    let reply = Reply::Opened {
-        slot,
-        at: reader.last_change(),
-        result: copied(alloc, reader.result())?,
-    };
-    Ok(Response::Reply { slot, reply })
-}
-
-// A copy of the entries. Refused: `NoMemory`.
-fn copied(alloc: Global, entries: &[Entry]) -> Result<Vec<Entry>, Refusal> {
-    let mut copy = Vec::with_capacity(alloc, entries.len())?;
-    for entry in entries {
-        copy.push(Entry {
-            dir: entry.dir,
-            name: entry.name.copy(alloc)?,
-            node: entry.node,
-        })?;
-    }
-    Ok(copy)
 }

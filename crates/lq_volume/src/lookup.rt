@@ -11,7 +11,8 @@ use lq_volume_entries::{RecordFilter, StoredRecord};
 
 impl Volume {
     ghost use Rattle.lq_value.specs.Refusal.{FailsOnlyForMemory, IsRefusedBy, first_refusal};
-    ghost use Rattle.lq_volume.specs.State.{root, record_at, node_in};
+    ghost use Rattle.lq_volume.specs.State.{root, kind_at, is_taken, record_at, node_in};
+    ghost use Rattle.lq_volume.specs.Change.{other_at};
     ghost use Rattle.lq_volume.specs.Lookup.{find_refusals, entry_refusals, children_refusals, path_refusals, listed};
     ghost use Rattle.lq_volume_entries.specs.Folder.{AreChildren, Leads};
     ghost use Rattle.lq_volume.specs.Result.{result_of};
@@ -106,6 +107,31 @@ impl Volume {
             entries.items ≡ result_of predicate.now self.now) }
     {
         self.entries.fetch(&Matching { predicate })
+    }
+
+    pub(crate) fn kind(&self, node: u64) -> Option<Kind>
+        ensures { result ≡ kind_at self.now node }
+    {
+        if node == ROOT {
+            return Some(Kind::Folder);
+        }
+        Some(self.entries.get(node)?.kind())
+    }
+
+    pub(crate) fn is_taken(&self, dir: u64, name: &Name) -> bool
+        ensures { result ≡ is_taken self.now dir name.now }
+    {
+        self.entries.node_in(dir, name).is_some()
+    }
+
+    // The node at the place, if it is another one.
+    pub(crate) fn other_at(&self, node: u64, dir: u64, name: &Name) -> Option<u64>
+        ensures { result ≡ other_at self.now node dir name.now }
+    {
+        match self.entries.node_in(dir, name) {
+            None => None,
+            Some(there) => { if there == node { None } else { Some(there) } }
+        }
     }
 }
 

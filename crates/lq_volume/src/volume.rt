@@ -3,7 +3,7 @@ ghost use Rattle.std.specs.Prelude.{◌≡◌, ◌≤◌, ◌+◌, Some, None, I
 
 use crate::change::{Applied, Change};
 use crate::laws::accepted_changes_keep_trees;
-use lq_value::{Kind, Name, Refusal};
+use lq_value::Refusal;
 use lq_volume_entries::{Entries, StoredRecord, records_are_kept};
 use std::alloc::Global;
 use std::fmt;
@@ -83,8 +83,8 @@ impl Model for Volume {
 
 impl Volume {
     ghost use Rattle.lq_value.specs.Refusal.{FailsOnlyForMemory, IsRefusedBy};
-    ghost use Rattle.lq_volume.specs.State.{empty_state, kind_at, is_taken, IsVolume};
-    ghost use Rattle.lq_volume.specs.Change.{refused, after, node_of, other_at, is_full, IsLawful};
+    ghost use Rattle.lq_volume.specs.State.{empty_state, IsVolume};
+    ghost use Rattle.lq_volume.specs.Change.{refused, after, node_of, is_full, IsLawful};
 
     /// A volume with the root alone. It accepts at most `limit` changes, 1 to 1,000,000,000,000.
     ///
@@ -237,31 +237,6 @@ impl Volume {
         Applied {
             change: self.changes + 1,
             node,
-        }
-    }
-
-    pub(crate) fn kind(&self, node: u64) -> Option<Kind>
-        ensures { result ≡ kind_at self.now node }
-    {
-        if node == ROOT {
-            return Some(Kind::Folder);
-        }
-        Some(self.entries.get(node)?.kind())
-    }
-
-    pub(crate) fn is_taken(&self, dir: u64, name: &Name) -> bool
-        ensures { result ≡ is_taken self.now dir name.now }
-    {
-        self.entries.node_in(dir, name).is_some()
-    }
-
-    // The node at the place, if it is another one.
-    pub(crate) fn other_at(&self, node: u64, dir: u64, name: &Name) -> Option<u64>
-        ensures { result ≡ other_at self.now node dir name.now }
-    {
-        match self.entries.node_in(dir, name) {
-            None => None,
-            Some(there) => { if there == node { None } else { Some(there) } }
         }
     }
 

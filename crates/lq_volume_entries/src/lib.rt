@@ -15,6 +15,7 @@ mod entries;
 mod laws;
 mod node_hash;
 mod places;
+mod record_changes;
 mod record_filter;
 mod records;
 mod stored_record;

@@ -1,6 +1,6 @@
 //! The records of a volume, found by node in a hash map.
-ghost use Rattle.std.specs.Prelude.{◌≡◌, ◌==◌, ◌<◌, ◌^◌, [], ◌∷◌, ◌++◌, length, filter, map, nat_eq, not, reverse, IfErr, IfOk, OnErr, OnOk};
-ghost use Rattle.std.specs.List.{AllByRecursion, IsDistinct};
+ghost use Rattle.std.specs.Prelude.{◌≡◌, [], length, filter, map, nat_eq, reverse, IfOk, OnOk};
+ghost use Rattle.std.specs.List.{IsDistinct};
 ghost use Rattle.std.specs.List.Sorted.{IsStrictlyIncreasing};
 ghost use Rattle.std.specs.Map.{keys_of, lookup};
 ghost use Rattle.std.specs.Option.{option_copied};
@@ -12,7 +12,7 @@ use crate::node_hash::NodeHashes;
 use crate::record_filter::RecordFilter;
 use crate::stored_record::StoredRecord;
 use indexmap::IndexMap;
-use lq_value::{AttrName, Entry, Name, Refusal, Value};
+use lq_value::{Entry, Name, Refusal};
 use std::alloc::Global;
 use std::marker::Model;
 
@@ -22,7 +22,7 @@ use std::marker::Model;
 /// except when the map grows. Contracts see a list by rising node.
 #[derive(Drop)]
 pub struct Records {
-    stored: IndexMap<u64, StoredRecord, NodeHashes>,
+    pub(crate) stored: IndexMap<u64, StoredRecord, NodeHashes>,
 }
 
 impl Model for Records {
@@ -41,7 +41,6 @@ impl Records {
     ghost use Rattle.lq_volume_entries.specs.Record.{Rises, climbs, dir_of, root};
     ghost use Rattle.lq_volume_entries.specs.Folder.{Leads, CanClimb, HasNodesIn, entries_in, entry_in, with_entry};
     ghost use Rattle.lq_volume_entries.specs.PlaceIndex.{is_named};
-    ghost use Rattle.lq_volume_entries.specs.Edits.{without, altered, at_place, rewritten, set_attr, remove_attr};
 
     /// No records. It takes no memory.
     pub fn new(alloc: Global) -> Records
@@ -183,77 +182,6 @@ impl Records {
         // Linear where the nodes rise already, as long as nothing was ever removed.
         entries.sort_unstable_by_key(|entry| entry.node);
         Ok(entries)
-    }
-
-    /// Adds a record under a node above all others, or gives it back where there is no memory.
-    pub fn add(&mut self, node: u64, stored: StoredRecord) -> Result<(), StoredRecord>
-        requires { AllByRecursion (λ e. e.0 < node) self.old }
-        ensures ok { OnOk result (self.new ≡ self.old ++ (node, stored) ∷ []) }
-        ensures err { OnErr result (self.new ≡ self.old) }
-        ensures back { IfErr result (λ back. back ≡ stored) }
-    {
-        match self.stored.insert(node, stored) {
-            Ok(_) => Ok(()),
-            Err(failed) => Err(failed.value.1),
-        }
-    }
-
-    /// Removes a node's record, and gives it.
-    pub fn remove(&mut self, node: u64) -> Option<StoredRecord>
-        ensures record { result ≡ lookup (nat_eq node) self.old }
-        ensures rise { Rises self.old }
-        ensures left { self.new ≡ filter (λ e. not (e.0 == node)) self.old }
-    {
-        self.stored.swap_remove(&node)
-    }
-
-    /// Removes a node's record, if a node is given.
-    pub fn remove_if(&mut self, node: Option<u64>)
-        ensures { self.new ≡ without node self.old }
-    {
-        if let Some(node) = node {
-            self.remove(node);
-        }
-    }
-
-    /// Moves a node to another place.
-    pub fn relocate(&mut self, node: u64, dir: u64, name: Name)
-        ensures { self.new ≡ altered node (at_place dir name) self.old }
-    {
-        if let Some(record) = self.stored.get_mut(&node) {
-            record.relocate(dir, name);
-        }
-    }
-
-    /// Sets a node's size and time.
-    pub fn write(&mut self, node: u64, size: u64, time: i64)
-        requires { size < 2 ^ 63 }
-        ensures { self.new ≡ altered node (rewritten size time) self.old }
-    {
-        if let Some(record) = self.stored.get_mut(&node) {
-            record.write(size, time);
-        }
-    }
-
-    /// Sets an attribute of a node. Refused: `NoMemory`; a refused call changes nothing.
-    pub fn set_attr(&mut self, node: u64, attr: AttrName, value: Value) -> Result<(), Refusal>
-        ensures refused { FailsOnlyForMemory result }
-        ensures ok { OnOk result (self.new ≡ altered node (set_attr attr value) self.old) }
-        ensures err { OnErr result (self.new ≡ self.old) }
-    {
-        if let Some(record) = self.stored.get_mut(&node) {
-            record.set_attr(attr, value)?;
-        }
-        Ok(())
-    }
-
-    /// Removes an attribute of a node.
-    pub fn remove_attr(&mut self, node: u64, attr: &AttrName)
-        ensures { self.new ≡ altered node (remove_attr attr.now) self.old }
-    {
-        if let Some(record) = self.stored.get_mut(&node) {
-            record.remove_attr(attr);
-        }
     }
 }
 
