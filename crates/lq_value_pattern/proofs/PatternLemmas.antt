@@ -1,7 +1,7 @@
 -- What a pattern's test says of splits of a text, and what plain elements fit.
 use Rattle.std.proofs.Common.{◌≡◌, ◌≤◌, ◌<◌, ◌+◌, ℕ, zero, suc, List, [], ◌∷◌, ◌++◌, Bool, true, None, length, take, drop, get_or, refl, sym, ap, ◌∙◌, inl, inr, arith, append-nil, take-append-drop, drop-drop, drop-cons, eqb-true, eq-eqb, option_map, chars, IsUtf8, encode_utf8, encode_utf8_all}
 use Rattle.std.proofs.lemmas.Bool.{and_parts, or_cases, or_right, false≢true}
-use Rattle.std.proofs.lemmas.List.{take_more}
+use Rattle.std.proofs.lemmas.List.{map-append, take_more}
 use Rattle.std.proofs.lemmas.List.Prefix.{front_rest}
 use Rattle.std.proofs.lemmas.Str.{encodes-chars, encodes-append, chars_from_encodes}
 use Rattle.lq_value_pattern.specs.declared.element.Element.{Element}
@@ -68,12 +68,6 @@ fits-complete (Set n is ∷ es) cs h =
 
 -- ---- the text of plain elements, character by character
 
--- plain elements, and one character more
-plain_elements-push : (cs : List ℕ) (c : ℕ)
-    → plain_elements (cs ++ c ∷ []) ≡ plain_elements cs ++ Plain c ∷ []
-plain_elements-push [] c = refl
-plain_elements-push (d ∷ cs) c = ap (λ es. Plain d ∷ es) (plain_elements-push cs c)
-
 -- the characters of a text to which one more is added
 chars-push : (a b : List ℕ) (c : ℕ) → IsUtf8 a → IsUtf8 b → b ≡ a ++ encode_utf8 c
     → chars b ≡ chars a ++ c ∷ []
@@ -87,7 +81,7 @@ pub text_more : (es : List Element) (i : ℕ) (x : Element) (c : ℕ) (a b : Lis
     → i < length es → x ≡ get_or es i x → x ≡ Plain c → IsUtf8 a → IsUtf8 b → b ≡ a ++ encode_utf8 c
     → plain_elements (chars a) ≡ take i es → plain_elements (chars b) ≡ take (i + 1) es
 text_more es i x c a b h is plain u v e so_far =
-    cc (chars-push a b c u v e, plain_elements-push (chars a) c, take_more es i x h)
+    cc (chars-push a b c u v e, map-append (λ d. Plain d) (chars a) (c ∷ []), take_more es i x h)
 
 -- an element that is no plain character has no plain text
 not_plain : (cs : List ℕ) (x : Element) (rest : List Element) → ((c : ℕ) → x ≡ Plain c → ⊥)

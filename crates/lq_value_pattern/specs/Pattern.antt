@@ -1,6 +1,6 @@
 -- When a pattern fits a text: some split of the text into one part for each element, in order, lets
 -- each part fit its element. A text is the list of its characters.
-use Rattle.std.specs.Prelude.{◌≡◌, ℕ, List, [], ◌∷◌, ◌++◌, Bool, true, false, not, ◌&&◌, ◌||◌, Option, Some, None}
+use Rattle.std.specs.Prelude.{◌≡◌, ℕ, List, [], ◌∷◌, ◌++◌, Bool, true, false, not, ◌&&◌, ◌||◌, map, Option, Some, None}
 use Rattle.std.specs.Option.{option_map}
 use Rattle.std.specs.Str.{chars}
 use Rattle.std.specs.String.{string_bytes}
@@ -52,8 +52,7 @@ plain_chars (e ∷ es) = None
 
 -- one plain element for each character
 abbrev pub plain_elements : List ℕ → List Element
-plain_elements [] = []
-plain_elements (c ∷ cs) = Plain c ∷ plain_elements cs
+plain_elements cs = map (λ c. Plain c) cs
 
 -- a star or nothing
 abbrev pub star_if : Bool → List Element
