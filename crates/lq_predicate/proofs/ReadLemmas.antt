@@ -8,6 +8,7 @@ use Rattle.lq_predicate_formula.specs.Faults.{HasOneReading, IsFaulty, IsReading
 use Rattle.lq_predicate_formula.specs.Machine.{MachineState, step_token}
 use Rattle.lq_predicate_formula.specs.MachineReading.{finished, pattern_fault}
 use Rattle.lq_predicate_formula.specs.Query.{Query}
+use Rattle.lq_predicate_formula.specs.Reading.{reading_of}
 use Rattle.lq_predicate_formula.specs.Tokens.{HasOneTokenList, Placed, Yields}
 use Rattle.lq_predicate.specs.Building.{IsWholeOf, stop_in_text}
 use Rattle.lq_predicate.specs.QuerySize.{query_size}
@@ -75,7 +76,7 @@ too_great text q e h same (inr (shallow, long)) =
     (lt-leb (length (canonical q)) most_bytes (omega (arith, b, long))) h
 
 -- in a text that reads, a whole query is what it reads as
-pub whole_reads : (text : List ℕ) (tree : Query) → HasOneReading text
+pub whole_reads : (text : List ℕ) (tree : Query) → HasOneReading text (reading_of text)
     → (r : Query) × Reads text r
     → (q : Query) × IsReading text (finished (length text) (Some q)) × (tree ≡ q)
     → Reads text tree

@@ -6,6 +6,7 @@ pub mod Stack
 pub use Rattle.lq_predicate_formula.specs.Query
 pub use Rattle.lq_predicate_formula.specs.Canonical
 pub use Rattle.lq_predicate_formula.specs.Faults
+pub use Rattle.lq_predicate_formula.specs.Reading
 pub use Rattle.lq_predicate_formula.specs.QueryCode
 pub use Rattle.lq_predicate_formula.specs.PredicateLimits
 pub use Rattle.lq_predicate_formula.specs.Truth
@@ -17,5 +18,4 @@ pub mod Made
 pub mod Building
 pub mod QuerySize
 pub mod TreeParts
-pub mod Reading
 pub mod Refusals

@@ -8,8 +8,10 @@ use Rattle.lq_predicate_formula.specs.Canonical.{canonical, comparisons, depth}
 use Rattle.lq_predicate_formula.specs.Grammar.{IsFormula, nesting}
 use Rattle.lq_predicate_formula.specs.Machine.{start, run_tokens, finished_query}
 use Rattle.lq_predicate_formula.specs.Faults.{AreFine, HasOneReading, IsFaultOf, too_long, at_token, ends_early, too_much, IsReading, Reads, most_bytes, most_comparisons, most_depth}
+use Rattle.lq_predicate_formula.specs.Lexing.{tokens_of}
 use Rattle.lq_predicate_formula.specs.MachineReading.{finished, machine_reading, read_tokens}
-use Rattle.lq_predicate_formula.proofs.TokenLemmas.{one_token_list, tokens_same}
+use Rattle.lq_predicate_formula.specs.Reading.{reading_of}
+use Rattle.lq_predicate_formula.proofs.TokenLemmas.{has_found, tokens_same}
 use Rattle.lq_predicate_formula.proofs.CompleteLemmas.{formula_runs}
 use Rattle.lq_predicate_formula.proofs.StoppedLemmas.{fault_is, Passes, seen_fine, next, Stops, at_one, behind_all, stops}
 use Rattle.lq_predicate_formula.proofs.MoveLemmas.{comes, steps_run}
@@ -180,11 +182,9 @@ module _ (text : List ℕ) (ts : List Placed) (has : HasTokens 0 text ts) where
       ∙ finished_big (length text) q over ∙ ap Err (sym at)
 
 -- each text has one reading
-pub one_reading : (text : List ℕ) → HasOneReading text
-one_reading text =
-    let list = one_token_list 0 text in
-    record {
-      reading = machine_reading text list.tokens;
-      is = machine_reads text list.tokens list.has;
-      only = λ other h. sym (found text list.tokens list.has other h);
-    }
+pub one_reading : (text : List ℕ) → HasOneReading text (reading_of text)
+unfolding reading_of
+one_reading text = record {
+  is = machine_reads text (tokens_of 0 text) (has_found 0 text);
+  only = λ other h. sym (found text (tokens_of 0 text) (has_found 0 text) other h);
+}

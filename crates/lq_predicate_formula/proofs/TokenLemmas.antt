@@ -2,7 +2,7 @@
 use Rattle.std.proofs.Common.{◌≡◌, ◌<◌, ◌≤◌, ◌+◌, ℕ, zero, suc, true, false, List, [], ◌∷◌, length, get_or, drop, refl, sym, ap, ap₂, ◌∙◌, arith, subst, length-drop}
 use Rattle.lq_predicate_formula.specs.Bytes.{is_space}
 use Rattle.lq_predicate_formula.specs.Tokens.{Placed, HasOneTokenList, HasTokens}
-use Rattle.lq_predicate_formula.specs.Lexing.{spaces, is_symbol, symbol_front, front, front_at, placed_at, trimmed}
+use Rattle.lq_predicate_formula.specs.Lexing.{spaces, is_symbol, symbol_front, front, front_at, trimmed, first_and, tokens_within, tokens_of}
 use Rattle.lq_predicate_formula.proofs.SignLemmas.{HasFronts, front_stands, token_starts, tokens_by, tokens_of_fronts, trimmed_begun}
 
 -- what stands at the front of a text has a size
@@ -18,17 +18,6 @@ pub front_symbol : (bs : List ℕ) → 0 < length bs → is_symbol (get_or bs 0 
     → front_at bs ≡ symbol_front (get_or bs 0 0) (drop 1 bs)
 front_symbol [] h e = absurd (omega arith)
 front_symbol (b ∷ bs) h e = rw e
-
--- the token at the start of trimmed bytes, and those after it
-abbrev first_and : ℕ → List ℕ → (ℕ → List ℕ → List Placed) → List Placed
-first_and at [] others = []
-first_and at (b ∷ bs) others =
-    placed_at at (front b bs) ∷ others (at + (front b bs).size) (drop (front b bs).size (b ∷ bs))
-
--- the tokens that the lexer finds in the text, at most this many
-tokens_within : ℕ → ℕ → List ℕ → List Placed
-tokens_within zero at bs = []
-tokens_within (suc most) at bs = first_and (at + spaces bs) (trimmed bs) (tokens_within most)
 
 -- the first token and those behind it, where those are had
 has_first : (n at : ℕ) (bs cs : List ℕ) → trimmed bs ≡ cs → length cs ≤ suc n
@@ -79,9 +68,15 @@ pub tokens_same : (ts us : List Placed) (at : ℕ) (bs : List ℕ)
 tokens_same ts us at bs h k =
     fronts_same ts us at bs (tokens_by ts at bs h) (tokens_by us at bs k)
 
+-- a text has the tokens that the lexer finds
+pub has_found : (at : ℕ) (bs : List ℕ) → HasTokens at bs (tokens_of at bs)
+has_found at bs =
+    tokens_of_fronts (tokens_of at bs) at bs (has_within (length bs) at bs (omega arith))
+
 -- each text has one list of tokens
 pub one_token_list : (at : ℕ) (bs : List ℕ) → HasOneTokenList at bs
-one_token_list at bs =
-    let ts = tokens_within (length bs) at bs in
-    let has = tokens_of_fronts ts at bs (has_within (length bs) at bs (omega arith)) in
-    record { tokens = ts; has = has; only = λ others h. tokens_same others ts at bs h has }
+one_token_list at bs = record {
+  tokens = tokens_of at bs;
+  has = has_found at bs;
+  only = λ others h. tokens_same others (tokens_of at bs) at bs h (has_found at bs);
+}

@@ -1,7 +1,7 @@
 -- Canonical texts, a piece at a time.
 use Rattle.std.proofs.Common.{◌≡◌, ℕ, List, [], ◌∷◌, ◌++◌, append_assoc, refl, sym, ap, ◌∙◌, arith, Bool, true, false, ◌+◌, ◌<◌, length, drop, get_or}
 use Rattle.std.proofs.lemmas.Bool.{ne_eqb}
-use Rattle.std.proofs.lemmas.List.{at_drop_more, append-nil}
+use Rattle.std.proofs.lemmas.List.{at_drop_more, append-nil, map-append}
 use Rattle.std.proofs.lemmas.Str.{encode_ascii, encodes-append}
 use Rattle.std.proofs.Math.Dec.{lit<}
 use Rattle.std.specs.Prelude.{if◌then◌else◌, ◌||◌, ◌==◌, encode_utf8}
@@ -34,12 +34,6 @@ pub attr_then-append : (name xs rest : List ℕ)
     → attr_then name (xs ++ rest) ≡ attr_then name xs ++ rest
 attr_then-append name xs rest = if-append (list_all is_bare_byte name) _ _ rest
     (sym (append_assoc name xs rest)) (in_marks-append (quoted name) xs rest)
-
--- the characters of two lists as plain ones
-pub plain_elements-push : (cs : List ℕ) (c : ℕ)
-    → plain_elements (cs ++ c ∷ []) ≡ plain_elements cs ++ element.Plain c ∷ []
-plain_elements-push [] c = refl
-plain_elements-push (d ∷ cs) c = ap (λ es. element.Plain d ∷ es) (plain_elements-push cs c)
 
 -- two texts are quoted one after the other
 pub quoted-append : (xs ys : List ℕ) → quoted (xs ++ ys) ≡ quoted xs ++ quoted ys
@@ -154,7 +148,8 @@ pub plain_step : (cs : List ℕ) (c : ℕ)
     → encode_utf8_all (pattern_text (plain_elements (cs ++ c ∷ [])))
     ≡ encode_utf8_all (pattern_text (plain_elements cs)) ++ encode_utf8_all (plain_then c [])
 plain_step cs c =
-    ap (λ es. encode_utf8_all (pattern_text es)) (plain_elements-push cs c)
+    ap (λ es. encode_utf8_all (pattern_text es))
+    (map-append (λ d. element.Plain d) cs (c ∷ []))
     ∙ ap encode_utf8_all (pattern_text-append (plain_elements cs) (element.Plain c ∷ []))
     ∙ encodes-append (pattern_text (plain_elements cs)) (plain_then c [])
 

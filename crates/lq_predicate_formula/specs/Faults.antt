@@ -121,7 +121,6 @@ IsReading text (Err place) = IsFaulty text place
 
 -- The text has this reading, and no other: it reads as just one query and isn't faulty, or it has
 -- its leftmost fault at just one place and reads as no query.
-pub record HasOneReading (text : List ℕ) : Type 0 where
-  pub reading : Result Query ℕ
+pub record HasOneReading (text : List ℕ) (reading : Result Query ℕ) : Type 0 where
   pub is : IsReading text reading
   pub only : (other : Result Query ℕ) → IsReading text other → other ≡ reading

@@ -1,6 +1,6 @@
--- The token at the start of a text as the lexer finds it, for the contracts of private functions.
--- It is the one that `specs/Tokens` allows, as the contract of `next_token` says.
-use Rattle.std.specs.Prelude.{◌≡◌, ℕ, suc, ◌+◌, ◌<◌, ◌==◌, ◌||◌, if◌then◌else◌, Bool, true, false, List, [], ◌∷◌, length, take, drop, Option, Some, None, option_map}
+-- The tokens of a text as the lexer finds them, for `specs/Reading` and the contracts of private
+-- functions. They are those that `specs/Tokens` allows, as the contract of `next_token` says.
+use Rattle.std.specs.Prelude.{◌≡◌, ℕ, zero, suc, ◌+◌, ◌<◌, ◌==◌, ◌||◌, if◌then◌else◌, Bool, true, false, List, [], ◌∷◌, length, take, drop, Option, Some, None, option_map}
 use Rattle.lq_value.specs.declared.op.Op.TheVariants.{Eq, Ne, Lt, Le, Gt, Ge}
 use Rattle.lq_predicate_formula.specs.Bytes.{is_space, ends_word}
 use Rattle.lq_predicate_formula.specs.Tokens.{Token, opens, closes, bang, ands, ors, op, word, lone, cut, Placed}
@@ -95,3 +95,18 @@ BeginsBy at bs t next rest = (0 < length bs) × (t ≡ placed_at at (front_at bs
 -- the text after its white space
 abbrev pub trimmed : List ℕ → List ℕ
 trimmed bs = drop (spaces bs) bs
+
+-- the token at the start of trimmed bytes, and those after it
+abbrev pub first_and : ℕ → List ℕ → (ℕ → List ℕ → List Placed) → List Placed
+first_and at [] others = []
+first_and at (b ∷ bs) others =
+    placed_at at (front b bs) ∷ others (at + (front b bs).size) (drop (front b bs).size (b ∷ bs))
+
+-- the tokens of the text from an offset on, at most this many
+unfoldable pub tokens_within : ℕ → ℕ → List ℕ → List Placed
+tokens_within zero at bs = []
+tokens_within (suc most) at bs = first_and (at + spaces bs) (trimmed bs) (tokens_within most)
+
+-- all tokens of the text from an offset on: each has a byte or more
+abbrev pub tokens_of : ℕ → List ℕ → List Placed
+tokens_of at bs = tokens_within (length bs) at bs

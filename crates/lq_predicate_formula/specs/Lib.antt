@@ -9,6 +9,7 @@ pub mod Machine
 pub mod Canonical
 pub mod Faults
 pub mod MachineReading
+pub mod Reading
 pub mod Limits
 pub mod Laws
 pub mod Capped

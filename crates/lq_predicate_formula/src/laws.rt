@@ -4,6 +4,7 @@ ghost use Rattle.std.specs.Prelude.{◌≡◌, ℕ, List};
 ghost use Rattle.lq_predicate_formula.specs.Faults.{HasOneReading};
 ghost use Rattle.lq_predicate_formula.specs.Tokens.{HasOneTokenList, Token};
 ghost use Rattle.lq_predicate_formula.specs.Query.{Query};
+ghost use Rattle.lq_predicate_formula.specs.Reading.{reading_of};
 ghost use Rattle.lq_predicate_formula.specs.Grammar.{IsFormula};
 ghost use Rattle.lq_predicate_formula.specs.Laws.{BareRowsFail, CanonicalIsRead, JoinedTextsAdd, MachineReads, PatternsAreGood, ReadIsGood, TruthGoesByNames, TruthStaysBesideSpans};
 
@@ -21,8 +22,9 @@ pub fn reads_one()
 {}
 
 /// Each text reads as just one query, or has its leftmost fault at just one place, and never both.
+/// `reading_of` of `specs/Reading` is this reading.
 pub fn one_reading()
-    ensures { (text : List ℕ) → HasOneReading text }
+    ensures { (text : List ℕ) → HasOneReading text (reading_of text) }
 {}
 
 /// What the machine makes of a text's tokens, one after another, is the reading of the text.

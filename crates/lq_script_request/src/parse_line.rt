@@ -10,7 +10,7 @@ use crate::raw_request::{RawRequest, raw_request_in};
 use crate::request::{Look, Request};
 use crate::scratch::{RecentAttrs, Scratch};
 use lq_desk_world::Event;
-use lq_predicate::read;
+use lq_predicate::{one_reading, read};
 use lq_value::{Kind, Name, Refusal, View};
 use lq_volume::Change;
 use serde_json::Value;
@@ -198,6 +198,7 @@ fn opening(
     ensures refused { IfErr result (λ e. (e ≡ NoMemory)
         ⊎ (request_for (asks_open query.now port backlog moved) ≡ Err e)) }
 {
+    one_reading();
     let predicate = read(alloc, query)?;
     Ok(Request::Event(Event::Open {
         predicate,
@@ -225,6 +226,7 @@ fn fetching(alloc: Global, query: &str) -> Result<Request, Refusal>
     ensures refused { IfErr result (λ e. (e ≡ NoMemory)
         ⊎ (request_for (asks_fetch query.now) ≡ Err e)) }
 {
+    one_reading();
     let predicate = read(alloc, query)?;
     Ok(Request::Look(Look::Fetch { predicate }))
 }

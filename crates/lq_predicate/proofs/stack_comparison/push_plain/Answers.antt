@@ -1,15 +1,15 @@
-use Rattle.std.proofs.Common.{ap, sym, ◌∙◌, ◌++◌, arith}
+use Rattle.std.proofs.Common.{ap, sym, ◌∙◌, ◌++◌, ◌∷◌, [], arith}
 use Rattle.std.proofs.lemmas.Iterator.{YieldsList-from_chars}
 use Rattle.std.proofs.lemmas.Iterator.Consumers.{YieldsList-end}
 use Rattle.std.proofs.lemmas.Grind.{common_steps}
-use Rattle.std.proofs.lemmas.List.{map-id}
+use Rattle.std.proofs.lemmas.List.{map-append, map-id}
+use Rattle.lq_value.specs.Element.TheVariants.{Plain}
 use Rattle.lq_value.specs.Pattern.{plain_elements}
-use Rattle.lq_predicate_formula.proofs.WritingLemmas.{plain_elements-push}
 use Rattle.lq_predicate.proofs.stack_comparison.push_plain.Goals as goal
 
 pub loop-c-preserved : goal.loop-c-preserved
 loop-c-preserved c =
-    let more = plain_elements-push c.loop-c.yielded c.in-Some.c in
+    let more = map-append (λ d. Plain d) c.loop-c.yielded (c.in-Some.c ∷ []) in
     grind (arith, common_steps)
 
 pub returns-clause-value : goal.returns-clause-value

@@ -7,9 +7,10 @@ pub returns-in_err-predicate-clause-refused : goal.returns-in_err-predicate-clau
 returns-in_err-predicate-clause-refused c =
     let e = c.in_err-predicate.field-0.0 in
     let is : c.from_residual.result ≡ Err e = search rules in
-    rw is (reading_of-refused c.args.query.now e fetching_or (λ place. refl)
-    c.in_err-predicate.ensures.fails)
+    rw is (reading_of-refused c.args.query.now e fetching_or (c.one_reading.ensures _)
+    (λ place. refl) c.in_err-predicate.ensures.fails)
 
 pub returns-clause-value : goal.returns-clause-value
 returns-clause-value c = ap fetching_or
-    (reading_of-reads c.args.query.now c.in_ok-predicate.predicate c.in_ok-predicate.ensures.reads)
+    (reading_of-reads c.args.query.now c.in_ok-predicate.predicate (c.one_reading.ensures _)
+    c.in_ok-predicate.ensures.reads)
