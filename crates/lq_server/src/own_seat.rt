@@ -85,9 +85,9 @@ impl<N: Named> OwnSeat<N> {
         change: &Change,
     ) -> Result<Applied, Refusal>
         ensures made { IfOk result (λ a. MakesMore self.old self.new (a ∷ [])) }
-        ensures none { OnErr result (MakesMore self.old self.new []) }
-        ensures ok { IfOk result (λ a. IsAdded self.old.book self.new.book a change.now) }
-        ensures err { IfErr result (λ e.
+        ensures err { OnErr result (MakesMore self.old self.new []) }
+        ensures added { IfOk result (λ a. IsAdded self.old.book self.new.book a change.now) }
+        ensures refused { IfErr result (λ e.
             e ≡ unwrap_or (refused (state_of self.new.book) change.now) NoMemory) }
     {
         server.apply(rt, &mut self.seat, change)
