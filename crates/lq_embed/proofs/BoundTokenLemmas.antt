@@ -203,13 +203,13 @@ kept end place lone inside part rest other fine (inl u) s = absurd (let no : ⊥
 kept end place cut inside part rest other fine (inl u) s = absurd (let no : ⊥ = cc in no)
 
 -- what may follow an unmarked word ends it
-pub word_end : (t : Placed) (inside at : ℕ) (part rest raw : List ℕ) → t.raw_place ≡ t.place
-    → t.place ≡ at → t.raw_place ≡ at + inside → t.token ≡ word raw
+pub word_end : (t : Placed) (inside at : ℕ) (part rest raw : List ℕ) → t.raw_offset ≡ t.offset
+    → t.offset ≡ at → t.raw_offset ≡ at + inside → t.token ≡ word raw
     → IsToken t.token inside part rest → (part ≡ raw) × IsAfterWord rest
-word_end t inside at part rest raw same place raw_place is (inl u) =
+word_end t inside at part rest raw same offset raw_offset is (inl u) =
     let w = subst (λ (k : Token). IsUnquoted k part rest) is u.1 in (w.0, w.1.2)
-word_end t inside at part rest raw same place raw_place is (inr q) =
-    absurd (omega (arith, same, place, raw_place, q.0))
+word_end t inside at part rest raw same offset raw_offset is (inr q) =
+    absurd (omega (arith, same, offset, raw_offset, q.0))
 
 -- the bytes have these tokens from any offset on
 abbrev pub Lexes : List ℕ → List Token → Type 0
@@ -220,7 +220,7 @@ one_more : (t : Token) (inside : ℕ) (blank part rest : List ℕ) (ts : List To
     → IsToken t inside part rest → Lexes rest ts → Lexes (blank ++ (part ++ rest)) (t ∷ ts)
 one_more t inside blank part rest ts white token behind at =
     let first = at + length blank in
-    let here : Placed = record { place = first; raw_place = first + inside; token = t } in
+    let here : Placed = record { offset = first; raw_offset = first + inside; token = t } in
     let next = first + length part in
     let others = behind next in
     let yields : Yields at (blank ++ (part ++ rest)) here next rest = record {
@@ -228,7 +228,7 @@ one_more t inside blank part rest ts white token behind at =
       part = part;
       split = refl;
       white = white;
-      token = record { place = refl; inside = inside; raw = refl; token = token };
+      token = record { offset = refl; inside = inside; raw = refl; token = token };
       is_next = refl;
     } in
     (here ∷ others.0, (next, rest, yields, others.1), ap (λ us. t ∷ us) others.2)
@@ -249,7 +249,7 @@ lexes values before [] at bs h end fine have = λ from. ([], h, refl)
 lexes values before (t ∷ ts) at bs h end fine have =
     by (parameter_at before t) refl have (λ left.
     lexes values (operator_of t.token) ts h.0 h.1 h.3 end
-    (fine_first (fault_of end t.place t.token) (first_fault end ts) fine).1 left)
+    (fine_first (fault_of end t.offset t.token) (first_fault end ts) fine).1 left)
   where
     by : (m : Option Parameter) → parameter_at before t ≡ m
         → first_missing (length values) (option_to_list m
@@ -261,18 +261,18 @@ lexes values before (t ∷ ts) at bs h end fine have =
         ++ rewritten values (operator_of t.token) ts h.0 h.1 h.3))
         (token_for values t.token m ∷ tokens_with values (operator_of t.token) ts)
     by None is left others =
-        let f = fine_first (fault_of end t.place t.token) (first_fault end ts) fine in
+        let f = fine_first (fault_of end t.offset t.token) (first_fault end ts) fine in
         let rest = rewritten values (operator_of t.token) ts h.0 h.1 h.3 in
         one_more t.token h.2.token.inside h.2.blank h.2.part rest
         (tokens_with values (operator_of t.token) ts) h.2.white
-        (kept end t.place t.token h.2.token.inside h.2.part h.1 rest f.0 h.2.token.token
+        (kept end t.offset t.token h.2.token.inside h.2.part h.1 rest f.0 h.2.token.token
         (starts values (operator_of t.token) ts h.0 h.1 h.3 left)) (others left)
     by (Some p) is left others =
         let rest = rewritten values (operator_of t.token) ts h.0 h.1 h.3 in
         let k = is_parameter before t p is in
         let v = has_first values p (parameters_after (operator_of t.token) ts) k.number left in
         let w = word_end t h.2.token.inside (at + length h.2.blank) h.2.part h.1 k.raw k.unmarked
-        h.2.token.place h.2.token.raw k.is_word h.2.token.token in
+        h.2.token.offset h.2.token.raw k.is_word h.2.token.token in
         let s : SameStart h.1 rest =
         subst (λ (u : Token). Starts (operator_of u) h.1 rest) k.is_word
         (starts values (operator_of t.token) ts h.0 h.1 h.3 v.others) in

@@ -45,11 +45,11 @@ named_positive (b ∷ bs) n is = by (b == 36) is
 -- a parameter, as what it is made of
 pub record IsParameter (before : Option Op) (t : Placed) (p : Parameter) : Type 0 where
   pub before_is : before ≡ Some p.op
-  pub unmarked : t.raw_place ≡ t.place
+  pub unmarked : t.raw_offset ≡ t.offset
   pub raw : List ℕ
   pub is_word : t.token ≡ word raw
-  pub place : p.place ≡ t.place
-  pub end : p.end ≡ t.place + length raw
+  pub place : p.place ≡ t.offset
+  pub end : p.end ≡ t.offset + length raw
   pub number : 1 ≤ p.number
 
 -- the parameter that a number makes
@@ -86,16 +86,16 @@ made_of o place cut p is = absurd (let no : ⊥ = cc in no)
 pub is_parameter : (before : Option Op) (t : Placed) (p : Parameter)
     → parameter_at before t ≡ Some p → IsParameter before t p
 is_parameter None t p is = absurd (let no : ⊥ = cc in no)
-is_parameter (Some o) t p is = by (t.raw_place == t.place) refl is
+is_parameter (Some o) t p is = by (t.raw_offset == t.offset) refl is
   where
-    by : (b : Bool) → (t.raw_place == t.place) ≡ b
-        → (if b then parameter_named o t.place t.token else None) ≡ Some p
+    by : (b : Bool) → (t.raw_offset == t.offset) ≡ b
+        → (if b then parameter_named o t.offset t.token else None) ≡ Some p
         → IsParameter (Some o) t p
     by false same none = absurd (let no : ⊥ = cc in no)
     by true same some =
-        let m = made_of o t.place t.token p some in record {
+        let m = made_of o t.offset t.token p some in record {
           before_is = ap (λ x. Some x) (sym m.2);
-          unmarked = eqb-true t.raw_place t.place same;
+          unmarked = eqb-true t.raw_offset t.offset same;
           raw = m.0;
           is_word = m.1;
           place = m.3;

@@ -80,12 +80,12 @@ replaced_is values formula before (t ∷ ts) pre bs at place h whole is le =
         let more = front ++ h.2.part in
         let k = is_parameter before t p some in
         let w = word_end t h.2.token.inside (place + length h.2.blank) h.2.part h.1 k.raw k.unmarked
-        h.2.token.place h.2.token.raw k.is_word h.2.token.token in
+        h.2.token.offset h.2.token.raw k.is_word h.2.token.token in
         let begin : p.place ≡ length front =
-        omega (arith, k.place, h.2.token.place, size_front) in
+        omega (arith, k.place, h.2.token.offset, size_front) in
         let size : length h.2.part ≡ length k.raw = ap length w.0 in
         let end : p.end ≡ length more =
-        omega (arith, k.end, h.2.token.place, size_front, size, length-append front h.2.part) in
+        omega (arith, k.end, h.2.token.offset, size_front, size, length-append front h.2.part) in
         let first : between formula at p.place ≡ drop at pre ++ h.2.blank =
         ap (λ f. between f at p.place) split_front
         ∙ (between_front front (h.2.part ++ h.1) at p.place

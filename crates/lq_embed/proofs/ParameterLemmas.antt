@@ -37,7 +37,7 @@ pub goes_on : {formula : List ℕ} {found more : List Parameter} {before after :
     {place : ℕ} {rest : List ℕ} {t : Placed} {next : ℕ} {left : List ℕ}
     → HasSoFar formula found before place rest → Yields place rest t next left
     → next + length left ≡ place + length rest
-    → fault_of (length formula) t.place t.token ≡ None
+    → fault_of (length formula) t.offset t.token ≡ None
     → more ≡ found ++ option_to_list (parameter_at before t) → after ≡ operator_of t.token
     → HasSoFar formula more after next left
 goes_on {formula = formula} {found = found} {more = more} {before = before} {after = after}
@@ -59,7 +59,7 @@ goes_on {formula = formula} {found = found} {more = more} {before = before} {aft
 pub stops_at : {formula : List ℕ} {found : List Parameter} {before : Option Op} {place : ℕ}
     {rest : List ℕ} {t : Placed} {next : ℕ} {left : List ℕ} {fault : ℕ}
     → HasSoFar formula found before place rest → Yields place rest t next left
-    → HasOneTokenList next left → fault_of (length formula) t.place t.token ≡ Some fault
+    → HasOneTokenList next left → fault_of (length formula) t.offset t.token ≡ Some fault
     → HasFault formula (BadQuery fault)
 stops_at {formula = formula} {fault = fault} was yields behind is =
     let m = more_after behind.tokens was yields behind.has in record {

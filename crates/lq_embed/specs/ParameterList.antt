@@ -9,7 +9,7 @@ use Rattle.lq_embed.specs.Parameters.{first_fault, parameters_of}
 -- a word without marks ends before this offset
 abbrev pub EndsAt : Placed → ℕ → Type 0
 EndsAt t end =
-    (raw : List ℕ) → t.raw_place ≡ t.place → t.token ≡ word raw → end ≡ t.place + length raw
+    (raw : List ℕ) → t.raw_offset ≡ t.offset → t.token ≡ word raw → end ≡ t.offset + length raw
 
 -- the tokens of the formula have these parameters, and each may be in a formula
 pub record HasParameters (formula : List ℕ) (parameters : List Parameter) : Type 0 where

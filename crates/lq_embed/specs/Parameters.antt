@@ -33,7 +33,7 @@ parameter_named o place t = None
 abbrev pub parameter_at : Option Op → Placed → Option Parameter
 parameter_at None t = None
 parameter_at (Some o) t =
-    if t.raw_place == t.place then parameter_named o t.place t.token else None
+    if t.raw_offset == t.offset then parameter_named o t.offset t.token else None
 
 -- ---- those of a formula
 
@@ -66,4 +66,4 @@ or_later (Some n) later = Some n
 -- the leftmost of them
 abbrev pub first_fault : ℕ → List Placed → Option ℕ
 first_fault end [] = None
-first_fault end (t ∷ ts) = or_later (fault_of end t.place t.token) (first_fault end ts)
+first_fault end (t ∷ ts) = or_later (fault_of end t.offset t.token) (first_fault end ts)

@@ -35,7 +35,7 @@ pub(crate) fn read_parameters(alloc: Global, formula: &str) -> Result<Vec<Parame
     let mut parameters = Vec::new(alloc);
     let mut before = None;
     let mut cursor = Cursor {
-        place: 0,
+        offset: 0,
         rest: formula,
     };
     while let Some((placed, after)) = next_token(cursor) {
@@ -44,7 +44,7 @@ pub(crate) fn read_parameters(alloc: Global, formula: &str) -> Result<Vec<Parame
                 place: place as u64,
             });
         }
-        if let Some(parameter) = parameter_at(before, &placed, after.place) {
+        if let Some(parameter) = parameter_at(before, &placed, after.offset) {
             parameters.push(parameter)?;
         }
         before = operator_of(&placed.token);
@@ -55,10 +55,10 @@ pub(crate) fn read_parameters(alloc: Global, formula: &str) -> Result<Vec<Parame
 
 // The place of the fault where a token is in no formula of this size.
 fn fault_of(size: usize, placed: &Placed<'_>) -> Option<usize>
-    ensures { result ≡ fault_of size placed.now.place (token_of placed.now.token) }
+    ensures { result ≡ fault_of size placed.now.offset (token_of placed.now.token) }
 {
     match placed.token {
-        Token::Lone => Some(placed.place),
+        Token::Lone => Some(placed.offset),
         Token::Cut => Some(size),
         _ => None,
     }
@@ -80,14 +80,14 @@ fn parameter_at(before: Option<Op>, placed: &Placed<'_>, end: usize) -> Option<P
     ensures { result ≡ parameter_at before (placed_of placed.now) }
 {
     let op = before?;
-    if placed.raw_place != placed.place {
+    if placed.raw_offset != placed.offset {
         return None;
     }
     let Token::Word(raw) = placed.token else {
         return None;
     };
     Some(Parameter {
-        place: placed.place,
+        place: placed.offset,
         end,
         number: number_named(raw.as_bytes())?,
         op,

@@ -15,22 +15,22 @@ use Rattle.lq_predicate.specs.QuerySize.{query_size}
 use Rattle.lq_predicate.specs.declared.sizes.QuerySize.{QuerySize}
 use Rattle.lq_predicate.specs.declared.stop.Stop.{Stop}
 use Rattle.lq_predicate.specs.declared.stop.Stop.TheVariants.{Fault, Failed}
-use Rattle.lq_predicate.proofs.SoFarLemmas.{SoFar, place_fits, stops}
+use Rattle.lq_predicate.proofs.SoFarLemmas.{SoFar, offset_fits, stops}
 
 -- the machine refuses the token
 abbrev pub Refuses : {E : Type 0} → MachineState → Placed → Stop (Option ℕ) E → Type 0
 Refuses s t (Fault f) = (step_token s t.token ≡ None) × (pattern_fault s.expected t.token ≡ f)
 Refuses s t (Failed e) = ⊤
 
-module _ {E : Type 0} (text : List ℕ) (place : ℕ) (rest : List ℕ) (s : MachineState) (count : ℕ)
-    (h : SoFar text place rest s count) (t : Placed) (next : ℕ) (behind : List ℕ)
-    (y : Yields place rest t next behind) where
-  -- the place of a pattern's fault is a number of 64 bits
-  pub token_fits : (stop : Stop (Option ℕ) E) → next + length behind ≡ place + length rest
-      → Refuses s t stop → (k : ℕ) → stop ≡ Fault (Some k) → t.raw_place + k < 2 ^ 64
+module _ {E : Type 0} (text : List ℕ) (offset : ℕ) (rest : List ℕ) (s : MachineState) (count : ℕ)
+    (h : SoFar text offset rest s count) (t : Placed) (next : ℕ) (behind : List ℕ)
+    (y : Yields offset rest t next behind) where
+  -- the offset of a pattern's fault is a number of 64 bits
+  pub token_fits : (stop : Stop (Option ℕ) E) → next + length behind ≡ offset + length rest
+      → Refuses s t stop → (k : ℕ) → stop ≡ Fault (Some k) → t.raw_offset + k < 2 ^ 64
   token_fits (Fault f) total m k is =
       let same : f ≡ Some k = cc in
-      place_fits text place rest s count h t next behind k y total (m.1 ∙ same)
+      offset_fits text offset rest s count h t next behind k y total (m.1 ∙ same)
   token_fits (Failed e) total m k is = absurd (let no : ⊥ = cc in no)
 
   -- the token can't be taken
@@ -38,7 +38,7 @@ module _ {E : Type 0} (text : List ℕ) (place : ℕ) (rest : List ℕ) (s : Mac
       → HasOneTokenList next behind → Refuses s t stop
       → IsWholeOf part text (Err (stop_in_text (length text) t stop))
   token_stops part (Fault k) others m =
-      stops text place rest s count h t next behind y others k m.0 m.1
+      stops text offset rest s count h t next behind y others k m.0 m.1
   token_stops part (Failed x) others m = tt
 
 -- the text ends here, and a whole query is built or none stands there

@@ -10,20 +10,20 @@ use Rattle.lq_predicate_formula.specs.Grammar.{nesting}
 use Rattle.lq_predicate_formula.specs.Machine.{MachineState, start, step_token, finished_query}
 use Rattle.lq_predicate_formula.specs.Faults.{IsFaulty, IsReading, most_bytes, most_comparisons}
 use Rattle.lq_predicate_formula.specs.Laws.{MachineReads}
-use Rattle.lq_predicate_formula.specs.MachineReading.{after_token, fault_place, finished, pattern_fault, place_at, read_tokens, word_count}
-use Rattle.lq_predicate.proofs.PlaceLemmas.{pattern_place-bound}
+use Rattle.lq_predicate_formula.specs.MachineReading.{after_token, fault_offset, finished, pattern_fault, offset_at, read_tokens, word_count}
+use Rattle.lq_predicate.proofs.OffsetLemmas.{pattern_offset-bound}
 
--- a formula is read up to a place: what the whole reading is, from the state there, and that the
+-- a formula is read up to an offset: what the whole reading is, from the state there, and that the
 -- words before it are of UTF-8
-pub record SoFar (text : List ℕ) (place : ℕ) (rest : List ℕ) (s : MachineState) (count : ℕ) :
+pub record SoFar (text : List ℕ) (offset : ℕ) (rest : List ℕ) (s : MachineState) (count : ℕ) :
     Type 0 where
-  pub reads : (ts : List Placed) → HasTokens place rest ts
+  pub reads : (ts : List Placed) → HasTokens offset rest ts
       → IsReading text (read_tokens (length text) s count ts)
   pub few : count ≤ 512
   pub short : length text ≤ 4096
-  pub room : place + length rest ≡ length text
+  pub room : offset + length rest ≡ length text
   pub front : List Placed
-  pub has : (ts : List Placed) → HasTokens place rest ts → HasTokens 0 text (front ++ ts)
+  pub has : (ts : List Placed) → HasTokens offset rest ts → HasTokens 0 text (front ++ ts)
   pub texts : WordsAre IsUtf8 (bare front)
 
 -- before the first token nothing has been read
@@ -44,7 +44,7 @@ starts text machine_reads h = record {
 -- one token, and the others behind it
 one_token : (end : ℕ) (s : MachineState) (count : ℕ) (t : Placed) (ts : List Placed)
     → read_tokens end s count (t ∷ ts)
-    ≡ after_token (fault_place end s.expected t) t (step_token s t.token)
+    ≡ after_token (fault_offset end s.expected t) t (step_token s t.token)
     (count + word_count t.token) (λ s'. read_tokens end s' (count + word_count t.token) ts)
 unfolding read_tokens
 one_token end s count t ts = refl
@@ -61,14 +61,14 @@ words-push : (ts : List Placed) (t : Placed) → WordsAre IsUtf8 (bare ts) → W
 words-push [] t w h = (h, tt)
 words-push (u ∷ ts) t w h = (w.0, words-push ts t w.1 h)
 
-module _ (text : List ℕ) (place : ℕ) (rest : List ℕ) (s : MachineState) (count : ℕ)
-    (h : SoFar text place rest s count) where
-  -- the place of a pattern's fault is a number of 64 bits
-  pub place_fits : (t : Placed) (next : ℕ) (behind : List ℕ) (k : ℕ)
-      → Yields place rest t next behind → next + length behind ≡ place + length rest
-      → pattern_fault s.expected t.token ≡ Some k → t.raw_place + k < 2 ^ 64
-  place_fits t next behind k y total f =
-      let bound = pattern_place-bound place rest t next behind s.expected k y total f in
+module _ (text : List ℕ) (offset : ℕ) (rest : List ℕ) (s : MachineState) (count : ℕ)
+    (h : SoFar text offset rest s count) where
+  -- the offset of a pattern's fault is a number of 64 bits
+  pub offset_fits : (t : Placed) (next : ℕ) (behind : List ℕ) (k : ℕ)
+      → Yields offset rest t next behind → next + length behind ≡ offset + length rest
+      → pattern_fault s.expected t.token ≡ Some k → t.raw_offset + k < 2 ^ 64
+  offset_fits t next behind k y total f =
+      let bound = pattern_offset-bound offset rest t next behind s.expected k y total f in
       omega (arith, bound, h.room, h.short)
 
   -- the text ends here
@@ -86,30 +86,30 @@ module _ (text : List ℕ) (place : ℕ) (rest : List ℕ) (s : MachineState) (c
     subst (λ ts. WordsAre IsUtf8 (bare ts)) (sym (append-nil h.front)) h.texts,
   )
 
-  module _ (t : Placed) (next : ℕ) (behind : List ℕ) (y : Yields place rest t next behind) where
+  module _ (t : Placed) (next : ℕ) (behind : List ℕ) (y : Yields offset rest t next behind) where
     -- the reading goes on from what the machine makes of the next token
     reads_on : (o : Option MachineState) → step_token s t.token ≡ o → (ts : List Placed)
         → HasTokens next behind ts
-        → IsReading text (after_token (fault_place (length text) s.expected t) t o
+        → IsReading text (after_token (fault_offset (length text) s.expected t) t o
         (count + word_count t.token)
         (λ s'. read_tokens (length text) s' (count + word_count t.token) ts))
     reads_on o k ts has = subst (IsReading text)
         (one_token (length text) s count t ts
-        ∙ ap (λ o. after_token (fault_place (length text) s.expected t) t o
+        ∙ ap (λ o. after_token (fault_offset (length text) s.expected t) t o
         (count + word_count t.token)
         (λ s'. read_tokens (length text) s' (count + word_count t.token) ts)) k)
         (h.reads (t ∷ ts) (next, behind, y, has))
 
     -- one token more
     pub goes_on : (s' : MachineState) (n : ℕ) → step_token s t.token ≡ Some s'
-        → n ≡ count + word_count t.token → n ≤ 512 → next + length behind ≡ place + length rest
+        → n ≡ count + word_count t.token → n ≤ 512 → next + length behind ≡ offset + length rest
         → WordIs IsUtf8 t.token → SoFar text next behind s' n
     goes_on s' n k same few room word = record {
       reads = λ ts has. subst
           (λ m. IsReading text (read_tokens (length text) s' m ts)) (sym same)
           (subst (λ b. IsReading text
           (if b then read_tokens (length text) s' (count + word_count t.token) ts
-          else Err t.place)) (le-leb (count + word_count t.token)
+          else Err t.offset)) (le-leb (count + word_count t.token)
           (most_comparisons + most_comparisons) (subst (λ m. m ≤ 512) same few))
           (reads_on (Some s') k ts has));
       few = few;
@@ -124,16 +124,16 @@ module _ (text : List ℕ) (place : ℕ) (rest : List ℕ) (s : MachineState) (c
     module _ (others : HasOneTokenList next behind) where
       -- where the machine refuses the token, the text has the token's fault
       pub stops : (k : Option ℕ) → step_token s t.token ≡ None → pattern_fault s.expected t.token ≡ k
-          → IsFaulty text (place_at (length text) t t.token k)
+          → IsFaulty text (offset_at (length text) t t.token k)
       stops k none f = subst (IsFaulty text)
-          (ap (place_at (length text) t t.token) f)
+          (ap (offset_at (length text) t t.token) f)
           (reads_on None none others.tokens others.has)
 
       -- it is a word too many
       pub one_too_many : (s' : MachineState) (n : ℕ) → step_token s t.token ≡ Some s'
-          → n ≡ count + word_count t.token → 512 < n → IsFaulty text t.place
+          → n ≡ count + word_count t.token → 512 < n → IsFaulty text t.offset
       one_too_many s' n k same many = subst (λ b. IsReading text
           (if b then read_tokens (length text) s' (count + word_count t.token) others.tokens
-          else Err t.place)) (lt-leb (count + word_count t.token)
+          else Err t.offset)) (lt-leb (count + word_count t.token)
           (most_comparisons + most_comparisons) (subst (λ m. 512 < m) same many))
           (reads_on (Some s') k others.tokens others.has)

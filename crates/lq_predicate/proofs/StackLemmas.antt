@@ -30,30 +30,30 @@ replaced xs ys count item there is =
 
 -- the stack after one item is put in place of the last ones
 abbrev IsReplaced : List StackItem → ℕ → ℕ → StackItem → Stacked → Type 0
-IsReplaced new place count item s =
+IsReplaced new pushes count item s =
     s.pushes + 1 < 2 ^ 64 → count ≤ length s.items → pushed s (item ∷ drop count s.items)
-    ≡ Some (record { items = reverse new; pushes = place + 1 })
+    ≡ Some (record { items = reverse new; pushes = pushes + 1 })
 
 -- a push that can be counted gives the items and one push more
-counted : (place : ℕ) (items items' : List StackItem) → items ≡ items' → place + 1 < 2 ^ 64
-    → pushed (record { items = []; pushes = place }) items
-    ≡ Some (record { items = items'; pushes = place + 1 })
-counted place items items' is room = rw is (grind (arith, nat_tests))
+counted : (pushes : ℕ) (items items' : List StackItem) → items ≡ items' → pushes + 1 < 2 ^ 64
+    → pushed (record { items = []; pushes = pushes }) items
+    ≡ Some (record { items = items'; pushes = pushes + 1 })
+counted pushes items items' is room = rw is (grind (arith, nat_tests))
 
 -- an item that takes the place of some on top is one push
-pub replaced_view : (stack : Stacked) (inside new : List StackItem) (place count : ℕ)
+pub replaced_view : (stack : Stacked) (inside new : List StackItem) (pushes count : ℕ)
     (item : StackItem)
-    → record { items = reverse inside; pushes = place } ≡ stack → stack.pushes + 1 < 2 ^ 64
+    → record { items = reverse inside; pushes = pushes } ≡ stack → stack.pushes + 1 < 2 ^ 64
     → count ≤ length stack.items → new ≡ take (length inside - count) inside ++ item ∷ []
     → pushed stack (item ∷ drop count stack.items)
-    ≡ Some (record { items = reverse new; pushes = place + 1 })
-replaced_view stack inside new place count item is room there made =
-    subst (IsReplaced new place count item) is here room there
+    ≡ Some (record { items = reverse new; pushes = pushes + 1 })
+replaced_view stack inside new pushes count item is room there made =
+    subst (IsReplaced new pushes count item) is here room there
   where
-    here : IsReplaced new place count item (record { items = reverse inside; pushes = place })
+    here : IsReplaced new pushes count item (record { items = reverse inside; pushes = pushes })
     here room there =
         let e = replaced inside new count item (omega (arith, there, length-reverse inside)) made in
-        counted place (item ∷ drop count (reverse inside)) (reverse new) (sym e) room
+        counted pushes (item ∷ drop count (reverse inside)) (reverse new) (sym e) room
 
 -- what is made, put in place of the items, is what the stack has after it
 pub put_down : (stack : Stacked) (made : Result (Option Query) Refusal) (q : Query) (count : ℕ)

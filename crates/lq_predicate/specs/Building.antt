@@ -2,7 +2,7 @@
 use Rattle.std.specs.Prelude.{◌≡◌, ◌≤◌, ℕ, List, map, reverse, length, Option, Some, Result, Ok, Err, ⊤}
 use Rattle.lq_predicate_formula.specs.Faults.{IsFaulty, IsReading}
 use Rattle.lq_predicate_formula.specs.Machine.{Frame, Expected, operand, after_attr, after_op, after_operand, MachineState, step_at, weight}
-use Rattle.lq_predicate_formula.specs.MachineReading.{finished, pattern_fault, place_at}
+use Rattle.lq_predicate_formula.specs.MachineReading.{finished, pattern_fault, offset_at}
 use Rattle.lq_predicate_formula.specs.Query.{Query}
 use Rattle.lq_predicate_formula.specs.Tokens.{Token, Placed}
 use Rattle.lq_predicate.specs.Made.{IsMadeOf}
@@ -45,12 +45,12 @@ module _ {N : Type 0} (named : List ℕ → N) where
 
 -- a stop at a token with its offset in the text, which ends at `end`
 abbrev pub stop_in_text : {E : Type 0} → ℕ → Placed → Stop (Option ℕ) E → Stop ℕ E
-stop_in_text end t (Fault k) = Fault (place_at end t t.token k)
+stop_in_text end t (Fault k) = Fault (offset_at end t t.token k)
 stop_in_text end t (Failed e) = Failed e
 
 -- a whole query is built of the text, which reads as it within the limits, or it has a fault here
 abbrev pub IsWholeOf : {B E : Type 0} → (Query → B) → List ℕ → Result B (Stop ℕ E) → Type 0
 IsWholeOf part text (Ok made) =
     (q : Query) × IsReading text (finished (length text) (Some q)) × (made ≡ part q)
-IsWholeOf part text (Err (Fault place)) = IsFaulty text place
+IsWholeOf part text (Err (Fault offset)) = IsFaulty text offset
 IsWholeOf part text (Err (Failed e)) = ⊤

@@ -108,7 +108,7 @@ only_part items = None
 
 -- ---- refusals
 
--- what doesn't fit is refused with a place: the number of pushes that were accepted
+-- what doesn't fit is refused with the number of pushes that were accepted
 abbrev pub refusal_at : {A : Type 0} → ℕ → Option A → Option Refusal
-refusal_at place None = Some (BadQuery place)
-refusal_at place (Some new) = None
+refusal_at pushes None = Some (BadQuery pushes)
+refusal_at pushes (Some new) = None

@@ -47,8 +47,8 @@ fn read_tree(alloc: Global, formula: &str) -> Result<Tree, Refusal>
 {
     one_reading();
     read_is_good();
-    if let Some(place) = fault_place(formula) {
-        return Err(Refusal::BadQuery { place });
+    if let Some(offset) = fault_offset(formula) {
+        return Err(Refusal::BadQuery { place: offset });
     }
     // The formula has no fault, so only memory can be wanting.
     match build_tree(alloc, formula) {
@@ -72,7 +72,7 @@ fn build_tree(alloc: Global, formula: &str) -> Result<Tree, Stop<u64, AllocError
 
 // The byte offset of a formula's leftmost fault; none where the formula reads as a query. It takes
 // no memory.
-fn fault_place(formula: &str) -> Option<u64>
+fn fault_offset(formula: &str) -> Option<u64>
     ensures { IsFaultOf formula.now result }
 {
     if formula.len() > MAX_FORMULA {
@@ -81,7 +81,7 @@ fn fault_place(formula: &str) -> Option<u64>
     let mut frames = new_frames::<Sizes>();
     let whole = match read_text(&Sizes, &mut frames, formula) {
         Ok(size) => size,
-        Err(Stop::Fault(place)) => return Some(place),
+        Err(Stop::Fault(offset)) => return Some(offset),
     };
     if whole.depth > MAX_DEPTH || whole.bytes > MAX_FORMULA {
         return Some(formula.len() as u64);

@@ -35,7 +35,7 @@ pub(crate) fn read_text<B: Builder>(
     machine_reads();
     let mut expected = Expected::Operand;
     let mut cursor = Cursor {
-        place: 0,
+        offset: 0,
         rest: text,
     };
     let mut words = 0;
@@ -46,7 +46,7 @@ pub(crate) fn read_text<B: Builder>(
         }
         words += word_count(&placed.token);
         if words > MOST_WORDS {
-            return Err(Stop::Fault(placed.place as u64));
+            return Err(Stop::Fault(placed.offset as u64));
         }
         cursor = behind;
     }
@@ -58,14 +58,14 @@ pub(crate) fn read_text<B: Builder>(
 
 // The same stop with its byte offset in the text, which ends at `end`.
 fn stop_in_text<E>(end: usize, placed: &Placed, stop: Stop<Option<u64>, E>) -> Stop<u64, E>
-    requires { (k : ℕ) → stop ≡ Fault (Some k) → placed.now.raw_place + k < 2 ^ 64 }
+    requires { (k : ℕ) → stop ≡ Fault (Some k) → placed.now.raw_offset + k < 2 ^ 64 }
     ensures { result ≡ stop_in_text end (placed_of placed.now) stop }
 {
     match stop {
-        Stop::Fault(Some(k)) => Stop::Fault(placed.raw_place as u64 + k),
+        Stop::Fault(Some(k)) => Stop::Fault(placed.raw_offset as u64 + k),
         Stop::Fault(None) => match placed.token {
             Token::Cut => Stop::Fault(end as u64),
-            _ => Stop::Fault(placed.place as u64),
+            _ => Stop::Fault(placed.offset as u64),
         },
         Stop::Failed(e) => Stop::Failed(e),
     }

@@ -61,7 +61,7 @@ impl Builder for Sizes {
                 depth: 1,
                 bytes: joined_size(attr, op, literal),
             }),
-            Err(place) => Err(Stop::Fault(Some(place))),
+            Err(offset) => Err(Stop::Fault(Some(offset))),
         }
     }
 

@@ -57,7 +57,7 @@ lexes_end at = ([], refl, refl)
 one : (t : Token) (inside : ℕ) (part rest : List ℕ) (ts : List Token) → IsToken t inside part rest
     → Lexes rest ts → Lexes (part ++ rest) (t ∷ ts)
 one t inside part rest ts k h at =
-    let here : Placed = record { place = at + 0; raw_place = at + 0 + inside; token = t } in
+    let here : Placed = record { offset = at + 0; raw_offset = at + 0 + inside; token = t } in
     let next = at + 0 + length part in
     let others = h next in
     let first : Yields at (part ++ rest) here next rest = record {
@@ -65,7 +65,7 @@ one t inside part rest ts k h at =
       part = part;
       split = refl;
       white = refl;
-      token = record { place = refl; inside = inside; raw = refl; token = k };
+      token = record { offset = refl; inside = inside; raw = refl; token = k };
       is_next = refl;
     } in
     (here ∷ others.0, (next, rest, first, others.1), ap (λ us. t ∷ us) others.2)

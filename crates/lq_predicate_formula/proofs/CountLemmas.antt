@@ -5,7 +5,7 @@ use Rattle.std.proofs.lemmas.List.{drop_all}
 use Rattle.lq_predicate_formula.specs.Bytes.{is_space, ends_word}
 use Rattle.lq_predicate_formula.specs.Lexing.{spaces, word_bytes, quoted_bytes}
 
--- a text from a place on is the byte there, and then the text from the next place on
+-- a text from an offset on is the byte there, and then the text from the next offset on
 pub at_byte : (bs : List ℕ) (n : ℕ) → n < length bs → drop n bs ≡ get_or bs n 0 ∷ drop (n + 1) bs
 at_byte bs n h = rw (add-one, drop-cons bs n 0)
 

@@ -140,16 +140,16 @@ module _ (text : List ℕ) (ts : List Placed) (has : HasTokens 0 text ts) where
   none_whole p None e h = refl
   none_whole p (Some q) e h = absurd (h q (reads_at_end (bare ts) p.s q p.seen.goes e))
 
-  -- the reading at a token that is at fault, after tokens that are not, is the fault's place
+  -- the reading at a token that is at fault, after tokens that are not, is the fault's offset
   reading_at : (before : List Placed) (here : Placed) (after : List Placed) (p : ℕ)
       → AreFine (length text) before → IsFaultOf (length text) (bare before) here p
       → read_tokens (length text) (start nesting) 0 (before ++ here ∷ after) ≡ Err p
   reading_at before here after p fine fault =
       let end = length text in
       let t = passes end before fine in
-      let place = fault_is (bare before) t.s t.seen.goes end here in
+      let offset = fault_is (bare before) t.s t.seen.goes end here in
       t.goes (here ∷ after) ∙ elim (next end before here t.s t.count t.seen) [
-        | inl f ↦ f.2 after ∙ ap Err (sym (place f.0 f.1) ∙ place p fault)
+        | inl f ↦ f.2 after ∙ ap Err (sym (offset f.0 f.1) ∙ offset p fault)
         | inr n ↦ absurd (seen_fine end (before ++ here ∷ []) n.0 _ n.1 before here [] p refl fault)
       ]
 

@@ -1,4 +1,4 @@
--- The parts of a query, from one place on: their depth, their form and their names.
+-- The parts of a query, from an index on: their depth, their form and their names.
 use Rattle.std.proofs.Common.{◌≡◌, ℕ, zero, suc, ◌+◌, ◌<◌, ◌≤◌, List, [], ◌∷◌, ◌++◌, length, drop, get_or, sym, ap, ◌∙◌, arith, refl, true, false, nat_le}
 use Rattle.std.specs.List.{AllByRecursion}
 use Rattle.std.proofs.lemmas.List.{at_drop_more}
@@ -9,7 +9,7 @@ use Rattle.lq_predicate_formula.specs.Canonical.{depth, deepest}
 use Rattle.lq_predicate_formula.specs.Names.{with_name, each_once}
 use Rattle.lq_predicate_formula.specs.PredicateLimits.{is_formed, are_formed}
 
--- what is made of the parts from a place on, at a part and at the end
+-- what is made of the parts from an index on, at a part and at the end
 pub parts_here : {Y : Type 0} (F : Queries → Y) (parts : List Query) (i : ℕ) (q : Query)
     → i < length parts → q ≡ get_or parts i q
     → F (queries (drop i parts)) ≡ F (and_then q (queries (drop (i + 1) parts)))

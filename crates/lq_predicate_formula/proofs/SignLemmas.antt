@@ -300,7 +300,7 @@ begins_by at part rest t h =
     in
     let some : length part ≡ suc (length s.1) = ap length s.2 in (
       omega (arith, some, length-append part rest),
-      ap₂ (λ p r. record { place = p; raw_place = r; token = t.token }) h.place h.raw
+      ap₂ (λ p r. record { offset = p; raw_offset = r; token = t.token }) h.offset h.raw
           ∙ ap (placed_at at) (sym f),
       ap (λ x. at + x.size) (sym f),
       sym (ap (λ x. drop x.size (part ++ rest)) f ∙ drop-append_seam part rest),
@@ -508,7 +508,7 @@ yields_of at bs t next rest y =
     let long : length (take n bs) ≡ n = length-take-le n bs (trims bs).1 in
     let same : rest ≡ k.1 = y.3 ∙ ap₂ drop (sym k.3) k.2 ∙ drop-append_seam k.0 k.1 in
     let token : IsTokenAt (at + n) k.0 k.1 (placed_at (at + n) f) =
-    record { place = refl; inside = f.inside; raw = refl; token = k.4 } in
+    record { offset = refl; inside = f.inside; raw = refl; token = k.4 } in
     record {
       blank = take n bs;
       part = k.0;

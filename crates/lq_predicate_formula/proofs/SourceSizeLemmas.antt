@@ -14,7 +14,7 @@ use Rattle.lq_value.specs.Element.TheVariants.{Set}
 use Rattle.lq_value.specs.Item.TheVariants.{One, Range}
 use Rattle.lq_value.specs.Laws.{AreWalked, SourcesAreWalked}
 use Rattle.lq_value.specs.Sign.{SignList, signs_of, signs_len}
-use Rattle.lq_value.specs.Source.{First, ends, has, faulty, Pieces, whole, stuck, begin, after_first, elements_or_place, element_at, item_at, pattern_of, pieces_of, set_with}
+use Rattle.lq_value.specs.Source.{First, ends, has, faulty, Pieces, whole, stuck, begin, after_first, elements_or_offset, element_at, item_at, pattern_of, pieces_of, set_with}
 use Rattle.lq_predicate_formula.specs.Query.{Compare}
 use Rattle.lq_predicate_formula.specs.Canonical.{in_marks, attr_then, op_text, literal_text, pattern_text, element_then, item_then, items_then, canonical}
 use Rattle.lq_predicate_formula.specs.Capped.{capped}
@@ -190,7 +190,7 @@ measured text n (stuck rest) = Err (length text - signs_len rest)
 
 -- nothing counted before leaves a pattern's size as it is
 measured_by : (text : List ℕ) (r : Pieces Element)
-    → measured text 0 r ≡ pattern_sized (elements_or_place text r)
+    → measured text 0 r ≡ pattern_sized (elements_or_offset text r)
 measured_by text (whole es rest) = ap Ok (omega arith)
 measured_by text (stuck rest) = refl
 
@@ -226,10 +226,10 @@ elements_end law text n left all so_far is small =
     ap Ok (let same : n ≡ capped (n + pattern_bytes []) = omega (arith, small) in same)
     ∙ sym (ap (measured text n) (step_by law.elements (signs_of left) (ends []) is)) ∙ so_far
 
--- a pattern's source that is bad here is bad at this place
+-- a pattern's source that is bad here is bad at this offset
 pub elements_stuck : SourcesAreWalked → (text : List ℕ) (n p : ℕ) (left : List ℕ) (all : Result ℕ ℕ)
     → IsUtf8 left → measured text n (pieces_of element_at (signs_of left)) ≡ all
     → element_at (signs_of left) ≡ faulty → p ≡ length text - length left → Err p ≡ all
-elements_stuck law text n p left all utf8 so_far is place =
-    ap Err (place ∙ ap (λ k. length text - k) (sym (law.bytes left utf8)))
+elements_stuck law text n p left all utf8 so_far is offset =
+    ap Err (offset ∙ ap (λ k. length text - k) (sym (law.bytes left utf8)))
     ∙ sym (ap (measured text n) (step_by law.elements (signs_of left) faulty is)) ∙ so_far

@@ -8,7 +8,7 @@ use Rattle.std.proofs.lemmas.Str.{chars-nil}
 use Rattle.lq_value.specs.declared.literal.Literal.{Literal}
 use Rattle.lq_value.specs.declared.literal.Literal.TheVariants.{Pattern, Plain}
 use Rattle.lq_value.specs.Sign.{signs}
-use Rattle.lq_value.specs.Source.{element_at, elements_or_place, pattern_of, pieces_of, pieces_within}
+use Rattle.lq_value.specs.Source.{element_at, elements_or_offset, pattern_of, pieces_of, pieces_within}
 use Rattle.lq_predicate_formula.specs.Tokens.{Token, closes, op, word}
 use Rattle.lq_predicate_formula.specs.Literals.{pattern_literal, literal_of}
 use Rattle.lq_predicate_formula.specs.Query.{Query, Compare}
@@ -33,7 +33,7 @@ leads_behind (g ∷ gs) f n =
 -- the empty text is the source of the empty pattern
 empty_pattern : pattern_of [] ≡ Ok []
 unfolding pieces_of pieces_within
-empty_pattern = ap (λ cs. elements_or_place [] (pieces_of element_at (signs false cs))) chars-nil
+empty_pattern = ap (λ cs. elements_or_offset [] (pieces_of element_at (signs false cs))) chars-nil
 
 -- the empty text is a literal behind each operator
 pub empty_literal : (o : Op) → (literal : Literal) × (literal_of o [] ≡ Some literal)

@@ -1,4 +1,4 @@
--- Where the reading of some tokens stops: behind them all, or at a fault, which has one place.
+-- Where the reading of some tokens stops: behind them all, or at a fault, which has one offset.
 use Rattle.std.proofs.Common.{◌≡◌, ◌≤◌, ◌<◌, ◌+◌, ◌⊎◌, ℕ, List, [], ◌∷◌, ◌++◌, Option, Some, None, refl, sym, ap, ◌∙◌, subst, arith, inl, inr, append_assoc, append-nil}
 use Rattle.std.specs.Prelude.{Err, option_map}
 use Rattle.std.proofs.lemmas.Bool.{cases_lt, le-leb, lt-leb}
@@ -10,7 +10,7 @@ use Rattle.lq_predicate_formula.specs.Tokens.{Token, word, Placed, bare, op, cut
 use Rattle.lq_predicate_formula.specs.Grammar.{nesting}
 use Rattle.lq_predicate_formula.specs.Machine.{MachineState, start, step_token, steps, Expected, after_op, completed}
 use Rattle.lq_predicate_formula.specs.Faults.{AreFine, IsFaultOf, most_comparisons, AwaitsAttr, CanStand, stray, cut_off, alone, too_deep, bad_name, one_more, bad_pattern, kind_of}
-use Rattle.lq_predicate_formula.specs.MachineReading.{fault_place, pattern_fault, place_at, read_tokens, word_count}
+use Rattle.lq_predicate_formula.specs.MachineReading.{fault_offset, pattern_fault, offset_at, read_tokens, word_count}
 use Rattle.lq_predicate_formula.specs.Query.{Compare}
 use Rattle.lq_predicate_formula.proofs.MoveLemmas.{steps_push, at, last_move, op_place}
 use Rattle.lq_predicate_formula.proofs.RefusedLemmas.{refused_fault}
@@ -59,11 +59,11 @@ next_by : (end : ℕ) (seen : List Placed) (t : Placed) (s : MachineState) (coun
     → Next end seen t s count
 unfolding read_tokens
 next_by end seen t s count h None e few =
-    inl (fault_place end s.expected t, refused_fault end (bare seen) s t h.goes e, λ rest. rw e)
+    inl (fault_offset end s.expected t, refused_fault end (bare seen) s t h.goes e, λ rest. rw e)
 next_by end seen t s count h (Some s') e (inl over) =
     let w = is_word t.token count h.few over in
     let fault = full end (bare seen) s s' t w.0 h.goes (h.counted ∙ w.2) w.1 e in
-    inl (t.place, fault, λ rest. rw (e, lt-leb _ _ over))
+    inl (t.offset, fault, λ rest. rw (e, lt-leb _ _ over))
 next_by end seen t s count h (Some s') e (inr few) =
     let same = map-append (λ x. x.token) seen (t ∷ []) in
     let k = h.counted in
@@ -91,9 +91,9 @@ pub record Passes (end : ℕ) (ts : List Placed) : Type 0 where
 
 -- where the reading of all these tokens stops
 pub data Stops (end : ℕ) (all : List Placed) : Type 0 where
-  at_one : (before : List Placed) (here : Placed) (after : List Placed) (place : ℕ)
-      → all ≡ before ++ here ∷ after → AreFine end before → IsFaultOf end (bare before) here place
-      → read_tokens end (start nesting) 0 all ≡ Err place → Stops end all
+  at_one : (before : List Placed) (here : Placed) (after : List Placed) (offset : ℕ)
+      → all ≡ before ++ here ∷ after → AreFine end before → IsFaultOf end (bare before) here offset
+      → read_tokens end (start nesting) 0 all ≡ Err offset → Stops end all
   behind_all : Passes end all → Stops end all
 
 -- the reading goes on behind tokens that were passed over, up to where it stops
@@ -122,13 +122,13 @@ stops end all = stops_from end all all [] refl (record {
   goes = λ rest. refl;
 })
 
--- the fault's place is the token's own, but for a cut text and for a bad literal
-plain_place : (end : ℕ) (q : Expected) (t : Token) (here : Placed)
+-- the fault's offset is the token's own, but for a cut text and for a bad literal
+plain_offset : (end : ℕ) (q : Expected) (t : Token) (here : Placed)
     → (t ≡ cut → ⊥) → ((a : List ℕ) (o : Op) (w : List ℕ) → q ≡ after_op a o → t ≡ word w → ⊥)
-    → place_at end here t (pattern_fault q t) ≡ here.place
-plain_place end q cut here h k = absurd (h refl)
-plain_place end (after_op a o) (word w) here h k = absurd (k a o w refl refl)
-plain_place end q t here h k = refl
+    → offset_at end here t (pattern_fault q t) ≡ here.offset
+plain_offset end q cut here h k = absurd (h refl)
+plain_offset end (after_op a o) (word w) here h k = absurd (k a o w refl refl)
+plain_offset end q t here h k = refl
 
 -- a word is no cut token
 no_cut_word : (w : List ℕ) → word w ≡ cut → ⊥
@@ -155,22 +155,22 @@ module _ (ts : List Token) (s : MachineState) (e : steps (start nesting) ts ≡ 
       none-some d.0 (subst (λ q. outline_steps (outline_of (at q s.below s.top s.room))
       (word [] ∷ op Eq ∷ []) ≡ Some d.0) k d.1)
 
-  -- the place of a fault is where the machine has it
+  -- the offset of a fault is where the machine has it
   pub fault_is : (end : ℕ) (here : Placed) (p : ℕ) → IsFaultOf end ts here p
-      → fault_place end s.expected here ≡ p
-  fault_is end here p (stray h k is) = plain_place end s.expected here.token here k
+      → fault_offset end s.expected here ≡ p
+  fault_is end here p (stray h k is) = plain_offset end s.expected here.token here k
       (λ a o w x y. h (word_stands here.token a o w x y)) ∙ sym is
   fault_is end here p (cut_off h is) = rw h (sym is)
   fault_is end here p (alone h is) = rw h (sym is)
   fault_is end here p (too_deep (inl h) d is) = rw h (sym is)
   fault_is end here p (too_deep (inr h) d is) = rw h (sym is)
-  fault_is end here p (bad_name w h a n is) = plain_place end s.expected here.token here
+  fault_is end here p (bad_name w h a n is) = plain_offset end s.expected here.token here
       (λ x. no_cut_word w (sym h ∙ x)) (λ b o v x y. not_literal b o a x) ∙ sym is
-  fault_is end here p (one_more w h a m is) = plain_place end s.expected here.token here
+  fault_is end here p (one_more w h a m is) = plain_offset end s.expected here.token here
       (λ x. no_cut_word w (sym h ∙ x)) (λ b o v x y. not_literal b o a x) ∙ sym is
   fault_is end here p (bad_pattern front o w k split h i is) =
       let d = op_place (last_move front (op o) s
       (subst (λ l. steps (start nesting) l ≡ Some s) split e)).1 in
-      ap (λ q. place_at end here here.token (pattern_fault q here.token)) d.1
-      ∙ ap (λ t. place_at end here t (pattern_fault (after_op d.0 o) t)) h
-      ∙ ap (place_at end here (word w)) i ∙ sym is
+      ap (λ q. offset_at end here here.token (pattern_fault q here.token)) d.1
+      ∙ ap (λ t. offset_at end here t (pattern_fault (after_op d.0 o) t)) h
+      ∙ ap (offset_at end here (word w)) i ∙ sym is

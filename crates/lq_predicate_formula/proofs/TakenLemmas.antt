@@ -46,7 +46,7 @@ full_at ts (complete below f n a o raw literal h) e m =
 -- a word that is taken after the most words is at fault as one comparison too many
 pub full : (end : ℕ) (ts : List Token) (s s' : MachineState) (here : Placed) (w : List ℕ)
     → steps (start nesting) ts ≡ Some s → words ts ≡ most_comparisons + most_comparisons
-    → here.token ≡ word w → step_token s here.token ≡ Some s' → IsFaultOf end ts here here.place
+    → here.token ≡ word w → step_token s here.token ≡ Some s' → IsFaultOf end ts here here.offset
 full end ts s s' here w e m h g =
     let k = full_at ts (move s (word w) s' (subst (λ t. step_token s t ≡ Some s') h g)) e m in
     one_more w h k.0 k.1 refl
@@ -67,25 +67,25 @@ never_nameless : {x s : MachineState} {w : List ℕ} → Move x (word w) s → n
 never_nameless (attribute below f n raw attr e) h o k = none-some attr (sym h ∙ e)
 never_nameless (complete below f n a u raw literal e) h o k = none-some o k
 
--- what has a bad place is no pattern
+-- what has a fault is no pattern
 literal_by : (r : Result (List Element) ℕ) (k : ℕ) → result_err r ≡ Some k
     → pattern_literal r ≡ None
 literal_by (Ok es) k e = absurd (none-some k e)
 literal_by (Err j) k e = refl
 
--- a word with a bad place is no literal of its operator
+-- a word with a fault is no literal of its operator
 no_literal : (o : Op) (w : List ℕ) (k : ℕ) → literal_fault o w ≡ Some k → literal_of o w ≡ None
 no_literal Eq w k e = literal_by (pattern_of w) k e
 no_literal Ne w k e = literal_by (pattern_of w) k e
 no_literal o w k e = absurd (none-some k e)
 
--- after an operator, a word with a bad place is not taken
+-- after an operator, a word with a fault is not taken
 never_bad_at : {x s s' : MachineState} {o : Op} {w : List ℕ} (k : ℕ) → Move x (op o) s
     → Move s (word w) s' → literal_fault o w ≡ Some k → ⊥
 never_bad_at k (operator below f n a o) (complete below' f' n' a' o' w literal e) h =
     none-some literal (sym (no_literal o w k h) ∙ e)
 
--- after tokens that end with an operator, a word with a bad place is not taken
+-- after tokens that end with an operator, a word with a fault is not taken
 pub never_bad : (front : List Token) (o : Op) (w : List ℕ) (k : ℕ) (s s' : MachineState)
     → steps (start nesting) (front ++ op o ∷ []) ≡ Some s → step_token s (word w) ≡ Some s'
     → literal_fault o w ≡ Some k → ⊥

@@ -119,7 +119,7 @@ pub list_step : (e : Element) (es : List Element) → encode_utf8_all (pattern_t
 list_step e es = ap encode_utf8_all (element_then-append e [] (pattern_text es))
     ∙ encodes-append (element_then e []) (pattern_text es)
 
--- the same from a place on
+-- the same from an index on
 pub list_left : (es : List Element) (i : ℕ) (e : Element) → i < length es → e ≡ get_or es i e
     → encode_utf8_all (pattern_text (drop i es))
     ≡ encode_utf8_all (element_then e []) ++ encode_utf8_all (pattern_text (drop (i + 1) es))
@@ -134,7 +134,7 @@ pub items_step : (i : Item) (is : List Item) → encode_utf8_all (items_then (i 
 items_step i is = ap encode_utf8_all (item_then-append i [] (items_then is []))
     ∙ encodes-append (item_then i []) (items_then is [])
 
--- the same from a place on
+-- the same from an index on
 pub items_left : (is : List Item) (i : ℕ) (d : Item) → i < length is
     → encode_utf8_all (items_then (drop i is) [])
     ≡ encode_utf8_all (item_then (get_or is i d) [])

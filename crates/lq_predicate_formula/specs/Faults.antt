@@ -1,4 +1,4 @@
--- What a text reads as by the grammar and the limits, and its faults with their places.
+-- What a text reads as by the grammar and the limits, and its faults with their offsets.
 use Rattle.std.specs.Prelude.{◌≡◌, ◌+◌, ◌<◌, ◌≤◌, ◌⊎◌, ℕ, List, [], ◌∷◌, ◌++◌, length, map, None, Some, Result, Ok, Err}
 use Rattle.lq_value.specs.declared.op.Op.{Op}
 use Rattle.lq_value.specs.declared.op.Op.TheVariants.{Eq}
@@ -66,61 +66,63 @@ operators (t ∷ ts) = op_count t + operators ts
 
 -- ---- the faults
 
--- The token after these is at fault, and this is the place of the fault.
-pub data IsFaultOf (end : ℕ) (before : List Token) (here : Placed) (place : ℕ) : Type 0 where
+-- The token after these is at fault, and this is the offset of the fault.
+pub data IsFaultOf (end : ℕ) (before : List Token) (here : Placed) (offset : ℕ) : Type 0 where
   -- a token that isn't allowed here
-  stray : (CanStand (before ++ here.token ∷ []) → ⊥) → (here.token ≡ cut → ⊥) → place ≡ here.place
-      → IsFaultOf end before here place
+  stray : (CanStand (before ++ here.token ∷ []) → ⊥) → (here.token ≡ cut → ⊥) → offset ≡ here.offset
+      → IsFaultOf end before here offset
   -- the text ends inside a quoted text, or with `\`
-  cut_off : here.token ≡ cut → place ≡ end → IsFaultOf end before here place
+  cut_off : here.token ≡ cut → offset ≡ end → IsFaultOf end before here offset
   -- `&` or `|` alone
-  alone : here.token ≡ lone → place ≡ here.place → IsFaultOf end before here place
+  alone : here.token ≡ lone → offset ≡ here.offset → IsFaultOf end before here offset
   -- a `(` or `!` that would nest 65 deep
   too_deep : (here.token ≡ opens) ⊎ (here.token ≡ bang)
-      → IsTooDeep (before ++ here.token ∷ []) → place ≡ here.place → IsFaultOf end before here place
+      → IsTooDeep (before ++ here.token ∷ []) → offset ≡ here.offset
+      → IsFaultOf end before here offset
   -- an attribute's name that is empty, has over 255 bytes or contains NUL
   bad_name : (raw : List ℕ) → here.token ≡ word raw → AwaitsAttr before → name_of raw ≡ None
-      → place ≡ here.place → IsFaultOf end before here place
+      → offset ≡ here.offset → IsFaultOf end before here offset
   -- the attribute of a comparison after 256 others
   one_more : (raw : List ℕ) → here.token ≡ word raw → AwaitsAttr before
-      → operators before ≡ most_comparisons → place ≡ here.place → IsFaultOf end before here place
+      → operators before ≡ most_comparisons → offset ≡ here.offset
+      → IsFaultOf end before here offset
   -- a fault of the pattern after its operator
   bad_pattern : (front : List Token) (o : Op) (raw : List ℕ) (k : ℕ) → before ≡ front ++ op o ∷ []
-      → here.token ≡ word raw → literal_fault o raw ≡ Some k → place ≡ here.raw_place + k
-      → IsFaultOf end before here place
+      → here.token ≡ word raw → literal_fault o raw ≡ Some k → offset ≡ here.raw_offset + k
+      → IsFaultOf end before here offset
 
 -- None of the tokens is at fault.
 abbrev pub AreFine : ℕ → List Placed → Type 0
-AreFine end ts = (before : List Placed) (here : Placed) (after : List Placed) (place : ℕ)
-    → ts ≡ before ++ here ∷ after → IsFaultOf end (bare before) here place → ⊥
+AreFine end ts = (before : List Placed) (here : Placed) (after : List Placed) (offset : ℕ)
+    → ts ≡ before ++ here ∷ after → IsFaultOf end (bare before) here offset → ⊥
 
--- The leftmost fault of the text is at this place.
-pub data IsFaulty (text : List ℕ) (place : ℕ) : Type 0 where
+-- The leftmost fault of the text is at this offset.
+pub data IsFaulty (text : List ℕ) (offset : ℕ) : Type 0 where
   -- the text has more than 4,096 bytes
-  too_long : most_bytes < length text → place ≡ most_bytes → IsFaulty text place
+  too_long : most_bytes < length text → offset ≡ most_bytes → IsFaulty text offset
   -- a token is at fault, and none before it is
   at_token : length text ≤ most_bytes → (before : List Placed) (here : Placed) (after : List Placed)
       → HasTokens 0 text (before ++ here ∷ after) → AreFine (length text) before
-      → IsFaultOf (length text) (bare before) here place → IsFaulty text place
+      → IsFaultOf (length text) (bare before) here offset → IsFaulty text offset
   -- the formula ends too early
   ends_early : length text ≤ most_bytes → (all : List Placed) → HasTokens 0 text all
       → AreFine (length text) all → ((q : Query) → IsFormula nesting (bare all) q → ⊥)
-      → place ≡ length text → IsFaulty text place
+      → offset ≡ length text → IsFaulty text offset
   -- the query is too deep, or its canonical text too long
   too_much : length text ≤ most_bytes → (all : List Placed) → HasTokens 0 text all
       → AreFine (length text) all → (q : Query) → IsFormula nesting (bare all) q
-      → (most_depth < depth q) ⊎ (most_bytes < length (canonical q)) → place ≡ length text
-      → IsFaulty text place
+      → (most_depth < depth q) ⊎ (most_bytes < length (canonical q)) → offset ≡ length text
+      → IsFaulty text offset
 
 -- ---- the reading
 
--- The text reads as the query, or its leftmost fault is at the place.
+-- The text reads as the query, or its leftmost fault is at the offset.
 abbrev pub IsReading : List ℕ → Result Query ℕ → Type 0
 IsReading text (Ok q) = Reads text q
-IsReading text (Err place) = IsFaulty text place
+IsReading text (Err offset) = IsFaulty text offset
 
 -- The text has this reading, and no other: it reads as just one query and isn't faulty, or it has
--- its leftmost fault at just one place and reads as no query.
+-- its leftmost fault at just one offset and reads as no query.
 pub record HasOneReading (text : List ℕ) (reading : Result Query ℕ) : Type 0 where
   pub is : IsReading text reading
   pub only : (other : Result Query ℕ) → IsReading text other → other ≡ reading

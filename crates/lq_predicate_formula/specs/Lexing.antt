@@ -81,7 +81,7 @@ front b bs =
     else word_front (b ∷ bs) (word_bytes false (b ∷ bs)))
 
 abbrev pub placed_at : ℕ → LexedToken → Placed
-placed_at at f = record { place = at; raw_place = at + f.inside; token = f.token }
+placed_at at f = record { offset = at; raw_offset = at + f.inside; token = f.token }
 
 abbrev pub front_at : List ℕ → LexedToken
 front_at [] = fixed cut 0

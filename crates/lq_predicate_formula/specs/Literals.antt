@@ -34,7 +34,7 @@ name_refusal raw = if is_some (name_of raw) then None else Some BadName
 
 abbrev pub pattern_literal : Result (List Element) ℕ → Option Literal
 pattern_literal (Ok elements) = Some (Pattern elements)
-pattern_literal (Err place) = None
+pattern_literal (Err offset) = None
 
 -- the literal that a raw text writes after an operator
 abbrev pub literal_of : Op → List ℕ → Option Literal
@@ -47,4 +47,4 @@ literal_fault o raw = if takes_pattern o then result_err (pattern_of raw) else N
 
 -- why a raw text is refused as a literal after an operator
 abbrev pub literal_refusal : Op → List ℕ → Option Refusal
-literal_refusal o raw = option_map (λ place. BadQuery place) (literal_fault o raw)
+literal_refusal o raw = option_map (λ offset. BadQuery offset) (literal_fault o raw)

@@ -10,7 +10,7 @@ use Rattle.lq_predicate_formula.specs.Canonical.{canonical, depth}
 use Rattle.lq_predicate_formula.specs.Machine.{Expected, after_op, MachineState, start, step_token, finished_query}
 use Rattle.lq_predicate_formula.specs.Faults.{most_bytes, most_comparisons, most_depth}
 
--- ---- the place of the fault of a refused token
+-- ---- the offset of the fault of a refused token
 
 -- the offset in a word of its pattern's fault, if the word is a literal that is read as a pattern
 abbrev pub pattern_fault_of_word : Expected → List ℕ → Option ℕ
@@ -22,19 +22,19 @@ abbrev pub pattern_fault : Expected → Token → Option ℕ
 pattern_fault p (word raw) = pattern_fault_of_word p raw
 pattern_fault p t = None
 
--- the place of a token's fault outside a pattern: a cut text has it at its end
-abbrev pub place_or_end : ℕ → ℕ → Token → ℕ
-place_or_end end place cut = end
-place_or_end end place t = place
+-- the offset of a token's fault outside a pattern: a cut text has it at its end
+abbrev pub offset_or_end : ℕ → ℕ → Token → ℕ
+offset_or_end end offset cut = end
+offset_or_end end offset t = offset
 
--- the place of the fault of a token of this kind, which may be in its pattern
-abbrev pub place_at : ℕ → Placed → Token → Option ℕ → ℕ
-place_at end t kind None = place_or_end end t.place kind
-place_at end t kind (Some k) = t.raw_place + k
+-- the offset of the fault of a token of this kind, which may be in its pattern
+abbrev pub offset_at : ℕ → Placed → Token → Option ℕ → ℕ
+offset_at end t kind None = offset_or_end end t.offset kind
+offset_at end t kind (Some k) = t.raw_offset + k
 
--- the place of the fault of a refused token
-abbrev pub fault_place : ℕ → Expected → Placed → ℕ
-fault_place end p t = place_at end t t.token (pattern_fault p t.token)
+-- the offset of the fault of a refused token
+abbrev pub fault_offset : ℕ → Expected → Placed → ℕ
+fault_offset end p t = offset_at end t t.token (pattern_fault p t.token)
 
 -- ---- the reading
 
@@ -48,7 +48,7 @@ abbrev pub after_token : ℕ → Placed → Option MachineState → ℕ → (Mac
     → Result Query ℕ
 after_token fault t None count others = Err fault
 after_token fault t (Some s) count others =
-    if nat_le count (most_comparisons + most_comparisons) then others s else Err t.place
+    if nat_le count (most_comparisons + most_comparisons) then others s else Err t.offset
 
 -- the query, if the formula is whole and within the limits
 abbrev pub finished : ℕ → Option Query → Result Query ℕ
@@ -61,7 +61,8 @@ finished end (Some q) =
 -- the reading of the tokens from a state on, after this many words, where the text ends at `end`
 unfoldable pub read_tokens : ℕ → MachineState → ℕ → List Placed → Result Query ℕ
 read_tokens end s count [] = finished end (finished_query s)
-read_tokens end s count (t ∷ ts) = after_token (fault_place end s.expected t) t (step_token s t.token)
+read_tokens end s count (t ∷ ts) =
+    after_token (fault_offset end s.expected t) t (step_token s t.token)
     (count + word_count t.token) (λ s'. read_tokens end s' (count + word_count t.token) ts)
 
 -- the reading of a text with these tokens

@@ -24,10 +24,10 @@ pattern_bytes es = length (encode_utf8_all (pattern_text es))
 abbrev pub items_bytes : List Item → ℕ
 items_bytes is = length (encode_utf8_all (items_then is []))
 
--- the size of a pattern that was read, or the place of its fault
+-- the size of a pattern that was read, or the offset of its fault
 abbrev pub pattern_sized : Result (List Element) ℕ → Result ℕ ℕ
 pattern_sized (Ok es) = Ok (capped (pattern_bytes es))
-pattern_sized (Err place) = Err place
+pattern_sized (Err offset) = Err offset
 
 -- the size of a set's items after this many bytes, and the text after them
 abbrev pub items_sized : ℕ → Pieces Item → Option (ℕ × SignList)

@@ -18,7 +18,7 @@ token_of tokens.Lone = lexed.lone
 token_of tokens.Cut = lexed.cut
 
 abbrev pub placed_of : Placed → lexed.Placed
-placed_of p = record { place = p.place; raw_place = p.raw_place; token = token_of p.token }
+placed_of p = record { offset = p.offset; raw_offset = p.raw_offset; token = token_of p.token }
 
 abbrev pub front_of : Piece → LexedToken
 front_of p = record { token = token_of p.token; size = p.size; inside = p.inside }

@@ -1,4 +1,4 @@
--- The tokens of a text, each with its place: some split of the text into white space and tokens.
+-- The tokens of a text, each with its offset: some split of the text into white space and tokens.
 use Rattle.std.specs.Prelude.{◌≡◌, ◌⊎◌, ℕ, ◌+◌, ◌==◌, Bool, true, false, List, [], ◌∷◌, ◌++◌, length, map, codes}
 use Rattle.std.specs.List.{list_all}
 use Rattle.lq_value.specs.declared.op.Op.{Op}
@@ -21,11 +21,11 @@ pub data Token : Type 0 where
 
 -- a token with the offsets of its first byte and of its raw text
 pub record Placed : Type 0 where
-  pub place : ℕ
-  pub raw_place : ℕ
+  pub offset : ℕ
+  pub raw_offset : ℕ
   pub token : Token
 
--- the tokens without their places
+-- the tokens without their offsets
 abbrev pub bare : List Placed → List Token
 bare ps = map (λ p. p.token) ps
 
@@ -125,9 +125,9 @@ IsToken t inside part rest = ((inside ≡ 0) × IsUnquoted t part rest)
 
 -- the part of a text at an offset is the token with its offsets, and the rest follows it
 pub record IsTokenAt (at : ℕ) (part rest : List ℕ) (t : Placed) : Type 0 where
-  pub place : t.place ≡ at
+  pub offset : t.offset ≡ at
   pub inside : ℕ
-  pub raw : t.raw_place ≡ at + inside
+  pub raw : t.raw_offset ≡ at + inside
   pub token : IsToken t.token inside part rest
 
 -- ---- the tokens of a text

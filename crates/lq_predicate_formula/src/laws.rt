@@ -21,7 +21,7 @@ pub fn reads_one()
         → IsFormula n ts q → IsFormula n ts r → q ≡ r }
 {}
 
-/// Each text reads as just one query, or has its leftmost fault at just one place, and never both.
+/// Each text reads as just one query, or has its leftmost fault at just one offset, and never both.
 /// `reading_of` of `specs/Reading` is this reading.
 pub fn one_reading()
     ensures { (text : List ℕ) → HasOneReading text (reading_of text) }

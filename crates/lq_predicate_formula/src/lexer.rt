@@ -15,46 +15,46 @@ use crate::token::{Cursor, Placed};
 /// `None` where only white space remains. It takes no memory, and the token borrows the text. The
 /// tokens are this project's own.
 pub fn next_token<'a>(cursor: Cursor<'a>) -> Option<(Placed<'a>, Cursor<'a>)>
-    requires { cursor.place + length cursor.rest.now < 2 ^ 64 }
+    requires { cursor.offset + length cursor.rest.now < 2 ^ 64 }
     ensures none { IfNone result (IsBlank cursor.entry.rest.now) }
-    ensures some { IfSome result (λ r. Yields cursor.entry.place cursor.entry.rest.now
-        (placed_of r.0) r.1.place r.1.rest.now) }
+    ensures some { IfSome result (λ r. Yields cursor.entry.offset cursor.entry.rest.now
+        (placed_of r.0) r.1.offset r.1.rest.now) }
 
     // A word is a text.
     ensures text { IfSome result (λ r. WordIs IsUtf8 (token_of r.0.token)) }
 
     // The rest is the end of the same text, and shorter.
-    ensures place { IfSome result (λ r. r.1.place + length r.1.rest.now
-        ≡ cursor.entry.place + length cursor.entry.rest.now) }
+    ensures offset { IfSome result (λ r. r.1.offset + length r.1.rest.now
+        ≡ cursor.entry.offset + length cursor.entry.rest.now) }
     ensures shorter { IfSome result (λ r. length r.1.rest.now < length cursor.entry.rest.now) }
 {
     let (space, rest) = trim(cursor.rest);
     if rest.is_empty() {
         return None;
     }
-    Some(token_at(cursor.place + space, rest))
+    Some(token_at(cursor.offset + space, rest))
 }
 
 // The token that begins at an offset, and the rest after it.
-fn token_at<'a>(place: usize, rest: &'a str) -> (Placed<'a>, Cursor<'a>)
+fn token_at<'a>(offset: usize, rest: &'a str) -> (Placed<'a>, Cursor<'a>)
     requires some { 0 < length rest.now }
-    requires small { place + length rest.now < 2 ^ 64 }
-    ensures begins { BeginsBy place rest.entry.now (placed_of result.0)
-        result.1.place result.1.rest.now }
+    requires small { offset + length rest.now < 2 ^ 64 }
+    ensures begins { BeginsBy offset rest.entry.now (placed_of result.0)
+        result.1.offset result.1.rest.now }
     ensures text { WordIs IsUtf8 (token_of result.0.token) }
-    ensures place { result.1.place + length result.1.rest.now ≡ place + length rest.entry.now }
+    ensures offset { result.1.offset + length result.1.rest.now ≡ offset + length rest.entry.now }
     ensures shorter { length result.1.rest.now < length rest.entry.now }
 {
     let piece = read_piece(rest);
     let (_, after) = rest.split_at(piece.size);
     (
         Placed {
-            place,
-            raw_place: place + piece.inside,
+            offset,
+            raw_offset: offset + piece.inside,
             token: piece.token,
         },
         Cursor {
-            place: place + piece.size,
+            offset: offset + piece.size,
             rest: after,
         },
     )

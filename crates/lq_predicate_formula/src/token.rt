@@ -27,14 +27,14 @@ pub enum Token<'a> {
 /// A token with the byte offsets of its first byte and of its raw text.
 #[derive(Clone, Copy)]
 pub struct Placed<'a> {
-    pub place: usize,
-    pub raw_place: usize,
+    pub offset: usize,
+    pub raw_offset: usize,
     pub token: Token<'a>,
 }
 
 /// The rest of a text, and the byte offset where it begins.
 #[derive(Clone, Copy)]
 pub struct Cursor<'a> {
-    pub place: usize,
+    pub offset: usize,
     pub rest: &'a str,
 }

@@ -9,12 +9,12 @@ use Rattle.lq_value_pattern.specs.declared.error.SourceError.TheVariants as erro
 
 -- the refusal for an error of reading a source
 abbrev pub refusal_of : SourceError → Refusal
-refusal_of (error.Faulty place) = BadQuery place
+refusal_of (error.Faulty offset) = BadQuery offset
 refusal_of error.NoMemory = NoMemory
 
 abbrev pub fault_refusal : Result (List Element) ℕ → Option Refusal
 fault_refusal (Ok es) = None
-fault_refusal (Err place) = Some (BadQuery place)
+fault_refusal (Err offset) = Some (BadQuery offset)
 
 -- why a source is refused
 abbrev pub source_refusal : List ℕ → Option Refusal

@@ -173,7 +173,7 @@ impl From<SourceError> for Refusal {
 
     fn from(error: SourceError) -> Refusal {
         match error {
-            SourceError::Faulty { place } => Refusal::BadQuery { place },
+            SourceError::Faulty { offset } => Refusal::BadQuery { place: offset },
             SourceError::NoMemory => Refusal::NoMemory,
         }
     }

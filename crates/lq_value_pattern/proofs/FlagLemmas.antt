@@ -1,10 +1,10 @@
--- What flags of places say: which elements take the characters from the flag's place on.
+-- What flags of indexes say: which elements take the characters from the flag's index on.
 use Rattle.std.proofs.Common.{◌≡◌, ◌≤◌, ◌<◌, ◌+◌, ◌&&◌, ℕ, List, [], ◌∷◌, ◌++◌, length, take, drop, replicate, slice_index, false, refl, inl, inr, arith, take-add, take_all, take-append-drop, length-take-le, drop-drop}
 use Rattle.std.specs.List.{between}
 use Rattle.std.proofs.lemmas.Bool.{cases_lt}
 use Rattle.std.proofs.lemmas.List.{take-replicate, get_or-replicate, length-replicate}
 use Rattle.lq_value_pattern.specs.declared.element.Element.{Element}
-use Rattle.lq_value_pattern.specs.Seek.{take_front, AreKeptBy, AreOn, AreFlags, AreOff, IsNextOn, TakeNoneBefore, IsFirstPlaceBefore}
+use Rattle.lq_value_pattern.specs.Seek.{take_front, AreKeptBy, AreOn, AreFlags, AreOff, IsNextOn, TakeNoneBefore, IsFirstIndexBefore}
 
 -- more elements take more characters
 pub front_join : (front back : List Element) (cs : List ℕ) → take_front (front ++ back) cs
@@ -66,18 +66,18 @@ run_more es cs left old new k n first next le from same within flags off keeps i
   off_more (between k (k + n) es) left old new first next within off keeps is,
 )
 
--- where all flags are out there is no place
+-- where all flags are out there is no index
 pub none_flagged : (es : List Element) (cs flags : List ℕ) (k places : ℕ)
     → AreFlags (take k es) cs flags → AreOff flags 0 places → places ≤ length flags
     → TakeNoneBefore es cs places
 none_flagged es cs flags k places are off le = λ q lt.
     front_fewer es (drop q cs) k (grind (arith, are q (omega arith), off q (omega arith) lt))
 
--- the first flag that is on has the first place
+-- the first flag that is on has the first index
 pub first_flagged : (es : List Element) (cs flags : List ℕ) (k first places : ℕ)
     → length es ≤ k → AreFlags (take k es) cs flags → AreOff flags 0 first → first < places
     → places ≤ length flags → (slice_index flags first ≡ 0 → ⊥)
-    → length es + places ≤ length cs + 1 → IsFirstPlaceBefore es cs places first
+    → length es + places ≤ length cs + 1 → IsFirstIndexBefore es cs places first
 first_flagged es cs flags k first places all are off lt le on room = record {
   before = lt;
   is = record {

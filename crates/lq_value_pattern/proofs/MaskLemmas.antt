@@ -89,7 +89,7 @@ any_taken j cs old new same off flips = flipped_taken (takes Star) j cs old old 
 
 -- ---- ends
 
--- one element more takes the character at its place of the text
+-- one element more takes the character at its index of the text
 front_at : (es : List Element) (cs : List ℕ) (j k i : ℕ) → j < length es → k + j ≡ i
     → i < length cs → take_front (take (suc j) es) (drop k cs)
     ≡ (take_front (take j es) (drop k cs) && takes_at es j (slice_index cs i))

@@ -1,4 +1,4 @@
--- The first place from which single elements take a character each is where a star before them
+-- The first index from which single elements take a character each is where a star before them
 -- ends.
 use Rattle.std.proofs.Common.{◌≡◌, ◌≤◌, ◌<◌, ◌+◌, ◌-◌, ℕ, zero, suc, List, [], ◌∷◌, ◌++◌, length, take, drop, true, false, refl, sym, ap, ◌∙◌, arith, inl, inr, take-append-drop, length-drop, length-take-le, drop-drop}
 use Rattle.std.proofs.lemmas.Bool.{and_parts, and_right, both_ways, cases_lt, false_from_ne_true}
@@ -7,7 +7,7 @@ use Rattle.lq_value_pattern.specs.declared.element.Element.{Element}
 use Rattle.lq_value_pattern.specs.Element.{takes}
 use Rattle.lq_value_pattern.specs.Pattern.{is_fit, is_end, some_rest}
 use Rattle.lq_value_pattern.specs.Matching.{AreSingle, TakesRun, Finds}
-use Rattle.lq_value_pattern.specs.Seek.{take_front, TakeNoneBefore, IsFirstPlace, IsFirstPlaceBefore, TakeNowhere, IsPiece}
+use Rattle.lq_value_pattern.specs.Seek.{take_front, TakeNoneBefore, IsFirstIndex, IsFirstIndexBefore, TakeNowhere, IsPiece}
 use Rattle.lq_value_pattern.proofs.PatternLemmas.{some_found, some_at}
 use Rattle.lq_value_pattern.proofs.MatchingLemmas.{fits_join, found_at_star, found_later, some_later}
 
@@ -43,7 +43,7 @@ passes_taken piece es cs s h = record {
   fit = cc (fits_join piece es cs s);
 }
 
--- ---- the first place
+-- ---- the first index
 
 -- places that don't fit are passed over
 skipped : (es : List Element) (cs : List ℕ) (p : ℕ)
@@ -55,24 +55,24 @@ skipped es (c ∷ cs) (suc p) none h =
     some_later es c cs (none zero (omega arith))
     ∙ skipped es cs p (λ q lt. none (suc q) (omega arith)) (omega arith)
 
--- before a star the first place is enough
-pub found_piece : (es piece after : List Element) (cs left : List ℕ) (place : ℕ)
-    → IsPiece es piece after → (length after ≡ 0 → ⊥) → IsFirstPlace piece cs place
-    → left ≡ drop (place + length piece) cs → Finds es cs after left
-found_piece es piece [] cs left place is some p from = absurd (some refl)
-found_piece es piece (e ∷ after) cs left place is some p from =
+-- before a star the first index is enough
+pub found_piece : (es piece after : List Element) (cs left : List ℕ) (index : ℕ)
+    → IsPiece es piece after → (length after ≡ 0 → ⊥) → IsFirstIndex piece cs index
+    → left ≡ drop (index + length piece) cs → Finds es cs after left
+found_piece es piece [] cs left index is some p from = absurd (some refl)
+found_piece es piece (e ∷ after) cs left index is some p from =
     let all = piece ++ e ∷ after in
-    let there = drop place cs in
+    let there = drop index cs in
     let passes = passes_taken piece (e ∷ after) there is.single p.taken in
     let here = found_at_star all there e after (e ∷ after) (drop (length piece) there) refl
     (record { passes = passes; star = is.star }) in
-    let same = skipped all cs place
+    let same = skipped all cs index
     (λ q lt. not_taken piece (e ∷ after) (drop q cs) is.single (p.first q lt))
     (omega (arith, p.within)) in
-    rw (is.elements, from) (rw (drop-drop (length piece) place cs) at (found_later all cs there
+    rw (is.elements, from) (rw (drop-drop (length piece) index cs) at (found_later all cs there
     (e ∷ after) (drop (length piece) there) same here))
 
--- where no place is, none takes them, however near to the end
+-- where there is no index, none takes them, however near to the end
 none_taken : (es : List Element) (cs : List ℕ) (q : ℕ) → TakeNowhere es cs
     → take_front es (drop q cs) ≡ false
 none_taken [] cs q none = none 0 (omega arith)
@@ -98,21 +98,21 @@ short_piece es piece after cs is h =
 -- ---- the last elements
 
 -- the last elements are found at the end
-pub found_end : (es piece after : List Element) (cs end left : List ℕ) (place : ℕ)
+pub found_end : (es piece after : List Element) (cs end left : List ℕ) (index : ℕ)
     → IsPiece es piece after → length after ≡ 0 → length piece ≤ length cs
-    → end ≡ drop (length cs - length piece) cs → IsFirstPlace piece end place
+    → end ≡ drop (length cs - length piece) cs → IsFirstIndex piece end index
     → left ≡ drop (length cs) cs → Finds es cs after left
-found_end es piece [] cs end left place is none le at p from =
+found_end es piece [] cs end left index is none le at p from =
     let d = length cs - length piece in
     let long = length-drop d cs in
-    let here : place ≡ 0 = omega (arith, p.within, ap length at, long) in
+    let here : index ≡ 0 = omega (arith, p.within, ap length at, long) in
     let taken : take_front piece (drop d cs) ≡ true = rw (here, at) at p.taken in
     let past = drop_all (length piece) (drop d cs) (omega (arith, long)) in
     let fit : some_rest (is_fit es) cs ≡ true =
     some_at (is_fit es) cs d (cc (is.elements, fits_join piece [] (drop d cs) is.single)) in
     let done : is_fit [] left ≡ true = rw (from, drop_all (length cs) cs (omega arith)) refl in
     record { same = fit ∙ sym done; star = tt; shorter = omega arith }
-found_end es piece (e ∷ after) cs end left place is none le at p from =
+found_end es piece (e ∷ after) cs end left index is none le at p from =
     absurd (omega (arith, none))
 
 -- what is at its end is empty
@@ -144,18 +144,18 @@ nowhere_end es piece [] cs end is none le at nowhere =
     both_ways (take_front piece rest) (rw (here, ← at) (nowhere 0 room)) parts.0))
 nowhere_end es piece (e ∷ after) cs end is none le at nowhere = absurd (omega (arith, none))
 
--- ---- places from a place on
+-- ---- indexes from an index on
 
 -- no elements are taken at once
-pub empty_first : (es : List Element) (cs : List ℕ) → length es ≡ 0 → IsFirstPlace es cs 0
+pub empty_first : (es : List Element) (cs : List ℕ) → length es ≡ 0 → IsFirstIndex es cs 0
 empty_first [] cs h =
     record { within = omega arith; taken = refl; first = λ q lt. absurd (omega arith) }
 empty_first (e ∷ es) cs h = absurd (omega arith)
 
--- a place behind others, seen from the text's start
-at_place : (es : List Element) (cs : List ℕ) (start end q : ℕ) → TakeNoneBefore es cs start
+-- an index behind others, seen from the text's start
+at_index : (es : List Element) (cs : List ℕ) (start end q : ℕ) → TakeNoneBefore es cs start
     → TakeNoneBefore es (drop start cs) end → q < start + end → take_front es (drop q cs) ≡ false
-at_place es cs start end q none more lt = elim (cases_lt q start) [
+at_index es cs start end q none more lt = elim (cases_lt q start) [
   | inl below ↦ none q below
   | inr above ↦
       let is : start + (q - start) ≡ q = omega arith in
@@ -167,20 +167,20 @@ pub none_more : (es : List Element) (cs rest : List ℕ) (start places : ℕ)
     → TakeNoneBefore es cs start → rest ≡ drop start cs → TakeNoneBefore es rest places
     → TakeNoneBefore es cs (start + places)
 none_more es cs rest start places none from more =
-    λ q lt. at_place es cs start places q none (rw from at more) lt
+    λ q lt. at_index es cs start places q none (rw from at more) lt
 
--- the first place of a rest is the first behind places without one
-pub first_more : (es : List Element) (cs rest : List ℕ) (start places place : ℕ)
+-- the first index of a rest is the first behind places without one
+pub first_more : (es : List Element) (cs rest : List ℕ) (start places index : ℕ)
     → start ≤ length cs → TakeNoneBefore es cs start → rest ≡ drop start cs
-    → IsFirstPlaceBefore es rest places place → IsFirstPlace es cs (start + place)
-first_more es cs rest start places place le none from at = record {
+    → IsFirstIndexBefore es rest places index → IsFirstIndex es cs (start + index)
+first_more es cs rest start places index le none from at = record {
   within = omega (arith, at.is.within, ap length from, length-drop start cs);
-  taken = cc (at.is.taken, drop-drop place start cs);
-  first = λ q lt. at_place es cs start place q none (rw from at at.is.first) lt;
+  taken = cc (at.is.taken, drop-drop index start cs);
+  first = λ q lt. at_index es cs start index q none (rw from at at.is.first) lt;
 }
 
 -- for the search in windows
-pub ruleset places_more = (empty_first, none_more, first_more)
+pub ruleset indexes_more = (empty_first, none_more, first_more)
 
 -- for the search of a part
 pub ruleset pieces_found = (short_piece, nowhere_end, nowhere_piece, found_end, found_piece)

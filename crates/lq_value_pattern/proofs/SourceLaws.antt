@@ -97,13 +97,13 @@ pub source_written : (text : List ℕ) (es : List Element)
     → (pattern_of text ≡ Ok es) ↔ Writes (signs_of text) es
 source_written text es = (ok_writes text es, writes_ok text es)
 
--- a source that is read up to a place has its fault there
-err_fault : (text : List ℕ) (place : ℕ) → IsUtf8 text → pattern_of text ≡ Err place
-    → HasFaultAt text place
-err_fault text place u h =
+-- a source that is read up to an offset has its fault there
+err_fault : (text : List ℕ) (offset : ℕ) → IsUtf8 text → pattern_of text ≡ Err offset
+    → HasFaultAt text offset
+err_fault text offset u h =
     let ss = signs_of text in
     let k : (left : List Sign) × (pieces_of element_at ss ≡ stuck left)
-    × (length text - signs_len left ≡ place) = grind arith in
+    × (length text - signs_len left ≡ offset) = grind arith in
     let s = elements_stop (suc (length ss)) ss k.0 (omega arith) k.1 in
     record {
       elements = s.0;
@@ -124,23 +124,23 @@ faulty_there ss (ends rest) h some none = absurd (some h)
 faulty_there ss (has e rest) h some none = absurd (none e h.0 rest h.1 h.2)
 faulty_there ss faulty h some none = refl
 
--- a source with a fault at a place is read up to it
-fault_err : (text : List ℕ) (place : ℕ) → IsUtf8 text → HasFaultAt text place
-    → pattern_of text ≡ Err place
-fault_err text place u f =
+-- a source with a fault at an offset is read up to it
+fault_err : (text : List ℕ) (offset : ℕ) → IsUtf8 text → HasFaultAt text offset
+    → pattern_of text ≡ Err offset
+fault_err text offset u f =
     let is = faulty_there f.rest (element_at f.rest) (element_read f.rest) f.some f.none in
     let before = elements_written f.elements f.front f.rest f.before in
     let stops = begins-stuck Element f.elements f.rest in
     let all : pieces_of element_at (signs_of text) ≡ stuck f.rest =
     cc (f.split, before, is, element_step f.rest, stops) in
-    let bytes : length text - signs_len f.rest ≡ place =
+    let bytes : length text - signs_len f.rest ≡ offset =
     omega (arith, signs-text text u, ap signs_len f.split, signs-split f.front f.rest, f.bytes) in
     rw (all, bytes) refl
 
--- a source is read up to a place just where its fault is there
-pub source_faulty : (text : List ℕ) (place : ℕ) → IsUtf8 text
-    → (pattern_of text ≡ Err place) ↔ HasFaultAt text place
-source_faulty text place u = (err_fault text place u, fault_err text place u)
+-- a source is read up to an offset just where its fault is there
+pub source_faulty : (text : List ℕ) (offset : ℕ) → IsUtf8 text
+    → (pattern_of text ≡ Err offset) ↔ HasFaultAt text offset
+source_faulty text offset u = (err_fault text offset u, fault_err text offset u)
 
 -- ---- the same of a call's answer
 
@@ -150,14 +150,14 @@ pub answer_written : (text : List ℕ) (r : Result (Vec Element) SourceError)
 answer_written text (Ok v) h = ok_writes text v.items h
 answer_written text (Err e) h = tt
 
--- the place of an error is that of the fault
-pub fault_named : (text : List ℕ) (place : ℕ) → IsUtf8 text
-    → Faulty place ≡ unwrap_or (source_error text) NoMemory → HasFaultAt text place
-fault_named text place u is = err_fault text place u (grind arith)
+-- the offset of an error is that of the fault
+pub fault_named : (text : List ℕ) (offset : ℕ) → IsUtf8 text
+    → Faulty offset ≡ unwrap_or (source_error text) NoMemory → HasFaultAt text offset
+fault_named text offset u is = err_fault text offset u (grind arith)
 
--- an answer that refuses with a place names the place of the fault
+-- an answer that refuses with an offset names the offset of the fault
 pub answer_fault : (text : List ℕ) (r : Result (Vec Element) SourceError)
     → IsUtf8 text → IsFailedBy r (source_error text)
-    → IfErr r (λ e. (place : ℕ) → e ≡ Faulty place → HasFaultAt text place)
+    → IfErr r (λ e. (offset : ℕ) → e ≡ Faulty offset → HasFaultAt text offset)
 answer_fault text (Ok v) u h = tt
-answer_fault text (Err e) u h = λ place is. fault_named text place u (sym is ∙ h.1)
+answer_fault text (Err e) u h = λ offset is. fault_named text offset u (sym is ∙ h.1)

@@ -11,7 +11,7 @@ use Rattle.lq_value_pattern.specs.declared.error.SourceError.TheVariants.{Faulty
 use Rattle.lq_value_pattern.specs.declared.sign.Sign.{Sign}
 use Rattle.lq_value_pattern.specs.SourceError.{IsFailedBy}
 use Rattle.lq_value_pattern.specs.Sign.{signs, signs_of, signs_len}
-use Rattle.lq_value_pattern.specs.Source.{ends, has, faulty, element_at, elements_or_place, pattern_of, source_error}
+use Rattle.lq_value_pattern.specs.Source.{ends, has, faulty, element_at, elements_or_offset, pattern_of, source_error}
 use Rattle.lq_value_pattern.specs.Written.{IsElement}
 use Rattle.lq_value_pattern.specs.Reading.{IsFound, IsWithElement, AreFound}
 use Rattle.lq_value_pattern.proofs.PieceLemmas.{Shrinks, SoFar, so_far_more, so_far_end, so_far_stuck}
@@ -111,7 +111,7 @@ elements_end : (text : List ℕ) (left : List Sign) (g : Result (Vec Element) So
     (s : ElementsSoFar (signs_of text) g left) → element_at left ≡ ends []
     → pattern_of text ≡ Ok s.elements
 elements_end text left g s e =
-    ap (elements_or_place text)
+    ap (elements_or_offset text)
     (so_far_end Element element_at element_shrinks (signs_of text) s.elements left [] s.pieces e)
 
 -- a source that ends here is refused for want of memory alone
@@ -139,7 +139,7 @@ left_within text left g u v s = omega (
   signs-split s.front (signs_of left),
 )
 
--- a source that is bad here is refused with the place where this is
+-- a source that is bad here is refused with the offset where this is
 pub stuck_refused : (text left : List ℕ) (g : Result (Vec Element) SourceError) → IsUtf8 left
     → ElementsSoFar (signs_of text) g (signs_of left) → element_at (signs_of left) ≡ faulty
     → Faulty (length text - length left) ≡ unwrap_or (source_error text) NoMemory

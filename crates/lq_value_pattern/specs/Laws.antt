@@ -15,8 +15,8 @@ SourcesAreRead =
 
 -- a text has a fault exactly where the elements before it end and no element is written
 abbrev pub FaultsAreFound : Type 0
-FaultsAreFound = (text : List ℕ) (place : ℕ) → IsUtf8 text
-    → (pattern_of text ≡ Err place) ↔ HasFaultAt text place
+FaultsAreFound = (text : List ℕ) (offset : ℕ) → IsUtf8 text
+    → (pattern_of text ≡ Err offset) ↔ HasFaultAt text offset
 
 -- The pieces of signs are the first piece and then those of the signs after it, which are fewer.
 pub record AreWalked {A : Type 0} (first : List Sign → First A) : Type 0 where

@@ -109,7 +109,7 @@ pub record AreNextEnds (ends mask next : ℕ) : Type 0 where
   pub first : bit_at next 0 ≡ bit_at mask 0
   pub later : (j : ℕ) → bit_at next (suc j) ≡ min (bit_at ends j) (bit_at mask (suc j))
 
--- before place i of the text, bit j says whether the first j + 1 elements took the last characters
+-- before index i of the text, bit j says whether the first j + 1 elements took the last characters
 abbrev pub AreEnds : List Element → List ℕ → ℕ → ℕ → Type 0
 AreEnds es cs i ends = (j k : ℕ) → j < length es → k + j + 1 ≡ i
     → bit_at ends j ≡ kept (take_front (take (suc j) es) (drop k cs)) 1

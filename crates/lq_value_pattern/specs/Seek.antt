@@ -1,4 +1,4 @@
--- How single elements are sought at many places of a text at once: a flag for each place says
+-- How single elements are sought at many places of a text at once: a flag for each index says
 -- whether the elements so far have taken the characters from there on.
 use Rattle.std.specs.Prelude.{◌≡◌, ◌<◌, ◌≤◌, ◌+◌, ℕ, List, [], ◌∷◌, ◌++◌, Bool, true, false, ◌&&◌, ◌==◌, nat_lt, not, if◌then◌else◌, length, drop, slice_index}
 use Rattle.lq_value_pattern.specs.declared.element.Element.{Element}
@@ -45,7 +45,7 @@ abbrev pub AreKept : (ℕ → Bool) → List ℕ → List ℕ → List ℕ → T
 AreKept test cs old new = (k : ℕ) → k < length old
     → slice_index new k ≡ kept (test (slice_index cs k)) (slice_index old k)
 
--- the flags stay where the elements take the characters from the flag's place on
+-- the flags stay where the elements take the characters from the flag's index on
 abbrev pub AreKeptBy : List Element → List ℕ → List ℕ → List ℕ → Type 0
 AreKeptBy es cs old new = (k : ℕ) → k < length old
     → slice_index new k ≡ kept (take_front es (drop k cs)) (slice_index old k)
@@ -54,38 +54,38 @@ AreKeptBy es cs old new = (k : ℕ) → k < length old
 abbrev pub AreOn : List ℕ → Type 0
 AreOn flags = (k : ℕ) → k < length flags → slice_index flags k ≡ 1
 
--- a place's flag is set exactly where the elements take the characters from that place on
+-- an index's flag is set exactly where the elements take the characters from that index on
 abbrev pub AreFlags : List Element → List ℕ → List ℕ → Type 0
 AreFlags es cs flags = (k : ℕ) → k < length flags
     → slice_index flags k ≡ kept (take_front es (drop k cs)) 1
 
--- no flag from one place up to another is set
+-- no flag from one index up to another is set
 abbrev pub AreOff : List ℕ → ℕ → ℕ → Type 0
 AreOff flags from to = (k : ℕ) → from ≤ k → k < to → slice_index flags k ≡ 0
 
--- the first set flag from a place on, or the number of flags
+-- the first set flag from an index on, or the number of flags
 pub record IsNextOn (flags : List ℕ) (from next : ℕ) : Type 0 where
   pub within : next ≤ length flags
   pub behind : from ≤ next
   pub off : AreOff flags from next
   pub on : next < length flags → slice_index flags next ≡ 0 → ⊥
 
--- at no place before this one do the elements take the characters
+-- at no index before this one do the elements take the characters
 abbrev pub TakeNoneBefore : List Element → List ℕ → ℕ → Type 0
 TakeNoneBefore es cs end = (q : ℕ) → q < end → take_front es (drop q cs) ≡ false
 
--- the first place at which the elements take the characters
-pub record IsFirstPlace (es : List Element) (cs : List ℕ) (place : ℕ) : Type 0 where
-  pub within : place + length es ≤ length cs
-  pub taken : take_front es (drop place cs) ≡ true
-  pub first : TakeNoneBefore es cs place
+-- the first index at which the elements take the characters
+pub record IsFirstIndex (es : List Element) (cs : List ℕ) (index : ℕ) : Type 0 where
+  pub within : index + length es ≤ length cs
+  pub taken : take_front es (drop index cs) ≡ true
+  pub first : TakeNoneBefore es cs index
 
 -- the same, before an end
-pub record IsFirstPlaceBefore (es : List Element) (cs : List ℕ) (end place : ℕ) : Type 0 where
-  pub before : place < end
-  pub is : IsFirstPlace es cs place
+pub record IsFirstIndexBefore (es : List Element) (cs : List ℕ) (end index : ℕ) : Type 0 where
+  pub before : index < end
+  pub is : IsFirstIndex es cs index
 
--- no place that has room for the elements takes them
+-- no index that has room for the elements takes them
 abbrev pub TakeNowhere : List Element → List ℕ → Type 0
 TakeNowhere es cs = (q : ℕ) → q + length es ≤ length cs → take_front es (drop q cs) ≡ false
 

@@ -99,14 +99,14 @@ element_at (Escaped c ∷ ss) = has (Plain c) ss
 element_at (Dangling ∷ ss) = faulty
 
 -- the elements, or the byte offset where none begins
-abbrev pub elements_or_place : List ℕ → Pieces Element → Result (List Element) ℕ
-elements_or_place text (whole es rest) = Ok es
-elements_or_place text (stuck rest) = Err (length text - signs_len rest)
+abbrev pub elements_or_offset : List ℕ → Pieces Element → Result (List Element) ℕ
+elements_or_offset text (whole es rest) = Ok es
+elements_or_offset text (stuck rest) = Err (length text - signs_len rest)
 
 -- the pattern of a source text, or the byte offset of its leftmost fault
 abbrev pub pattern_of : List ℕ → Result (List Element) ℕ
-pattern_of text = elements_or_place text (pieces_of element_at (signs_of text))
+pattern_of text = elements_or_offset text (pieces_of element_at (signs_of text))
 
 -- why a source is refused
 abbrev pub source_error : List ℕ → Option SourceError
-source_error text = option_map (λ place. Faulty place) (result_err (pattern_of text))
+source_error text = option_map (λ offset. Faulty offset) (result_err (pattern_of text))

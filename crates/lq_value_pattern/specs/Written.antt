@@ -63,7 +63,7 @@ Writes text (e ∷ es) = (part : List Sign) × (rest : List Sign) × (text ≡ p
     × IsElement e part × Writes rest es
 
 -- the leftmost fault of a source is at this byte offset
-pub record HasFaultAt (text : List ℕ) (place : ℕ) : Type 0 where
+pub record HasFaultAt (text : List ℕ) (offset : ℕ) : Type 0 where
   pub elements : List Element
   pub front : List Sign
   pub rest : List Sign
@@ -71,4 +71,4 @@ pub record HasFaultAt (text : List ℕ) (place : ℕ) : Type 0 where
   pub before : Writes front elements
   pub some : rest ≡ [] → ⊥
   pub none : (e : Element) (part behind : List Sign) → rest ≡ part ++ behind → IsElement e part → ⊥
-  pub bytes : place ≡ signs_len front
+  pub bytes : offset ≡ signs_len front

@@ -21,7 +21,7 @@ pub(crate) enum Light {
     OneItem { negated: bool, item: Item },
 }
 
-/// How many elements from a place on are tried together.
+/// How many elements from an index on are tried together.
 pub(crate) fn count_run(elements: &[Element], from: usize) -> usize
     requires { from < length elements.now }
     ensures some { 0 < result }
@@ -35,7 +35,7 @@ pub(crate) fn count_run(elements: &[Element], from: usize) -> usize
     }
 }
 
-/// Keeps the flags where each of the elements takes a character from the flag's place on, and
+/// Keeps the flags where each of the elements takes a character from the flag's index on, and
 /// clears the others.
 pub(crate) fn match_window(flags: &mut [u32], elements: &[Element], text: &[char])
     requires some { 0 < length elements.now }

@@ -8,7 +8,7 @@ use std::alloc::{AllocError, AllocFailed};
 #[derive(Clone, Copy)]
 pub enum SourceError {
     /// The source has its leftmost fault at this byte offset, counted from 0.
-    Faulty { place: u64 },
+    Faulty { offset: u64 },
     /// Memory ran out.
     NoMemory,
 }

@@ -7,7 +7,7 @@ ghost use Rattle.lq_value_pattern.specs.Seek.{is_large, IsPiece};
 
 use crate::element::Element;
 use crate::first::first_char;
-use crate::window_search::{find_place, from_place};
+use crate::window_search::{find_index, from_index};
 
 // From how many bytes on a text is matched at many places at once.
 const LONG_TEXT: usize = 128;
@@ -112,7 +112,7 @@ fn fits_chars(start: Rest<'_>) -> bool
     left.text.is_empty()
 }
 
-// The rest after the first place of the text at which the elements up to the next star fit.
+// The rest after the first index of the text at which the elements up to the next star fit.
 #[tactic(auto, using(crate::proofs::SeekLemmas::pieces_found))]
 fn find<'a>(start: Rest<'a>) -> Option<Rest<'a>>
     ensures { MatchOption result
@@ -126,16 +126,16 @@ fn find<'a>(start: Rest<'a>) -> Option<Rest<'a>>
         return None;
     }
     if piece.after.is_empty() {
-        let end = from_place(text, text.len() - piece.single.len());
-        find_place(piece.single, end)?;
-        let nothing = from_place(text, text.len());
+        let end = from_index(text, text.len() - piece.single.len());
+        find_index(piece.single, end)?;
+        let nothing = from_index(text, text.len());
         return Some(Rest {
             elements: piece.after,
             text: nothing,
         });
     }
-    let place = find_place(piece.single, text)?;
-    let left = from_place(text, place + piece.single.len());
+    let index = find_index(piece.single, text)?;
+    let left = from_index(text, index + piece.single.len());
     Some(Rest {
         elements: piece.after,
         text: left,

@@ -16,10 +16,10 @@ const CODES: usize = 544;
 // The number of characters that have masks: the ASCII ones, and the others of the text.
 const CHARS: usize = 672;
 
-/// Keeps the flags where each of the elements takes a character from the flag's place on, and
+/// Keeps the flags where each of the elements takes a character from the flag's index on, and
 /// clears the others.
 ///
-/// It takes one step for each place of the text, and one for each item that is an ASCII character.
+/// It takes one step for each index of the text, and one for each item that is an ASCII character.
 /// Each other item takes a step for each character of the text that isn't ASCII, several at once.
 pub(crate) fn match_window_masked(flags: &mut [u32], elements: &[Element], text: &[char])
     requires some { 0 < length elements.now }
@@ -52,7 +52,7 @@ fn write_ascii(chars: &mut [char])
     }
 }
 
-// As `match_window_ended`, given room for a code for each place of the text, for characters and for
+// As `match_window_ended`, given room for a code for each index of the text, for characters and for
 // masks.
 fn keep_with(
     flags: &mut [u32],
@@ -162,8 +162,8 @@ fn keep_end(flags: &mut [u32], ends: u64, last: usize, i: usize)
         → slice_index flags.new k ≡ slice_index flags.old k }
 {
     if last <= i {
-        let place = i - last;
-        flags[place] = kept(has_bit(ends, last), flags[place]);
+        let index = i - last;
+        flags[index] = kept(has_bit(ends, last), flags[index]);
     }
 }
 

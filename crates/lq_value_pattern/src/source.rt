@@ -35,7 +35,7 @@ pub fn read_elements(alloc: Global, source: &str) -> Result<Vec<Element>, Source
     // The leftmost fault, and where it is.
     ensures failed { IsFailedBy result (source_error source.now) }
     ensures fault { IfErr result
-        (λ e. (place : ℕ) → e ≡ Faulty place → HasFaultAt source.now place) }
+        (λ e. (offset : ℕ) → e ≡ Faulty offset → HasFaultAt source.now offset) }
 {
     let mut elements = Ok(Vec::new(alloc));
     let mut left = source;
@@ -47,8 +47,8 @@ pub fn read_elements(alloc: Global, source: &str) -> Result<Vec<Element>, Source
                 left = rest;
             }
             FirstElement::Faulty => {
-                let place = (source.len() - left.len()) as u64;
-                return Err(SourceError::Faulty { place });
+                let offset = (source.len() - left.len()) as u64;
+                return Err(SourceError::Faulty { offset });
             }
         }
     }

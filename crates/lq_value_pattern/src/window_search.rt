@@ -1,6 +1,6 @@
 //! Looking for elements other than stars at many places of a text at once.
 ghost use Rattle.std.specs.Prelude.{◌≡◌, ◌≤◌, ◌<◌, ◌+◌, length, drop, MatchOption};
-ghost use Rattle.lq_value_pattern.specs.Seek.{AreOn, IsNextOn, TakeNoneBefore, IsFirstPlace, IsFirstPlaceBefore, TakeNowhere};
+ghost use Rattle.lq_value_pattern.specs.Seek.{AreOn, IsNextOn, TakeNoneBefore, IsFirstIndex, IsFirstIndexBefore, TakeNowhere};
 
 use crate::element::Element;
 use crate::element_runs::{count_run, match_window};
@@ -11,15 +11,15 @@ const WINDOW: usize = 512;
 // The number of places that are tried first, where most parts are found.
 const FIRST_WINDOW: usize = 64;
 
-/// The first place of the text from which on each element takes a character.
+/// The first index of the text from which on each element takes a character.
 ///
-/// It takes about one step for each place and each element except `?`, and does several at once.
+/// It takes about one step for each index and each element except `?`, and does several at once.
 /// Each item of a set is a step too, or a few, for each 512 places.
-#[tactic(auto, using(crate::proofs::SeekLemmas::places_more))]
-pub(crate) fn find_place(elements: &[Element], text: &[char]) -> Option<usize>
+#[tactic(auto, using(crate::proofs::SeekLemmas::indexes_more))]
+pub(crate) fn find_index(elements: &[Element], text: &[char]) -> Option<usize>
     requires { length elements.now ≤ length text.now }
     ensures { MatchOption result
-        (TakeNowhere elements.now text.now) (IsFirstPlace elements.now text.now) }
+        (TakeNowhere elements.now text.now) (IsFirstIndex elements.now text.now) }
 {
     if elements.is_empty() {
         return Some(0);
@@ -28,8 +28,8 @@ pub(crate) fn find_place(elements: &[Element], text: &[char]) -> Option<usize>
     let mut start = 0;
     while start < end {
         let places = window_at(start).min(end - start);
-        if let Some(place) = find_among(elements, from_place(text, start), places) {
-            return Some(start + place);
+        if let Some(index) = find_among(elements, from_index(text, start), places) {
+            return Some(start + index);
         }
         start += places;
     }
@@ -43,13 +43,13 @@ fn window_at(start: usize) -> usize
     if start == 0 { FIRST_WINDOW } else { WINDOW }
 }
 
-/// The characters from a place on.
+/// The characters from an index on.
 #[tactic(auto, using(std::proofs::lemmas::List::take_rest))]
-pub(crate) fn from_place(text: &[char], place: usize) -> &[char]
-    requires { place ≤ length text.now }
-    ensures { result.now ≡ drop place text.now }
+pub(crate) fn from_index(text: &[char], index: usize) -> &[char]
+    requires { index ≤ length text.now }
+    ensures { result.now ≡ drop index text.now }
 {
-    &text[place..]
+    &text[index..]
 }
 
 // The first of these places of the text from which on each element takes a character.
@@ -58,13 +58,13 @@ fn find_among(elements: &[Element], text: &[char], places: usize) -> Option<usiz
     requires window { places ≤ 512 }
     requires room { length elements.now + places ≤ length text.now + 1 }
     ensures { MatchOption result (TakeNoneBefore elements.now text.now places)
-        (IsFirstPlaceBefore elements.now text.now places) }
+        (IsFirstIndexBefore elements.now text.now places) }
 {
     let mut flags = [1_u32; WINDOW];
     find_flagged(elements, text, &mut flags[..places])
 }
 
-// The first place where the elements fit, with a flag for each place. Clears the flag of each place
+// The first index where the elements fit, with a flag for each index. Clears the flag of each index
 // whose character the element doesn't take.
 #[tactic(auto, using(crate::proofs::FlagLemmas::flag_steps))]
 fn find_flagged(elements: &[Element], text: &[char], flags: &mut [u32]) -> Option<usize>
@@ -73,14 +73,14 @@ fn find_flagged(elements: &[Element], text: &[char], flags: &mut [u32]) -> Optio
     requires on { AreOn flags.old }
     requires room { length elements.now + length flags.old ≤ length text.now + 1 }
     ensures { MatchOption result (TakeNoneBefore elements.now text.now (length flags.old))
-        (IsFirstPlaceBefore elements.now text.now (length flags.old)) }
+        (IsFirstIndexBefore elements.now text.now (length flags.old)) }
 {
     let places = flags.len();
     let mut first = 0;
     let mut k = 0;
     while k < elements.len() {
         let count = count_run(elements, k);
-        match_window(flags, &elements[k..k + count], from_place(text, k));
+        match_window(flags, &elements[k..k + count], from_index(text, k));
         first = next_on(flags, first);
         if first == places {
             return None;

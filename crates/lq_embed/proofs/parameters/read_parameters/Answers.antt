@@ -10,7 +10,7 @@ returns-in-Some-fault_of-clause-err c = inl (stops_at c.loop-placed.invariant
 
 pub loop-placed-preserved : goal.loop-placed-preserved
 loop-placed-preserved c = goes_on c.loop-placed.invariant c.in-Some.ensures.some
-    c.in-Some.ensures.place (sym c.in_default-fault_of.ensures)
+    c.in-Some.ensures.offset (sym c.in_default-fault_of.ensures)
     (elim c.match-parameter_at.branch [
       | in-Some-parameter_at+in_ok-push w ↦ ap (λ v. v.items) w.parameters-is
           ∙ (w.in_ok-push.ensures.items ∙ ap (λ m. c.loop-placed.parameters.items

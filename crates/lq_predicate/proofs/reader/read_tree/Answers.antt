@@ -4,7 +4,7 @@ use Rattle.lq_predicate.proofs.ReadLemmas.{whole_reads}
 use Rattle.lq_predicate.proofs.reader.read_tree.Goals as goal
 
 pub returns-in-Some-clause-fails : goal.returns-in-Some-clause-fails
-returns-in-Some-clause-fails c = inl (c.in-Some.place, refl, c.in-Some.ensures)
+returns-in-Some-clause-fails c = inl (c.in-Some.offset, refl, c.in-Some.ensures)
 
 pub returns-in-Ok-clause-reads : goal.returns-in-Ok-clause-reads
 returns-in-Ok-clause-reads c = whole_reads c.args.formula.now c.in-Ok.tree

@@ -17,7 +17,7 @@ pub stop_in_text-requires : goal.stop_in_text-requires
 stop_in_text-requires g c =
     let i = c.loop-placed.invariant in
     token_fits _ _ _ _ _ i.2 (placed_of c.in-Some.placed) _ _ c.in-Some.ensures.some _
-    c.in-Some.ensures.place (c.in-Err.ensures i.0 i.1.0 i.1.1)
+    c.in-Some.ensures.offset (c.in-Err.ensures i.0 i.1.0 i.1.1)
 
 pub returns-in-Err-clause-whole : goal.returns-in-Err-clause-whole
 returns-in-Err-clause-whole g c =
@@ -44,7 +44,7 @@ loop-placed-preserved g c =
       h.2,
       goes_on _ _ _ _ _ i.2 (placed_of c.in-Some.placed) _ _ c.in-Some.ensures.some _ _ h.1
           (ap (λ n. c.loop-placed.words + n) c.word_count-words.ensures.value)
-          (omega (arith, c.if-words-gt-MOST_WORDS.false)) c.in-Some.ensures.place
+          (omega (arith, c.if-words-gt-MOST_WORDS.false)) c.in-Some.ensures.offset
           c.in-Some.ensures.text,
     )
 

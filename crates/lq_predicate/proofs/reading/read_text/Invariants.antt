@@ -8,7 +8,7 @@ use Rattle.lq_predicate.proofs.reading.read_text.Given as goal
 abbrev pub invariant-loop-placed : goal.invariant-loop-placed
 invariant-loop-placed g l =
     (s : MachineState) × IsBuilt g.B.Builder.named g.B.Builder.parts l.frames s l.expected
-    × SoFar l.text l.cursor.place l.cursor.rest.now s l.words
+    × SoFar l.text l.cursor.offset l.cursor.rest.now s l.words
 
 abbrev pub decreases-loop-placed : goal.decreases-loop-placed
 decreases-loop-placed g l = length l.cursor.rest.now

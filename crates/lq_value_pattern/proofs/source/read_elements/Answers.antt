@@ -23,8 +23,8 @@ loop-elements-preserved c = record {
       c.in-Has.ensures.kept c.with_element-elements.ensures;
 }
 
-pub overflow_sub-place : goal.overflow_sub-place
-overflow_sub-place c = left_within c.args.source.now c.loop-elements.left.now _ c.utf8.source
+pub overflow_sub-offset : goal.overflow_sub-offset
+overflow_sub-offset c = left_within c.args.source.now c.loop-elements.left.now _ c.utf8.source
     c.loop-elements.invariant.text c.loop-elements.invariant.so_far
 
 pub returns-in-Faulty-clause-failed : goal.returns-in-Faulty-clause-failed
@@ -45,7 +45,7 @@ returns-in-End-clause-fault c = answer_fault c.args.source.now _ c.utf8.source (
     )
 
 pub returns-in-Faulty-clause-fault : goal.returns-in-Faulty-clause-fault
-returns-in-Faulty-clause-fault c = λ place is.
+returns-in-Faulty-clause-fault c = λ offset is.
     let there = stuck_refused c.args.source.now c.loop-elements.left.now _
     c.loop-elements.invariant.text c.loop-elements.invariant.so_far c.in-Faulty.ensures in
-    fault_named c.args.source.now place c.utf8.source (sym is ∙ there)
+    fault_named c.args.source.now offset c.utf8.source (sym is ∙ there)

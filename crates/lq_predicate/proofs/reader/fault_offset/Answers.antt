@@ -3,7 +3,7 @@ use Rattle.std.specs.Prelude.{Err}
 use Rattle.lq_predicate.specs.Building.{IsWholeOf}
 use Rattle.lq_predicate.specs.QuerySize.{query_size}
 use Rattle.lq_predicate.proofs.ReadLemmas.{too_great}
-use Rattle.lq_predicate.proofs.reader.fault_place.Goals as goal
+use Rattle.lq_predicate.proofs.reader.fault_offset.Goals as goal
 
 pub returns-in-Err-Fault : goal.returns-in-Err-Fault
 returns-in-Err-Fault c = subst (λ stop. IsWholeOf query_size c.args.formula.now (Err stop))

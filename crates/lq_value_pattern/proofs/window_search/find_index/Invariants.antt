@@ -1,8 +1,8 @@
 use Rattle.std.proofs.Common.{◌-◌}
 use Rattle.lq_value_pattern.specs.Seek.{TakeNoneBefore}
-use Rattle.lq_value_pattern.proofs.window_search.find_place.Given as goal
+use Rattle.lq_value_pattern.proofs.window_search.find_index.Given as goal
 
--- before the start there is no place
+-- before the start there is no index
 abbrev pub invariant-loop-start : goal.invariant-loop-start
 invariant-loop-start l = TakeNoneBefore l.elements l.text l.start
 
