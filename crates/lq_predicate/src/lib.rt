@@ -8,18 +8,19 @@
 //! which finds its leftmost fault if it has one, and then to build the tree, by one `machine` with
 //! two builders; `specs/Building` says what it has built of the specified machine's state. Nothing
 //! here waits, and `holds` takes no memory. Tests: `predicates` of lq_core_tests and of lq_tests.
-//! Begin with `predicate`, then `truth`, `reader` and `stack`.
+//! Begin with `predicate`, then `predicate_truth`, `formula_reader` and `stack`.
 #![tactic(auto)]
 
-mod attributes;
 mod builder;
 mod canonical;
+mod formula_reader;
 mod literal_source;
 mod machine;
 mod operand;
 mod predicate;
-mod reader;
-mod reading;
+mod predicate_attributes;
+mod predicate_truth;
+mod read_whole;
 mod sizes;
 mod spans;
 mod stack;
@@ -29,16 +30,15 @@ mod stack_item;
 mod stack_op;
 mod stop;
 mod trees;
-mod truth;
 
-pub use attributes::{names, needs_attribute};
 pub use canonical::write;
+pub use formula_reader::read;
 pub use lq_predicate_formula::{
     Row, bare_rows_fail, one_reading, truth_goes_by_names, truth_stays_beside_spans,
 };
 pub use predicate::Predicate;
-pub use reader::read;
+pub use predicate_attributes::{names, needs_attribute};
+pub use predicate_truth::holds;
 pub use spans::Spans;
 pub use stack::Stack;
 pub use stack_op::StackOp;
-pub use truth::holds;

@@ -11,7 +11,7 @@ use Rattle.lq_value.specs.Element.{Element}
 use Rattle.lq_value.specs.Source.{pattern_of}
 use Rattle.std.specs.Str.{IsUtf8, bytes_eq}
 use Rattle.std.specs.List.{list_any}
-use Rattle.lq_value.specs.declared.field.Field.TheVariants.{Attribute}
+use Rattle.lq_value.specs.declared.attr_field.Field.TheVariants.{Attribute}
 use Rattle.lq_value.specs.Field.{field_of}
 use Rattle.lq_predicate_formula.specs.Names.{names_of}
 use Rattle.lq_predicate_formula.specs.Needs.{needs_attribute}

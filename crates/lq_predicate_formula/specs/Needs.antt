@@ -1,8 +1,8 @@
 -- Queries that need an attribute: they are false of each row that shows only the three fields that
 -- each entry has.
 use Rattle.std.specs.Prelude.{Bool, true, false, ◌&&◌, ◌||◌}
-use Rattle.lq_value.specs.declared.field.Field.{Field}
-use Rattle.lq_value.specs.declared.field.Field.TheVariants.{Attribute}
+use Rattle.lq_value.specs.declared.attr_field.Field.{Field}
+use Rattle.lq_value.specs.declared.attr_field.Field.TheVariants.{Attribute}
 use Rattle.lq_value.specs.Field.{field_of}
 use Rattle.lq_predicate_formula.specs.Query.{Query, Compare, Not, And, Or, Queries, no_more, and_then}
 

@@ -2,7 +2,7 @@
 use Rattle.lq_predicate_formula.specs.declared.token.Token.{Token}
 use Rattle.lq_predicate_formula.specs.declared.token.Token.TheVariants as tokens
 use Rattle.lq_predicate_formula.specs.declared.token.Placed.{Placed}
-use Rattle.lq_predicate_formula.specs.declared.piece.Piece.{Piece}
+use Rattle.lq_predicate_formula.specs.declared.leading_token.Piece.{Piece}
 use Rattle.lq_predicate_formula.specs.Lexing.{LexedToken}
 use Rattle.lq_predicate_formula.specs.Tokens as lexed
 

@@ -7,7 +7,7 @@ ghost use Rattle.lq_predicate_formula.specs.TokenView.{placed_of, token_of};
 ghost use Rattle.lq_predicate_formula.specs.Lexing.{BeginsBy, spaces, trimmed};
 
 use crate::count::count_spaces;
-use crate::piece::read_piece;
+use crate::leading_token::read_piece;
 use crate::token::{Cursor, Placed};
 
 /// The next token of a text with its offsets, and the rest of the text after it.

@@ -7,24 +7,24 @@
 //! say how a token and a reading are found, for the law `machine_reads` and for functions of this
 //! crate and of lq_predicate. Nothing here waits, and asking takes no memory. Tests: `predicates` of
 //! lq_core_tests, through lq_predicate. Begin with `token`, then `laws`, then `tree` and `row`, then
-//! `tree/truth`, `sink` and `writing`.
+//! `tree/truth`, `text_sink` and `write_comparison`.
 #![tactic(auto)]
 
 mod count;
 mod fitting;
 mod laws;
+mod leading_token;
 mod lexer;
-mod piece;
 mod raw;
 mod raw_size;
 mod row;
-mod sink;
+mod text_sink;
 mod size;
 mod source_size;
 mod span;
 mod token;
 mod tree;
-mod writing;
+mod write_comparison;
 
 pub use fitting::{fit_joined, fits_not};
 pub use laws::{

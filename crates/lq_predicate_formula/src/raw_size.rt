@@ -11,7 +11,7 @@ ghost use Rattle.lq_value.specs.declared.literal.Literal.{Literal};
 
 use crate::raw::{count_unescaped, next_unescaped, takes_pattern};
 use crate::source_size::source_size;
-use crate::writing::{is_bare_byte, op_text};
+use crate::write_comparison::{is_bare_byte, op_text};
 use lq_value::{MAX_ATTR_NAME, Op};
 
 /// The number of bytes in canonical text of the attribute's name in a raw text; the greatest usize

@@ -7,8 +7,8 @@ ghost use Rattle.lq_predicate_formula.specs.Query.{Compare};
 ghost use Rattle.lq_predicate_formula.specs.Capped.{capped};
 
 use crate::raw_size::joined_size;
-use crate::sink::Counter;
-use crate::writing::{
+use crate::text_sink::Counter;
+use crate::write_comparison::{
     put_attr, put_comparison, put_element, put_elements, put_item, put_plain_text, put_quoted,
 };
 use lq_value::{AttrName, Element, Item, Literal, Op, Pattern};

@@ -5,9 +5,9 @@ ghost use Rattle.lq_predicate_formula.specs.Canonical.{comparisons, depth};
 ghost use Rattle.lq_predicate_formula.specs.Machine.{negate};
 ghost use Rattle.lq_predicate_formula.specs.Query.{Compare, both_of, either_of};
 
-mod attributes;
-mod numbers;
-mod text;
+mod compared_numbers;
+mod named_attributes;
+mod query_text;
 mod truth;
 
 use lq_value::{AttrName, Literal, Op, Refusal};

@@ -1,8 +1,8 @@
 -- Which field of an entry a name stands for.
 use Rattle.std.specs.Prelude.{ℕ, List, codes, if◌then◌else◌}
 use Rattle.std.specs.Str.{bytes_eq}
-use Rattle.lq_value.specs.declared.field.Field.{Field}
-use Rattle.lq_value.specs.declared.field.Field.TheVariants.{Name, Size, LastModified, Attribute}
+use Rattle.lq_value.specs.declared.attr_field.Field.{Field}
+use Rattle.lq_value.specs.declared.attr_field.Field.TheVariants.{Name, Size, LastModified, Attribute}
 
 -- each field has one name, and every other name is an attribute's
 abbrev pub field_of : List ℕ → Field

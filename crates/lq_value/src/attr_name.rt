@@ -11,7 +11,7 @@ ghost use Rattle.lq_value.specs.Refusal.{FailsOnlyForMemory, IsRefusedBy};
 ghost use Rattle.lq_value.specs.Name.{is_attr_name};
 ghost use Rattle.lq_value.specs.Field.{field_of};
 
-use crate::field::Field;
+use crate::attr_field::Field;
 use crate::limits::MAX_ATTR_NAME;
 use crate::refusal::Refusal;
 use crate::small_text::SmallText;

@@ -6,10 +6,10 @@
 //! lq_tests. Begin with `refusal`, then `value`, `name`, `pattern` and `literal`.
 #![tactic(auto)]
 
+mod attr_field;
 mod attr_name;
 mod digits;
 mod entry;
-mod field;
 mod kind;
 mod limits;
 mod literal;
@@ -25,10 +25,10 @@ mod value;
 mod value_text;
 mod view;
 
+pub use attr_field::Field;
 pub use attr_name::AttrName;
 pub use digits::number_of_bytes;
 pub use entry::Entry;
-pub use field::Field;
 pub use kind::Kind;
 pub use limits::{
     MAX_ATTR_NAME, MAX_BACKLOG, MAX_COMPARISONS, MAX_DEPTH, MAX_FORMULA, MAX_NAME, MAX_PLACES,

@@ -8,7 +8,7 @@ use Rattle.lq_predicate_formula.proofs.tree.+put.Goals as goal
 pub text::put_parts-loop-part-init : goal.text::put_parts-loop-part-init
 text::put_parts-loop-part-init g t c =
     let split : c.args.parts.now ≡ c.in-Some.first.now ∷ c.in-Some.others.now = search rules in
-    parts_begun g.S.Sink.after g.met.S.Sink.joined _ _ _ c.args.separator.now c.in-Some.first.now
+    parts_begun g.S.TextSink.after g.met.S.TextSink.joined _ _ _ c.args.separator.now c.in-Some.first.now
     c.in-Some.others.now c.args.parts.now split c.in_ok-push_str.ensures c.in_ok-put_in.ensures
 
 pub text::put_parts-put_in-requires-in-loop-part : goal.text::put_parts-put_in-requires-in-loop-part
@@ -21,6 +21,6 @@ text::put_parts-put_in-requires-in-loop-part g t c =
 
 pub text::put_parts-loop-part-preserved : goal.text::put_parts-loop-part-preserved
 text::put_parts-loop-part-preserved g t c =
-    parts_on g.S.Sink.after g.met.S.Sink.joined _ _ _ _ c.args.separator.now c.in-Some.others.now
+    parts_on g.S.TextSink.after g.met.S.TextSink.joined _ _ _ _ c.args.separator.now c.in-Some.others.now
     c.loop-part.part-index c.part-item.result c.loop-part-test.true c.part-item.is
     c.loop-part.invariant c.in_ok-push_str-2.ensures c.in_ok-put_in-2.ensures

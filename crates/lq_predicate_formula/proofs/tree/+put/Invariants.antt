@@ -11,7 +11,7 @@ decreases-text::put_parts g l = 2 * deepest (queries l.parts.now) + 2
 
 abbrev pub invariant-text::put_parts-loop-part : goal.invariant-text::put_parts-loop-part
 invariant-text::put_parts-loop-part g l =
-    g.S.Sink.after (g.S.Sink.seen l.out)
+    g.S.TextSink.after (g.S.TextSink.seen l.out)
     (others_written l.separator (queries (drop l.part-index l.others)) (41 ∷ []))
-    ≡ g.S.Sink.after (g.S.Sink.seen l.fn.out)
+    ≡ g.S.TextSink.after (g.S.TextSink.seen l.fn.out)
     (40 ∷ parts_written l.separator (queries l.parts) (41 ∷ []))

@@ -1,8 +1,0 @@
-use Rattle.lq_predicate_formula.proofs.WritingLemmas.{items_left, on}
-use Rattle.lq_predicate_formula.proofs.writing.put_items.Goals as goal
-
-pub loop-item-preserved : goal.loop-item-preserved
-loop-item-preserved g c =
-    on g.S.Sink.after g.met.S.Sink.joined _ _ _ _ _ _
-    (items_left c.args.items.now c.loop-item.item-index _ c.loop-item-test.true)
-    c.loop-item.invariant c.in_ok-put_item.ensures

@@ -1,8 +1,0 @@
-use Rattle.std.proofs.Common.{◌≡◌}
-use Rattle.std.specs.Str.{encode_utf8_all}
-use Rattle.lq_predicate_formula.specs.Canonical.{quoted}
-use Rattle.lq_predicate_formula.proofs.writing.put_quoted.Given as goal
-
-abbrev pub invariant-loop-c : goal.invariant-loop-c
-invariant-loop-c g l = g.S.Sink.seen l.out
-    ≡ g.S.Sink.after (g.S.Sink.seen l.fn.out) (quoted (encode_utf8_all l.yielded))
