@@ -1,6 +1,6 @@
 -- Readers whose seat is their own, and what calls leave of them.
 use Rattle.std.proofs.Common.{◌≡◌, ℕ, ◌<◌, ◌≤◌, Bool, false, arith, [], ◌∷◌, ◌++◌, length, Option, Some, None, refl, ◌∙◌, subst, append_assoc}
-use Rattle.std.specs.Prelude.{Result, ok_or, option_to_list}
+use Rattle.std.specs.Prelude.{◌==◌, Result, ok_or, option_to_list}
 use mathlib.Core.List.{List, IsPrefix}
 use Rattle.lq_value.specs.declared.refusal.Refusal.{Refusal}
 use Rattle.lq_value.specs.declared.refusal.Refusal.TheVariants.{NotOpen}
@@ -11,12 +11,13 @@ use Rattle.lq_server_slots.specs.Events.{opening_refusals}
 use Rattle.lq_board.specs.Known.{KnownSlot}
 use Rattle.lq_board.specs.Slot.{slot_at}
 use Rattle.lq_board.specs.Token.{SeatToken}
+use Rattle.lq_desk_sub.specs.SlotTable.{first_free}
 use Rattle.lq_server_slots.specs.declared.identity.Identity.{Identity}
 use Rattle.lq_server_slots.specs.Rule.{all_updates}
 use Rattle.lq_server_slots.specs.Reading.{ReadingHold, IsTold, known_book, received}
 use Rattle.lq_server_slots.specs.declared.subscription.Subscription.{Subscription}
 use Rattle.lq_server_slots.specs.declared.slots.ServerSlots.{ServerSlots}
-use Rattle.lq_server_slots.specs.Slots.{AreConsistent, asks_of, has_no_free, slot_in}
+use Rattle.lq_server_slots.specs.Slots.{AreConsistent, asks_of, slot_in}
 use Rattle.lq_server_slots.specs.Opening.{IsOpeningTabled}
 use Rattle.lq_server_slots.specs.Hold.{ReaderHold}
 use Rattle.lq_server_slots.specs.Own.{IsOwn}
@@ -62,12 +63,11 @@ none_opened : (o : Option Subscription) (p : KnownSlot Identity) → asks_of o p
 none_opened o p few = grind arith
 
 -- where the first slot is free, not all are taken
-first_free : (slots : List (Option Subscription)) → 1 < length slots → slot_in slots 1 ≡ None
-    → has_no_free slots ≡ false
-first_free [] long free = absurd (omega arith)
-first_free (s ∷ []) long free = absurd (omega arith)
-first_free (s ∷ None ∷ slots) long free = refl
-first_free (s ∷ Some t ∷ slots) long free = cc
+not_all : (slots : List (Option Subscription)) → 0 < length slots → slot_in slots 0 ≡ None
+    → (first_free slots == 64) ≡ false
+not_all [] long free = absurd (omega arith)
+not_all (None ∷ slots) long free = refl
+not_all (Some t ∷ slots) long free = absurd (cc)
 
 -- so where none was opened, an opening is answered as the first at a server
 pub first_opening : {T : Type 0} (under : ServerSlots) (book : Book) (start : State)
@@ -75,10 +75,10 @@ pub first_opening : {T : Type 0} (under : ServerSlots) (book : Book) (start : St
     → under.openings ≡ 0 → IsOpeningTabled under start.limit port backlog result
     → IsRefusedBy result (first_opening_refusal start port backlog)
 first_opening under book start port backlog result stands none table =
-    let free : has_no_free under.subscriptions.items ≡ false =
-    first_free under.subscriptions.items (omega (arith, stands.0.wide))
+    let free : (first_free under.subscriptions == 64) ≡ false =
+    not_all under.subscriptions (omega (arith, stands.wide))
     (none_opened _ (slot_at under.keeper.slots 1)
-    (omega (arith, stands.0.asks 1 (omega arith) (omega arith), none))) in
+    (omega (arith, stands.asks 0 (omega arith), none))) in
     subst (IsRefusedBy result)
     (λ i. first_refusal (opening_refusals (free i) (none i) start.limit port backlog)) table
 

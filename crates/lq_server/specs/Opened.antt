@@ -1,5 +1,5 @@
 -- A reader that was just opened.
-use Rattle.std.specs.Prelude.{◌≡◌, ◌≤◌, ◌<◌, ℕ, Bool, false, Option, None, IfOk, IsSome, Result}
+use Rattle.std.specs.Prelude.{◌≡◌, ◌≤◌, ◌<◌, ◌-◌, ℕ, Bool, false, Option, None, IfOk, IsSome, Result}
 use Rattle.lq_value.specs.declared.refusal.Refusal.{Refusal}
 use Rattle.lq_value.specs.Refusal.{first_refusal}
 use Rattle.lq_predicate.specs.Query.{Query}
@@ -44,7 +44,7 @@ pub record IsAnsweredOver (under : ServerSlots) (start : State) (old new : SeatT
   pub noted : HasNoted old new under
   pub openings : under.openings ≤ start.limit
   pub table : IsOpeningTabled under start.limit port backlog result
-  pub free : IfOk result (λ r. slot_in under.subscriptions.items r.slot ≡ None)
+  pub free : IfOk result (λ r. slot_in under.subscriptions (r.slot - 1) ≡ None)
   pub lowest : IfOk result (λ r.
-      (j : ℕ) → 0 < j → j < r.slot → IsSome (slot_in under.subscriptions.items j))
+      (i : ℕ) → i < r.slot - 1 → IsSome (slot_in under.subscriptions i))
   pub keeper : IfOk result (λ r. r.reading.port.floor.book.value ≡ under.keeper)

@@ -1,5 +1,5 @@
 -- A subscription that was just made.
-use Rattle.std.proofs.Common.{◌≡◌, ◌≢◌, ℕ, ◌+◌, ◌<◌, ◌≤◌, Bool, true, false, List, [], ◌∷◌, ◌++◌, length, Option, Some, None, Ok, Err, inr, refl, sym, ap, ◌∙◌, subst, arith, get_or-set_same, set-set, slice_set}
+use Rattle.std.proofs.Common.{◌≡◌, ◌≢◌, ℕ, ◌+◌, ◌<◌, ◌≤◌, Bool, true, false, List, [], ◌∷◌, ◌++◌, length, Option, Some, None, Ok, Err, inr, refl, sym, ap, ◌∙◌, subst, arith, get_or-set_same, set-set, slice_set, IsSome, suc, zero, ◌==◌}
 use Rattle.std.specs.Prelude.{IfNone, IfOk, IfSome, Result, unwrap_or}
 use Rattle.std.proofs.lemmas.Bool.Decides.{nat_tests}
 use Rattle.lq_value.specs.declared.refusal.Refusal.{Refusal}
@@ -28,12 +28,13 @@ use Rattle.lq_server_slots.specs.Standing.{IsSeen, IsConsistentAt}
 use Rattle.lq_server_slots.specs.Laws.{NewSubscriptionsStand}
 use Rattle.lq_server_slots.specs.declared.slots.ServerSlots.{ServerSlots}
 use Rattle.lq_server_slots.specs.declared.open.Opened.{Opened}
-use Rattle.lq_server_slots.specs.Slots.{SlotStands, IsTakenSlot, slot_in, AllStand, AreConsistent, OnlyAt, SameButKnown}
+use Rattle.lq_server_slots.specs.Slots.{SlotStands, IsTakenSlot, slot_in, AreConsistent, OnlyAt, SameButKnown}
 use Rattle.lq_server_slots.specs.Opening.{IsNewSubscription, IsOpeningAnswer, size_refusal}
 use Rattle.lq_server_slots.specs.Hold.{LockHold}
 use Rattle.lq_server_slots.specs.Noted.{IsOpenedOver}
 use Rattle.lq_server_slots.proofs.StateLemmas.{IsState}
-use Rattle.lq_server_slots.proofs.SlotLemmas.{all_stand-set, counted_here, only_set}
+use Rattle.lq_server_slots.proofs.SlotLemmas.{counted_here, only_set, slots_set}
+use Rattle.lq_desk_sub.specs.SlotTable.{first_free}
 
 -- a subscription that was just made, and the end that reads
 pub begun_new : NewSubscriptionsStand → (s : Subscription) (r : ReadingHold) (book : Book)
@@ -60,31 +61,54 @@ pub begun_own : (s : Subscription) (r : ReadingHold) (book : Book) (q : Query) (
     → IsNewSubscription s r book s.sub.held.query s.sub.held.moved s.places s.sub.held.backlog
 begun_own s r book q mv port backlog b = grind arith
 
--- a subscription takes a free place
-pub settled : (keeper one two : KeeperToken Identity) (slots : List (Option Subscription))
-    (place openings n : ℕ) (s : Subscription) (book : Book) → AllStand keeper slots openings book
-    → 0 < place → place < 65 → slot_in slots place ≡ None
-    → one.slots ≡ counted keeper.slots place n
-    → ((slot_at keeper.slots place).out ≡ false → n ≡ (slot_at keeper.slots place).asks)
-    → two.slots ≡ gone_out one.slots place (Some (identity_of s)) → s.asks ≡ n
+-- a subscription takes a free slot
+pub settled : (slots : ServerSlots) (one two : KeeperToken Identity) (i n : ℕ) (s : Subscription)
+    (book : Book) → AreConsistent slots book → i < 64 → slot_in slots.subscriptions i ≡ None
+    → one.slots ≡ counted slots.keeper.slots (i + 1) n
+    → ((slot_at slots.keeper.slots (i + 1)).out ≡ false
+    → n ≡ (slot_at slots.keeper.slots (i + 1)).asks)
+    → two.slots ≡ gone_out one.slots (i + 1) (Some (identity_of s)) → s.asks ≡ n
     → IsConsistentAt s book → IsSeen s → s.sub.held.messages ≡ [] → s.sub.held.mark ≡ None
-    → AllStand two (slice_set slots place (Some s)) (openings + 1) book
-settled keeper one two slots place openings n s book h pos within free counts idle gone asks stands
-    seen none live =
-    let was : SlotStands None (slot_at keeper.slots place) book =
-    rw free at (h.each place pos within) in
-    let most = rw free at (h.asks place pos within) in
-    let lt : place < length keeper.slots = omega (arith, h.known) in
+    → AreConsistent (record {
+      keeper = two;
+      subscriptions = slice_set slots.subscriptions i (Some s);
+      openings = slots.openings + 1;
+    }) book
+settled slots one two i n s book h within free counts idle gone asks stands seen none live =
+    let known = slots.keeper.slots in
+    let was : SlotStands None (slot_at known (i + 1)) book = rw free at (h.each i within) in
+    let most = rw free at (h.asks i within) in
+    let lt : i + 1 < length known = omega (arith, h.known) in
     let q : KnownSlot Identity = record { out = true; asks = n; name = Some (identity_of s) } in
-    let known : two.slots ≡ slice_set keeper.slots place q =
-    rw (gone, counts, counted_here keeper.slots place n lt, set-set) in
-    let there : slot_at two.slots place ≡ q =
-    rw known (get_or-set_same keeper.slots place q unused lt) in
-    let only : OnlyAt keeper.slots two.slots place = rw known (only_set keeper.slots place q) in
+    let set : two.slots ≡ slice_set known (i + 1) q =
+    rw (gone, counts, counted_here known (i + 1) n lt, set-set) in
+    let there : slot_at two.slots (i + 1) ≡ q =
+    rw set (get_or-set_same known (i + 1) q unused lt) in
+    let only : OnlyAt known two.slots (i + 1) = rw set (only_set known (i + 1) q) in
     let count = idle was in
-    let fits : IsTakenSlot s (slot_at two.slots place) book = grind arith in
-    all_stand-set keeper two slots place openings (openings + 1) (Some s) book h (omega arith)
-    within only fits (omega arith)
+    let fits : IsTakenSlot s (slot_at two.slots (i + 1)) book = grind arith in
+    slots_set slots two i (slots.openings + 1) (Some s) book h (omega arith) within only fits
+    (omega (arith, most, count, asks))
+
+-- the first free slot is free, and those below it are taken
+pub first_is_free : (slots : List (Option Subscription)) (i : ℕ) → i ≡ first_free slots
+    → i < length slots
+    → (slot_in slots i ≡ None) × ((j : ℕ) → j < i → IsSome (slot_in slots j))
+first_is_free [] i is lt = absurd (omega arith)
+first_is_free (None ∷ slots) i is lt = rw is (refl, λ j low. absurd (omega arith))
+first_is_free (Some s ∷ slots) zero is lt = absurd (omega (arith, is))
+first_is_free (Some s ∷ slots) (suc i) is lt =
+    let rest = first_is_free slots i (omega (arith, is)) (omega arith) in
+    (rest.0, below rest.1)
+  where
+    below : ((j : ℕ) → j < i → IsSome (slot_in slots j))
+        → (j : ℕ) → j < suc i → IsSome (slot_in (Some s ∷ slots) j)
+    below rest zero low = refl
+    below rest (suc j) low = rest j (omega arith)
+
+-- so not all are taken
+pub first_not_all : (i n : ℕ) → i ≡ n → i < 64 → false ≡ (n == 64)
+first_not_all i n is lt = grind (arith, nat_tests)
 
 -- where the numbers of an opening fit, it is refused just by what else may refuse it
 pub sizes_fit : (port backlog : ℕ) (rows : List (Bool × Refusal)) → port ≢ 0 → port ≤ 1024

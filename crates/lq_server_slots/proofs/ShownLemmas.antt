@@ -139,12 +139,12 @@ slot_passed taken (Some s) p book full stands =
 
 -- slots that stand over the keeper's book show a world
 pub slots_shown : SlotsShowWorlds
-slots_shown slots taken full stands k pos within =
-    let f : ℕ → Option Subscribed = λ k. slot_shown (taken k) (slot_in slots.subscriptions.items k)
-    (slot_at slots.keeper.slots k) in
-    rw (get_or-map-range_with_len f 1 64 (k - 1) k None (omega arith) (omega arith))
-    (slot_passed (taken k) (slot_in slots.subscriptions.items k) (slot_at slots.keeper.slots k)
-    slots.keeper.book full (stands.0.each k pos within))
+slots_shown slots taken full stands i low =
+    let f : ℕ → Option Subscribed = λ i. slot_shown (taken i) (slot_in slots.subscriptions i)
+    (slot_at slots.keeper.slots (i + 1)) in
+    rw (get_or-map-range_with_len f 0 64 i i None (omega arith) (omega arith))
+    (slot_passed (taken i) (slot_in slots.subscriptions i) (slot_at slots.keeper.slots (i + 1))
+    slots.keeper.book full (stands.each i low))
 
 -- ---- what a commit, a notice and a close do
 

@@ -1,5 +1,5 @@
 -- What a reader does under the lock.
-use Rattle.std.proofs.Common.{◌≡◌, ℕ, zero, suc, ◌<◌, ◌≤◌, Bool, true, false, List, [], length, Option, Some, refl, sym, ap, ◌∙◌, arith, get_or-set_same, slice_set, set-set}
+use Rattle.std.proofs.Common.{◌≡◌, ℕ, zero, suc, ◌<◌, ◌≤◌, Bool, true, false, List, length, Option, Some, refl, sym, ap, ◌∙◌, subst, arith, get_or-set_same, slice_set, set-set, ◌+◌, ◌-◌}
 use Rattle.std.specs.Prelude.{IsSome, IsSomeAnd}
 use Rattle.std.proofs.lemmas.List.{set-get_or}
 use Rattle.lq_volume.specs.declared.change.Change.{Change}
@@ -19,10 +19,12 @@ use Rattle.lq_server_slots.specs.Marking.{hung_mark}
 use Rattle.lq_server_slots.specs.Identity.{identity_of, port_id_inj}
 use Rattle.lq_server_slots.specs.Reading.{ReadingHold}
 use Rattle.lq_server_slots.specs.Standing.{IsConsistentAt, IsDrained, IsSeen, CannotPut, SameButHeld, SideBySide, told_by}
-use Rattle.lq_server_slots.specs.Slots.{IsTakenSlot, SlotStands, IsSlotMet, KeepsBook, asks_of, OnlyAt}
+use Rattle.lq_server_slots.specs.Slots.{IsTakenSlot, SlotStands, IsSlotMet, KeepsBook, asks_of, OnlyAt, AreConsistent, slot_in, KeepsSlots, SameButKnown}
 use Rattle.lq_server_slots.specs.Opening.{IdentityFits, asks_after, name_or}
 use Rattle.lq_server_slots.proofs.EndLemmas.{told_now}
-use Rattle.lq_server_slots.proofs.SlotLemmas.{only_set, stuck_filled}
+use Rattle.lq_server_slots.proofs.SlotLemmas.{only_set, stuck_filled, slots_known, taken_at}
+use Rattle.lq_server_slots.specs.declared.slots.ServerSlots.{ServerSlots}
+use Rattle.lq_server_slots.proofs.TakenLemmas.{taken_out}
 
 -- the name that is there
 some_name : (o : Option Identity) → IsSome o → Some (name_or o) ≡ o
@@ -142,6 +144,49 @@ fits_met o old new s t n stands met = grind arith
 pub asks_met : (o : Option Subscription) (p q : KnownSlot Identity) (book : Book)
     → SlotStands o p book → p.out ≡ true → asks_of o q ≤ asks_of o p
 asks_met o p q book stands out = grind arith
+
+-- all slots stand on once a slot's seat has met the keeper, and the seat's slot is taken
+pub slots_met : (slots : ServerSlots) (new : KeeperToken Identity) (s t : SeatToken Identity)
+    (n : ℕ) → AreConsistent slots slots.keeper.book → 0 < s.slot → s.slot < 65
+    → IsSlotMet slots.keeper new s t s.name n
+    → AreConsistent (record slots { keeper = new }) new.book
+    × ((i : ℕ) → i + 1 ≡ s.slot → IsSome (slot_in slots.subscriptions i))
+slots_met slots new s t n h pos within met =
+    let i = s.slot - 1 in
+    let e : i + 1 ≡ s.slot = omega (arith, pos) in
+    let low : i < 64 = omega (arith, pos, within) in
+    let o = slot_in slots.subscriptions i in
+    let was : SlotStands o (slot_at slots.keeper.slots s.slot) slots.keeper.book =
+    rw e at (h.each i low) in (
+      subst (AreConsistent (record slots { keeper = new })) (sym met.keeper.book)
+          (slots_known slots new i slots.keeper.book h low (rw e met.keeper.only)
+          (rw e (rw met.keeper.book at (fits_met o slots.keeper new s t n was met)))
+          (rw e (asks_met o (slot_at slots.keeper.slots s.slot) (slot_at new.slots s.slot)
+          slots.keeper.book was met.out))),
+      λ j is. taken_out (slot_in slots.subscriptions j) (slot_at slots.keeper.slots (j + 1))
+          slots.keeper.book (h.each j (omega (arith, is, within))) (rw is met.out),
+    )
+
+-- the seat that met the keeper has the name of the subscription in its slot
+pub seat_named : (slots : ServerSlots) (i : ℕ) (x : Subscription) (s t : SeatToken Identity)
+    (n : ℕ) {old : KeeperToken Identity} → AreConsistent slots slots.keeper.book → i < 64
+    → Some x ≡ slot_in slots.subscriptions i → IsSlotMet old slots.keeper s t s.name n
+    → i + 1 ≡ t.slot → s.name ≡ Some (identity_of x)
+seat_named slots i x s t n h within there met at =
+    let same = at ∙ ap (λ (u : SeatToken Identity). u.slot) met.seat in
+    sym (ap (λ (p : KnownSlot Identity). p.name) met.place)
+    ∙ (rw same at (taken_at slots slots.keeper.book i x h within there).name)
+
+-- slots of which only what the keeper knows changed are kept
+pub kept_known : (old new : ServerSlots) → SameButKnown old new
+    → AreConsistent new new.keeper.book → KeepsSlots old new
+kept_known old new same h =
+    record {
+      counts =
+          record { board = same.board; counted = same.counted; openings = same.openings };
+      book = same.book;
+      holding = h;
+    }
 
 -- a seat that comes back and goes out again leaves its slot, where nothing is known anew
 back_out : (slots : List (KnownSlot Identity)) (k asks : ℕ) (name : Option Identity)

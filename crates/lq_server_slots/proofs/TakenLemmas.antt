@@ -1,154 +1,29 @@
--- The set of the taken slots.
-use Rattle.std.proofs.Common.{◌≡◌, ◌≢◌, ℕ, zero, suc, ◌+◌, ◌-◌, ◌<◌, ◌≤◌, true, false, true≢false, List, [], ◌∷◌, length, Option, Some, None, refl, sym, ap, ◌∙◌, arith, slice_set}
-use Rattle.std.specs.Prelude.{IfNone, IfSome, IsSome, is_none, is_some, slice_index_or}
-use Rattle.std.proofs.lemmas.List.{get_or_read}
+-- The taken slots, and visits of all of them.
+use Rattle.std.proofs.Common.{◌≡◌, ◌≢◌, ◌∙◌, ℕ, ◌+◌, ◌≤◌, List, length, true, false, true≢false, Option, Some, None, refl, sym, ap, arith, Bool, subst, ◌<◌}
+use Rattle.std.specs.Prelude.{IsSome, slice_get}
+use Rattle.std.specs.Option.{option_flatten}
 use mathlib.Core.Logic.{dite}
 use native.Mathlib.Decide.{ℕ_discrete}
 use Rattle.lq_board.specs.Known.{KnownSlot}
-use Rattle.lq_volume.specs.Book.{Book}
 use Rattle.lq_board.specs.Slot.{slot_at}
-use Rattle.lq_desk_sub.specs.SlotSet.{has, IsEmpty}
-use Rattle.lq_desk_sub.specs.declared.slot_index.SlotIndex.{SlotIndex}
+use Rattle.lq_desk_sub.specs.SlotSet.{has}
+use Rattle.lq_desk_sub.specs.SlotTable.{HasTaken}
+use Rattle.lq_desk_sub.specs.Visits.{Visits}
+use Rattle.lq_volume.specs.Book.{Book}
 use Rattle.lq_server_slots.specs.declared.identity.Identity.{Identity}
 use Rattle.lq_server_slots.specs.declared.slots.ServerSlots.{ServerSlots}
 use Rattle.lq_server_slots.specs.declared.subscription.Subscription.{Subscription}
-use Rattle.lq_server_slots.specs.Slots.{AreConsistent, MarksTaken, KeepsSlot, KeepsSlots, OnlyAt, SlotStands, slot_in, all_taken, has_no_free}
-use Rattle.lq_server_slots.proofs.SlotLemmas.{all_stand-step, set_cases}
-
--- a slot that isn't taken is free
-pub is_free : (o : Option Subscription) → is_some o ≡ false → o ≡ None
-is_free o none = grind arith
-
--- a slot outside the set of the taken ones is free
-pub outside_free : (word : ℕ) (slots : List (Option Subscription)) (i : ℕ)
-    → MarksTaken word slots → i < 64 → has word i ≡ false → slot_in slots (i + 1) ≡ None
-outside_free word slots i marks lt out = is_free (slot_in slots (i + 1)) (sym (marks i lt) ∙ out)
-
--- and those below it are taken, where the set has them
-pub inside_taken : (word : ℕ) (slots : List (Option Subscription)) (i : ℕ)
-    → MarksTaken word slots → i ≤ 64 → ((j : ℕ) → j < i → has word j ≡ true)
-    → (k : ℕ) → 0 < k → k < i + 1 → IsSome (slot_in slots k)
-inside_taken word slots i marks most below k pos lt =
-    let same : (k - 1) + 1 ≡ k = omega arith in
-    rw same at (sym (marks (k - 1) (omega arith)) ∙ below (k - 1) (omega arith))
+use Rattle.lq_server_slots.specs.Slots.{AreConsistent, IsServed, OnlyAt, Serves, SlotIs, SlotStands, SlotsAre, asks_of, slot_in, AllReady, IsNoticed, IsReadyAt, IsTakenNoticed}
+use Rattle.lq_volume.specs.declared.change.Change.{Change}
+use Rattle.lq_server_slots.specs.Changing.{Prepares}
+use Rattle.lq_volume.specs.State.{State}
+use Rattle.std.proofs.lemmas.Option.{slice_get_within}
+use Rattle.lq_server_slots.proofs.SlotLemmas.{taken_alike}
 
 -- a slot whose seat is out is taken
 pub taken_out : (o : Option Subscription) (p : KnownSlot Identity) (book : Book)
     → SlotStands o p book → p.out ≡ true → IsSome o
 taken_out o p book fits out = grind arith
-
--- no slot is taken at first
-pub marks-none : (word : ℕ) (slots : List (Option Subscription)) → IsEmpty (has word)
-    → ((k : ℕ) → k < 65 → slot_in slots k ≡ None) → MarksTaken word slots
-marks-none word slots empty none i lt =
-    empty i ∙ sym (ap is_some (none (i + 1) (omega arith)))
-
--- a slot was set that stays taken, or free
-pub marks-kept : (word : ℕ) (slots : List (Option Subscription)) (k : ℕ) (o : Option Subscription)
-    → MarksTaken word slots → length slots ≡ 65 → k < 65 → is_some o ≡ is_some (slot_in slots k)
-    → MarksTaken word (slice_set slots k o)
-marks-kept word slots k o marks wide within kept i lt =
-    set_cases (λ z. has word i ≡ is_some z) slots k (i + 1) o (omega arith)
-    (λ (e : i + 1 ≡ k). marks i lt ∙ rw e (sym kept)) (λ ne. marks i lt)
-
--- a slot was taken or freed, and put into the set or out of it
-pub marks-put : (old new : ℕ) (slots : List (Option Subscription)) (i k : ℕ)
-    (o : Option Subscription) → MarksTaken old slots → length slots ≡ 65 → i < 64 → i + 1 ≡ k
-    → has new i ≡ is_some o → ((j : ℕ) → j ≢ i → has new j ≡ has old j)
-    → MarksTaken new (slice_set slots k o)
-marks-put old new slots i k o marks wide lt is here others j within =
-    set_cases (λ z. has new j ≡ is_some z) slots k (j + 1) o (omega arith)
-    (λ (e : j + 1 ≡ k). let same : j ≡ i = omega arith in rw same here)
-    (λ (ne : j + 1 ≢ k). others j (λ (e : j ≡ i). ne (ap (λ n. n + 1) e ∙ is)) ∙ marks j within)
-
--- slots that stay are kept
-pub slots_stay : (slots : ServerSlots) → AreConsistent slots slots.keeper.book
-    → KeepsSlots slots slots
-slots_stay slots h =
-    record {
-      counts = record { board = refl; counted = refl; openings = refl };
-      book = refl;
-      holding = h;
-    }
-
--- after all slots were kept, one was set, which was read as `was`, j beside k for the place of its
--- seat, where a call kept its slot
-pub slots_kept-step : (first old new : ServerSlots) (j k : ℕ) (was o : Option Subscription)
-    → KeepsSlots first old → 0 < k → k < 65 → j ≡ k
-    → was ≡ slice_index_or old.subscriptions.items k was → KeepsSlot old.keeper new.keeper j was o
-    → new.subscriptions.items ≡ slice_set old.subscriptions.items k o → new.taken ≡ old.taken
-    → new.openings ≡ old.openings → KeepsSlots first new
-slots_kept-step first old new j k was o h pos within e value keeps set taken openings =
-    let kept = keeps.keeper in
-    let items = old.subscriptions.items in
-    let wide = h.holding.0.wide in
-    let read : was ≡ slot_in items k = get_or_read items k was (omega arith) value None in
-    record {
-      counts = record {
-        board = kept.board ∙ h.counts.board;
-        counted = kept.counted ∙ h.counts.counted;
-        openings = openings ∙ h.counts.openings;
-      };
-      book = kept.book ∙ h.book;
-      holding = (
-        rw (set, openings)
-            (all_stand-step old.keeper new.keeper items j k old.openings o old.keeper.book
-            new.keeper.book h.holding.0 pos within e kept.book kept.only keeps.fits
-            (rw read at keeps.asks)),
-        rw (set, taken)
-            (marks-kept old.taken.word items k o h.holding.1 wide within (rw read at keeps.kept)),
-      );
-    }
-
--- ---- whether a slot is free
-
--- one of these slots is free
-all_taken-none : (slots : List (Option Subscription)) (k : ℕ) → k < length slots
-    → slot_in slots k ≡ None → all_taken slots ≡ false
-all_taken-none [] k lt none = absurd (omega arith)
-all_taken-none (None ∷ slots) k lt none = refl
-all_taken-none (Some s ∷ slots) zero lt none = absurd (cc)
-all_taken-none (Some s ∷ slots) (suc k) lt none = all_taken-none slots k (omega arith) none
-
--- each of these slots is taken
-all_taken-each : (slots : List (Option Subscription))
-    → ((k : ℕ) → k < length slots → IsSome (slot_in slots k)) → all_taken slots ≡ true
-all_taken-each [] h = refl
-all_taken-each (None ∷ slots) h = absurd (true≢false (sym (h zero (omega arith))))
-all_taken-each (Some s ∷ slots) h = all_taken-each slots (λ k lt. h (suc k) (omega arith))
-
--- a slot is free
-full-none : (slots : List (Option Subscription)) (k : ℕ) → length slots ≡ 65 → 0 < k → k < 65
-    → slot_in slots k ≡ None → false ≡ has_no_free slots
-full-none [] k wide pos within none = absurd (omega arith)
-full-none (o ∷ slots) zero wide pos within none = absurd (omega arith)
-full-none (o ∷ slots) (suc k) wide pos within none = sym (all_taken-none slots k (omega arith) none)
-
--- each slot is taken
-full-each : (slots : List (Option Subscription)) → length slots ≡ 65
-    → ((k : ℕ) → 0 < k → k < 65 → IsSome (slot_in slots k)) → true ≡ has_no_free slots
-full-each [] wide h = absurd (omega arith)
-full-each (o ∷ slots) wide h =
-    sym (all_taken-each slots (λ k lt. h (suc k) (omega arith) (omega arith)))
-
--- the slots below the lowest outside the set of the taken ones are taken
-pub lowest-taken : (word : ℕ) (slots : List (Option Subscription)) (o : Option SlotIndex)
-    → MarksTaken word slots → IfSome o (λ s. (i : ℕ) → i < s.index → has word i ≡ true)
-    → IfSome o (λ s. (k : ℕ) → 0 < k → k < s.index + 1 → IsSome (slot_in slots k))
-lowest-taken word slots None marks below = tt
-lowest-taken word slots (Some s) marks below =
-    inside_taken word slots s.index marks (let lt = s.within in omega arith) below
-
--- there is one just if a slot is free
-pub lowest-full : (word : ℕ) (slots : List (Option Subscription)) (o : Option SlotIndex)
-    → MarksTaken word slots → length slots ≡ 65 → IfSome o (λ s. has word s.index ≡ false)
-    → IfNone o ((i : ℕ) → i < 64 → has word i ≡ true) → is_none o ≡ has_no_free slots
-lowest-full word slots None marks wide free full =
-    full-each slots wide (inside_taken word slots 64 marks (omega arith) full)
-lowest-full word slots (Some s) marks wide free full =
-    let lt = s.within in
-    full-none slots (s.index + 1) wide (omega arith) (omega arith)
-    (outside_free word slots s.index marks lt free)
 
 -- how often the slots' seats have asked, as the keeper knows, where one slot's count rises
 pub asks_rise : (first old new : List (KnownSlot Identity)) (place : ℕ) → OnlyAt old new place
@@ -158,3 +33,102 @@ pub asks_rise : (first old new : List (KnownSlot Identity)) (place : ℕ) → On
 asks_rise first old new place only more before k =
     dite (ℕ_discrete k place) (λ (e : k ≡ place). rw e (omega (arith, before place, more)))
     (λ (ne : k ≢ place). rw (only.others k ne) (before k))
+
+-- what holds of a free slot holds of each outside the set of the taken
+pub outside_taken : (P : Option Subscription → Type 0) (set : ℕ)
+    (slots : List (Option Subscription)) (i : ℕ) → HasTaken set slots → has set i ≡ false → P None
+    → P (slot_in slots i)
+outside_taken P set slots i taken out free = by (slice_get slots i) refl
+  where
+    by : (o : Option (Option Subscription)) → slice_get slots i ≡ o → P (option_flatten o)
+    by None was = free
+    by (Some None) was = free
+    by (Some (Some s)) was = absurd (true≢false (sym (taken i (Some s) was) ∙ out))
+
+-- what holds of a free slot, and of one after its visit, holds of each after visits of all taken
+pub visits-all : {T S : Type 0} (allows : S → ℕ → T → Type 0) (did : S → ℕ → T → T → Type 0)
+    (set : ℕ) (xs ys : List (Option T)) (s t : S) → Visits allows did (has set) xs ys s t
+    → HasTaken set xs → (P : Option T → Type 0) (i : ℕ)
+    → (option_flatten (slice_get xs i) ≡ None → P None)
+    → ((x y : T) → option_flatten (slice_get xs i) ≡ Some x → did t i x y → P (Some y))
+    → P (option_flatten (slice_get ys i))
+visits-all {T} {S} allows did set xs ys s t v taken P i free visited = by (slice_get xs i) refl
+  where
+    by : (o : Option (Option T)) → slice_get xs i ≡ o → P (option_flatten (slice_get ys i))
+    by None was =
+        rw (v.left i (λ x at. absurd (let no : ⊥ = cc in no)), was) (free (ap option_flatten was))
+    by (Some None) was =
+        rw (v.left i (λ x at. absurd (let no : ⊥ = cc in no)), was) (free (ap option_flatten was))
+    by (Some (Some x)) was =
+        let d = v.visited i x (taken i (Some x) was) was in
+        rw d.1 (visited x d.0 (ap option_flatten was) d.2)
+
+-- what stands in a slot that is found taken
+pub noticed_at : (slots : ServerSlots) (book : Book) (i : ℕ) (x : Subscription)
+    → AreConsistent slots book → SlotsAre IsNoticed slots.subscriptions slots.keeper.slots
+    → slice_get slots.subscriptions i ≡ Some (Some x)
+    → IsTakenNoticed x (slot_at slots.keeper.slots (i + 1)) book
+noticed_at slots book i x h noticed found =
+    let p = slot_at slots.keeper.slots (i + 1) in
+    let low : i < 64 =
+    omega (arith, h.wide, slice_get_within slots.subscriptions i (Some x) found) in
+    let is : slot_in slots.subscriptions i ≡ Some x = ap option_flatten found in
+    record {
+      taken = subst (λ (o : Option Subscription). SlotStands o p book) is (h.each i low);
+      noticed = subst (λ (o : Option Subscription). SlotIs IsNoticed o p) is (noticed i low);
+    }
+
+-- all slots, which stood over a book before, were served over the keeper's
+pub all_served : (allows : Unit {0} → ℕ → Subscription → Type 0) (slots : ServerSlots)
+    (set : ℕ) (ys : List (Option Subscription)) (before : Book) (s t : Unit {0})
+    → AreConsistent slots before → HasTaken set slots.subscriptions → length ys ≡ 64
+    → Visits allows (λ t i x y. Serves x y (slot_at slots.keeper.slots (i + 1)) slots.keeper.book)
+    (has set) slots.subscriptions ys s t
+    → AreConsistent (record slots { subscriptions = ys }) slots.keeper.book
+    × SlotsAre IsServed ys slots.keeper.slots
+all_served allows slots set ys before s t h taken wide v =
+    let each = visits-all allows _ set slots.subscriptions ys s t v taken in (
+      record {
+        known = h.known;
+        wide = wide;
+        each = λ i low. each
+            (λ o. SlotStands o (slot_at slots.keeper.slots (i + 1)) slots.keeper.book) i
+            (λ none. rw none at (h.each i low)) (λ x y some d. d.taken);
+        asks = λ i low. each
+            (λ o. asks_of o (slot_at slots.keeper.slots (i + 1)) ≤ slots.openings) i
+            (λ none. rw none at (h.asks i low))
+            (λ x y some d. rw d.asks (rw some at (h.asks i low)));
+      },
+      λ i low. each (λ o. SlotIs IsServed o (slot_at slots.keeper.slots (i + 1))) i (λ none. tt)
+          (λ x y some d. d.served),
+    )
+
+-- all slots had the messages of a change prepared, unless memory ran out
+pub all_prepared : (v : State) (c : Change) (allows : Bool → ℕ → Subscription → Type 0)
+    (slots : ServerSlots) (set : ℕ) (ys : List (Option Subscription)) (s t : Bool)
+    → AreConsistent slots slots.keeper.book
+    → SlotsAre IsNoticed slots.subscriptions slots.keeper.slots
+    → HasTaken set slots.subscriptions → length ys ≡ 64
+    → Visits allows (λ t i x y. Prepares v c t x y) (has set) slots.subscriptions ys s t
+    → AreConsistent (record slots { subscriptions = ys }) slots.keeper.book
+    × SlotsAre IsNoticed ys slots.keeper.slots × (t ≡ false → AllReady ys v c)
+all_prepared v c allows slots set ys s t h noticed taken wide visits =
+    let each = visits-all allows (λ t i x y. Prepares v c t x y) set slots.subscriptions ys s t
+    visits taken in
+    let p : ℕ → KnownSlot Identity = λ i. slot_at slots.keeper.slots (i + 1) in (
+      record {
+        known = h.known;
+        wide = wide;
+        each = λ i low. each (λ o. SlotStands o (p i) slots.keeper.book) i
+            (λ none. rw none at (h.each i low))
+            (λ x y some d. taken_alike x y (p i) slots.keeper.book
+            (rw some at (h.each i low)) d.held d.others d.first_close);
+        asks = λ i low. each (λ o. asks_of o (p i) ≤ slots.openings) i
+            (λ none. rw none at (h.asks i low))
+            (λ x y some d. rw d.others.asks (rw some at (h.asks i low)));
+      },
+      λ i low. each (λ o. SlotIs IsNoticed o (p i)) i (λ none. tt)
+          (λ x y some d. rw (d.others.asks, d.held) (rw some at (noticed i low))),
+      λ whole i low. each (λ o. IsReadyAt o v c) i (λ none. tt)
+          (λ x y some d. d.ready whole),
+    )

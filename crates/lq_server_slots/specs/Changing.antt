@@ -1,19 +1,22 @@
 -- What a change under the lock answers, and what it makes of the book, the volume and the seat of
 -- its author.
-use Rattle.std.specs.Prelude.{◌≡◌, ℕ, ◌≤◌, None, [], ◌∷◌, length, Result, IfOk, OnOk, OnErr}
+use Rattle.std.specs.Prelude.{◌≡◌, ℕ, ◌≤◌, None, [], ◌∷◌, length, Result, IfOk, OnOk, OnErr, Bool, false}
 use Rattle.lq_value.specs.declared.refusal.Refusal.{Refusal}
 use Rattle.lq_value.specs.Refusal.{IsRefusedBy}
 use Rattle.lq_volume.specs.State.{State}
 use Rattle.lq_volume.specs.declared.change.Change.{Change}
 use Rattle.lq_volume.specs.declared.change.Applied.{Applied}
-use Rattle.lq_volume.specs.Book.{Book, Extends, grown}
+use Rattle.lq_volume.specs.Book.{Book, Extends, grown, state_of}
 use Rattle.lq_volume.specs.Change.{refused, node_of}
 use Rattle.lq_board.specs.Author.{with_change}
 use Rattle.lq_board.specs.Slot.{slot_at}
 use Rattle.lq_board.specs.Token.{SeatToken}
 use Rattle.lq_server_slots.specs.declared.identity.Identity.{Identity}
 use Rattle.lq_server_slots.specs.declared.slots.ServerSlots.{ServerSlots}
-use Rattle.lq_server_slots.specs.Slots.{AllReady, IsNoticed, SlotsAre, KeepsSlots}
+use Rattle.lq_server_slots.specs.Slots.{AllReady, IsNoticed, SlotsAre, KeepsSlots, IsGrown, IsTakenNoticed, before_of}
+use Rattle.lq_server_slots.specs.Standing.{IsReady, SameButHeld}
+use Rattle.lq_board.specs.Known.{KnownSlot}
+use Rattle.lq_server_slots.specs.declared.subscription.Subscription.{Subscription}
 
 -- A change was made, or refused. The volume was v and is w, the book b and d, the author's seat s
 -- and t. Refused, the book and the seat stay. Made, it is the last of the book, under the number
@@ -38,8 +41,23 @@ pub record IsChangeMade (change : Change) (result : Result Applied Refusal) (v w
 pub record IsPrepared (v : State) (change : Change) (result : Result (Unit {0}) Refusal)
     (old new : ServerSlots) : Type 0 where
   pub lawful : OnOk result (refused v change ≡ None)
-  pub ready : OnOk result (AllReady new.subscriptions.items v change)
-  pub noticed : OnOk result (SlotsAre IsNoticed new.subscriptions.items new.keeper.slots)
+  pub ready : OnOk result (AllReady new.subscriptions v change)
+  pub noticed : OnOk result (SlotsAre IsNoticed new.subscriptions new.keeper.slots)
   pub keeps : KeepsSlots old new
   pub rises : (k : ℕ) → (slot_at old.keeper.slots k).asks ≤ (slot_at new.keeper.slots k).asks
   pub refused : IsRefusedBy result (refused v change)
+
+-- A subscription, s before and t after, had the messages of a change prepared, unless memory ran
+-- out. What it holds stays.
+pub record Prepares (v : State) (change : Change) (full : Bool) (s t : Subscription) : Type 0 where
+  pub held : t.sub.held ≡ s.sub.held
+  pub others : SameButHeld s t
+  pub first_close : t.first_close ≡ s.first_close
+  pub ready : full ≡ false → IsReady t.sub v change
+
+-- a taken slot that stands over the book before its last change, the messages of which are prepared
+pub record MayCommit (change : Change) (s : Subscription) (p : KnownSlot Identity) (book : Book)
+    : Type 0 where
+  pub grown : IsGrown book change
+  pub stood : IsTakenNoticed s p (before_of book)
+  pub ready : IsReady s.sub (state_of (before_of book)) change

@@ -1,5 +1,5 @@
 -- What an opening makes, and the name that goes with a slot's seat.
-use Rattle.std.specs.Prelude.{◌≡◌, ◌⊎◌, ℕ, ◌<◌, ◌+◌, Bool, true, false, [], length, Option, Some, None, IsSome, IsSomeAnd, IfSome, IfNone, Result, Err, IfOk, IfErr}
+use Rattle.std.specs.Prelude.{◌≡◌, ◌⊎◌, ℕ, ◌<◌, ◌+◌, Bool, true, false, [], length, Option, Some, None, IsSome, IsSomeAnd, IfSome, IfNone, Result, Err, IfOk, IfErr, ◌-◌, ◌==◌}
 use base.Stored.{gnil}
 use Rattle.lq_value.specs.declared.refusal.Refusal.{Refusal}
 use Rattle.lq_value.specs.declared.refusal.Refusal.TheVariants.{NoSlot, Exhausted, NoMemory}
@@ -9,6 +9,7 @@ use Rattle.lq_volume.specs.Book.{Book, state_of}
 use Rattle.lq_volume.specs.Result.{result_of}
 use Rattle.lq_update.specs.Fold.{opened_at}
 use Rattle.lq_desk_world.specs.Events.{opening_refusals, size_refusals}
+use Rattle.lq_desk_sub.specs.SlotTable.{first_free}
 use Rattle.lq_board.specs.Token.{BoardName}
 use Rattle.lq_port.specs.End.{End}
 use Rattle.lq_server_slots.specs.declared.identity.Identity.{Identity}
@@ -23,7 +24,7 @@ use Rattle.lq_server_slots.specs.Reading.{ReadingHold}
 use Rattle.lq_server_slots.specs.Standing.{IsConsistentAt}
 use Rattle.lq_server_slots.specs.declared.open.Opened.{Opened}
 use Rattle.lq_server_slots.specs.declared.slots.ServerSlots.{ServerSlots}
-use Rattle.lq_server_slots.specs.Slots.{has_no_free, slot_in}
+use Rattle.lq_server_slots.specs.Slots.{slot_in}
 
 -- the name belongs to the port
 pub record IdentityFits (t : Identity) (e : End Delivery Opening) : Type 0 where
@@ -100,7 +101,7 @@ abbrev pub IsOpeningTabled : {T : Type 0} → ServerSlots → ℕ → ℕ → �
 IsOpeningTabled slots limit port backlog result =
     IsRefusedBy result
     (first_refusal
-    (opening_refusals (has_no_free slots.subscriptions.items) slots.openings limit port backlog))
+    (opening_refusals (first_free slots.subscriptions == 64) slots.openings limit port backlog))
 
 -- the other reasons to refuse an opening: no slot is free, the openings have reached the volume's
 -- limit on changes, or memory ran out
@@ -114,9 +115,9 @@ pub record IsOpeningAnswer {T : Type 0} (slot_of : T → ℕ) (slots : ServerSlo
   -- the first refusal that fits, and no other
   pub table : IsOpeningTabled slots limit port backlog result
   -- the slot was free, and each lower one is taken
-  pub free : IfOk result (λ o. slot_in slots.subscriptions.items (slot_of o) ≡ None)
+  pub free : IfOk result (λ o. slot_in slots.subscriptions (slot_of o - 1) ≡ None)
   pub lowest : IfOk result (λ o.
-      (j : ℕ) → 0 < j → j < slot_of o → IsSome (slot_in slots.subscriptions.items j))
+      (i : ℕ) → i < slot_of o - 1 → IsSome (slot_in slots.subscriptions i))
   -- the numbers are checked first, by their bounds alone
   pub refused : IfSome (size_refusal port backlog) (λ e. result ≡ Err e)
   pub others : IfNone (size_refusal port backlog) (IfErr result IsOpeningRefused)

@@ -1,5 +1,5 @@
 -- What the lock keeps, as a world of the core.
-use Rattle.std.specs.Prelude.{◌≡◌, ℕ, ◌-◌, ◌<◌, Bool, true, false, List, [], ◌∷◌, ◌++◌, length, map, nat_lt, Option, Some, None, slice_index_or}
+use Rattle.std.specs.Prelude.{◌≡◌, ℕ, ◌<◌, Bool, true, false, List, [], ◌∷◌, ◌++◌, length, map, nat_lt, Option, Some, None, slice_index_or, ◌+◌}
 use Rattle.std.specs.List.{range_with_len}
 use Rattle.lq_board.specs.Known.{KnownSlot}
 use Rattle.lq_board.specs.Book.{IsFullBook}
@@ -44,16 +44,16 @@ abbrev pub slot_shown : ℕ → Option Subscription → KnownSlot Identity → O
 slot_shown taken None p = None
 slot_shown taken (Some s) p = Some (shown_subscription (nat_lt s.asks p.asks) taken s)
 
--- the world that the slots show where this many parcels were taken from each port: slot k is at
--- index k - 1
+-- the world that the slots show where this many parcels were taken from each slot's port, by its
+-- index
 abbrev pub world_shown : (ℕ → ℕ) → ServerSlots → World
 world_shown taken slots = record {
   book = slots.keeper.book;
   openings = slots.openings;
   slots = map
-      (λ k. slot_shown (taken k) (slot_in slots.subscriptions.items k)
-      (slot_at slots.keeper.slots k))
-      (range_with_len 1 64);
+      (λ i. slot_shown (taken i) (slot_in slots.subscriptions i)
+      (slot_at slots.keeper.slots (i + 1)))
+      (range_with_len 0 64);
 }
 
 -- a mark that isn't put yet, as a list
@@ -82,9 +82,9 @@ SlotPassesOn b (Some u) (Some s) = PassesOnAs b u s
 abbrev pub SlotsShowWorlds : Type 0
 SlotsShowWorlds =
     (slots : ServerSlots) (taken : ℕ → ℕ) → IsFullBook slots.keeper.book
-    → AreConsistent slots slots.keeper.book → (k : ℕ) → 0 < k → k < 65
-    → SlotPassesOn slots.keeper.book (slice_index_or (world_shown taken slots).slots (k - 1) None)
-    (slot_in slots.subscriptions.items k)
+    → AreConsistent slots slots.keeper.book → (i : ℕ) → i < 64
+    → SlotPassesOn slots.keeper.book (slice_index_or (world_shown taken slots).slots i None)
+    (slot_in slots.subscriptions i)
 
 -- the subscription of a world with the end that this mark tells of
 abbrev pub with_mark : Subscribed → Option Mark → Subscribed

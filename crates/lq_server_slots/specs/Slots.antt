@@ -1,5 +1,5 @@
 -- What the lock has of the slots, beside what the keeper knows of them.
-use Rattle.std.specs.Prelude.{◌≡◌, ◌≢◌, ℕ, ◌+◌, ◌<◌, ◌≤◌, ◌-◌, true, false, List, ◌∷◌, [], length, take, drop, Bool, Option, Some, None, IsSome, is_some, slice_index_or}
+use Rattle.std.specs.Prelude.{◌≡◌, ◌≢◌, ℕ, ◌+◌, ◌<◌, ◌≤◌, ◌-◌, true, false, List, ◌∷◌, [], length, take, Option, Some, None, IsSome, slice_get}
 use Rattle.lq_volume.specs.State.{State}
 use Rattle.lq_volume.specs.declared.change.Change.{Change}
 use Rattle.lq_volume.specs.Change.{IsLawful}
@@ -8,13 +8,13 @@ use Rattle.lq_board.specs.Known.{KnownSlot}
 use Rattle.lq_board.specs.Book.{IsFullBook}
 use Rattle.lq_board.specs.Slot.{slot_at}
 use Rattle.lq_board.specs.Token.{KeeperToken, SeatToken}
-use Rattle.lq_desk_sub.specs.SlotSet.{has}
 use Rattle.lq_server_slots.specs.declared.identity.Identity.{Identity}
 use Rattle.lq_server_slots.specs.declared.subscription.Subscription.{Subscription}
 use Rattle.lq_server_slots.specs.Marking.{hung_mark}
 use Rattle.lq_server_slots.specs.Identity.{identity_of}
 use Rattle.lq_server_slots.specs.Standing.{IsConsistentAt, IsFilled, IsReady, IsSeen, CannotPut}
 use Rattle.lq_server_slots.specs.declared.slots.ServerSlots.{ServerSlots}
+use Rattle.std.specs.Option.{option_flatten}
 
 -- a taken slot: its subscription, and what the keeper knows of its seat
 pub record IsTakenSlot (s : Subscription) (p : KnownSlot Identity) (book : Book) : Type 0 where
@@ -35,28 +35,18 @@ abbrev pub asks_of : Option Subscription → KnownSlot Identity → ℕ
 asks_of None p = p.asks
 asks_of (Some s) p = s.asks + 1
 
--- the content of a slot, 1 to 64
+-- the content of a slot, by its index: that of slot 1 is 0
 abbrev pub slot_in : List (Option Subscription) → ℕ → Option Subscription
-slot_in slots k = slice_index_or slots k None
+slot_in slots i = option_flatten (slice_get slots i)
 
 -- all slots over a book
-pub record AllStand (keeper : KeeperToken Identity) (slots : List (Option Subscription))
-    (openings : ℕ) (book : Book) : Type 0 where
-  pub known : length keeper.slots ≡ 65
-  pub wide : length slots ≡ 65
-  pub each : (k : ℕ) → 0 < k → k < 65 → SlotStands (slot_in slots k) (slot_at keeper.slots k) book
-  pub asks : (k : ℕ) → 0 < k → k < 65
-      → asks_of (slot_in slots k) (slot_at keeper.slots k) ≤ openings
-
--- the set with this word has just the taken slots; slot k is at its place k - 1
-abbrev pub MarksTaken : ℕ → List (Option Subscription) → Type 0
-MarksTaken word slots = (i : ℕ) → i < 64 → has word i ≡ is_some (slot_in slots (i + 1))
-
--- all slots stand over a book, and the set has just the taken ones
-abbrev pub AreConsistent : ServerSlots → Book → Type 0
-AreConsistent s book =
-    AllStand s.keeper s.subscriptions.items s.openings book
-    × MarksTaken s.taken.word s.subscriptions.items
+pub record AreConsistent (s : ServerSlots) (book : Book) : Type 0 where
+  pub known : length s.keeper.slots ≡ 65
+  pub wide : length s.subscriptions ≡ 64
+  pub each : (i : ℕ) → i < 64
+      → SlotStands (slot_in s.subscriptions i) (slot_at s.keeper.slots (i + 1)) book
+  pub asks : (i : ℕ) → i < 64
+      → asks_of (slot_in s.subscriptions i) (slot_at s.keeper.slots (i + 1)) ≤ s.openings
 
 -- the keeper's book is lawful, the volume is the state after it, and all slots stand over it
 pub record IsConsistentWith (slots : ServerSlots) (volume : State) : Type 0 where
@@ -74,6 +64,17 @@ pub record IsServed (s : Subscription) (p : KnownSlot Identity) : Type 0 where
   pub noticed : IsNoticed s p
   pub stuck : CannotPut s
 
+-- a taken slot, whose subscription has its mark if its reader asked for its end
+pub record IsTakenNoticed (s : Subscription) (p : KnownSlot Identity) (book : Book) : Type 0 where
+  pub taken : IsTakenSlot s p book
+  pub noticed : IsNoticed s p
+
+-- a taken slot was served, its subscription s before and t after
+pub record Serves (s t : Subscription) (p : KnownSlot Identity) (book : Book) : Type 0 where
+  pub taken : IsTakenSlot t p book
+  pub served : IsServed t p
+  pub asks : t.asks ≡ s.asks
+
 -- a fact of a slot if it is taken, and of all slots that are
 abbrev pub SlotIs :
     (Subscription → KnownSlot Identity → Type 0) → Option Subscription → KnownSlot Identity → Type 0
@@ -85,7 +86,7 @@ abbrev pub SlotsAre :
     → List (KnownSlot Identity)
     → Type 0
 SlotsAre P slots known =
-    (k : ℕ) → 0 < k → k < 65 → SlotIs P (slot_in slots k) (slot_at known k)
+    (i : ℕ) → i < 64 → SlotIs P (slot_in slots i) (slot_at known (i + 1))
 
 -- only what the keeper knows of the slots may differ, and how many seats have a number
 pub record SameButKnown (old new : ServerSlots) : Type 0 where
@@ -93,7 +94,6 @@ pub record SameButKnown (old new : ServerSlots) : Type 0 where
   pub counted : new.keeper.register.openings ≡ old.keeper.register.openings
   pub book : new.keeper.book ≡ old.keeper.book
   pub subscriptions : new.subscriptions ≡ old.subscriptions
-  pub taken : new.taken ≡ old.taken
   pub openings : new.openings ≡ old.openings
 
 -- what is known of the other slots stays
@@ -107,15 +107,6 @@ pub record KeepsBook (old new : KeeperToken Identity) (place : ℕ) : Type 0 whe
   pub counted : new.register.openings ≡ old.register.openings
   pub book : new.book ≡ old.book
   pub only : OnlyAt old.slots new.slots place
-
--- A call at a slot keeps what `KeepsBook` says. The slot, o before and p after, stands on, taken or
--- free as it was, and no asks are added.
-pub record KeepsSlot (old new : KeeperToken Identity) (place : ℕ) (o p : Option Subscription)
-    : Type 0 where
-  pub keeper : KeepsBook old new place
-  pub fits : SlotStands p (slot_at new.slots place) new.book
-  pub asks : asks_of p (slot_at new.slots place) ≤ asks_of o (slot_at old.slots place)
-  pub kept : is_some p ≡ is_some o
 
 -- the board and the numbers of openings stay
 pub record KeepsCounts (old new : ServerSlots) : Type 0 where
@@ -144,16 +135,6 @@ pub record IsSlotMet (old new : KeeperToken Identity) (s t : SeatToken Identity)
   pub asks : (slot_at old.slots s.slot).asks ≤ s.asks
   pub out : (slot_at old.slots s.slot).out ≡ true
 
--- each of these slots is taken
-abbrev pub all_taken : List (Option Subscription) → Bool
-all_taken [] = true
-all_taken (None ∷ slots) = false
-all_taken (Some s ∷ slots) = all_taken slots
-
--- no slot, 1 to 64, is free
-abbrev pub has_no_free : List (Option Subscription) → Bool
-has_no_free slots = all_taken (drop 1 slots)
-
 -- the messages of a change are prepared for the slot
 abbrev pub IsReadyAt : Option Subscription → State → Change → Type 0
 IsReadyAt None s c = Unit {0}
@@ -161,7 +142,7 @@ IsReadyAt (Some slot) s c = IsReady slot.sub s c
 
 -- the messages of a change are prepared for all slots
 abbrev pub AllReady : List (Option Subscription) → State → Change → Type 0
-AllReady slots s c = (k : ℕ) → 0 < k → k < 65 → IsReadyAt (slot_in slots k) s c
+AllReady slots s c = (i : ℕ) → i < 64 → IsReadyAt (slot_in slots i) s c
 
 -- a book without its last change
 abbrev pub before_of : Book → Book

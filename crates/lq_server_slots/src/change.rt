@@ -26,8 +26,8 @@ impl<N: Named> ServerState<N> {
     /// marks are put until none is left or the port is full. Refused as the volume refuses the
     /// change, or `NoMemory`; the book is then as it was, but the ports are filled.
     ///
-    /// A refused change walks over the taken slots once, or twice where memory ran out. An accepted
-    /// one walks over them twice.
+    /// A refused change walks over the taken slots twice, or four times where memory ran out. An
+    /// accepted one walks over them three times.
     pub fn apply<R: Wait>(
         &mut self,
         rt: &R,
@@ -43,7 +43,7 @@ impl<N: Named> ServerState<N> {
         ensures same { OnErr result (self.new.slots.keeper.book ≡ self.old.slots.keeper.book) }
         ensures openings { self.new.slots.openings ≡ self.old.slots.openings }
         ensures seats { self.new.seats ≡ self.old.seats }
-        ensures served { SlotsAre IsServed self.new.slots.subscriptions.items
+        ensures served { SlotsAre IsServed self.new.slots.subscriptions
             self.new.slots.keeper.slots }
         ensures number { IfOk result (λ a.
             a.change ≡ length self.old.slots.keeper.book.changes + 1) }
@@ -82,10 +82,10 @@ fn add(
     ensures made { IsChangeMade change.now result volume.old volume.new
         slots.old.keeper.book slots.new.keeper.book seat.old seat.new }
     ensures lawful { OnOk result (refused volume.old change.now ≡ None) }
-    ensures ready { OnOk result (AllReady slots.new.subscriptions.items
+    ensures ready { OnOk result (AllReady slots.new.subscriptions
         (state_of slots.old.keeper.book) change.now) }
     ensures noticed { OnOk result
-        (SlotsAre IsNoticed slots.new.subscriptions.items slots.new.keeper.slots) }
+        (SlotsAre IsNoticed slots.new.subscriptions slots.new.keeper.slots) }
     ensures counts { KeepsCounts slots.old slots.new }
     ensures volume { volume.new ≡ state_of slots.new.keeper.book }
     ensures full { IsFullBook slots.new.keeper.book }
@@ -111,7 +111,7 @@ fn prepare(
     requires stands { IsConsistentWith slots.old volume.now }
     ensures { IsPrepared volume.now change.now result slots.old slots.new }
 {
-    if slots.taken.is_empty() {
+    if slots.subscriptions.taken().is_empty() {
         volume.check(change)?;
         return Ok(());
     }

@@ -1,41 +1,43 @@
 //! Closing a subscription under the lock, and freeing its slot.
-ghost use Rattle.std.specs.Prelude.{◌≡◌, ◌<◌, ◌≢◌, ℕ, length, IsSome, IsSomeAnd, None};
+ghost use Rattle.std.specs.Prelude.{◌≡◌, ◌<◌, ◌≢◌, ◌-◌, ℕ, IsSome, IsSomeAnd, None};
 ghost use Rattle.lq_volume.specs.Book.{Extends};
-ghost use Rattle.lq_board.specs.Slot.{slot_at};
 ghost use Rattle.lq_server_slots.specs.Closing.{IsClosed, IsClosing};
-ghost use Rattle.lq_server_slots.specs.Slots.{SlotStands, KeepsSlot, slot_in};
+ghost use Rattle.lq_server_slots.specs.Slots.{AreConsistent, KeepsSlots, slot_in};
 ghost use Rattle.lq_server_slots.specs.Opening.{IdentityFits, asks_after};
 
 use crate::identity::Identity;
 use crate::reading::Reading;
 use crate::server_base::Named;
 use crate::server_state::ServerState;
-use crate::slots::notice_slot;
-use crate::subscription::{Subscription, close};
+use crate::slots::{ServerSlots, notice_slot};
+use crate::subscription::close;
 use crate::sync::{meet_slot_at, meet_under};
-use lq_board::{Board, Keeper, Seat};
+use lq_board::{Board, Seat};
 use lq_desk_sub::SlotIndex;
 use std::sync::Wait;
 
-// Closes an optional subscription, after a notice, and gives its seat the name that says so. The
-// slot is never free here.
+// Closes the subscription of a slot's seat, after a notice, and gives the seat the name that says
+// so.
 fn close_at(
     board: &Board<Identity>,
-    keeper: &mut Keeper<Identity>,
-    slot: &mut Option<Subscription>,
+    slots: &mut ServerSlots,
     seat: &mut Seat<Identity>,
 ) -> Option<u64>
-    requires board { (keeper.old.board ≡ board.now) × (seat.old.board ≡ board.now) }
-    requires place { (0 < seat.old.slot) × (seat.old.slot < 65)
-        × (length keeper.old.slots ≡ 65) }
-    requires seat { IsSome seat.old.name }
-    requires fits { SlotStands slot.old (slot_at keeper.old.slots seat.old.slot) keeper.old.book }
-    ensures closed { IsClosed keeper.old.book seat.old seat.new result }
-    ensures keeps { KeepsSlot keeper.old keeper.new seat.old.slot slot.old slot.new }
+    requires board { (slots.old.keeper.board ≡ board.now) × (seat.old.board ≡ board.now) }
+    requires seat { 0 < seat.old.slot }
+    requires holding { AreConsistent slots.old slots.old.keeper.book }
+    ensures closed { IsClosed slots.old.keeper.book seat.old seat.new result }
+    ensures keeps { KeepsSlots slots.old slots.new }
 {
-    let number = meet_slot_at(board, keeper, slot, seat);
-    let Some(taken) = slot else { unreachable!() };
-    notice_slot(board, keeper, taken, seat.slot(), number);
+    let number = meet_slot_at(board, slots, seat);
+    let Some(index) = SlotIndex::of(seat.slot()) else {
+        unreachable!()
+    };
+    let Some(taken) = slots.subscriptions.get_mut(index) else {
+        unreachable!()
+    };
+    let keeper = &mut slots.keeper;
+    notice_slot(board, keeper, taken, index, number);
     let closed = close(taken, number);
     meet_under(board, keeper, seat, taken);
     closed
@@ -63,9 +65,7 @@ impl<N: Named> ServerState<N> {
         ensures book { seat.new.book ≡ self.old.slots.keeper.book }
         ensures closed { IsClosing seat.old seat.new reading.old reading.new result }
     {
-        let place = seat.slot() as usize;
-        let keeper = &mut self.slots.keeper;
-        let closed = close_at(board, keeper, &mut self.slots.subscriptions[place], seat);
+        let closed = close_at(board, &mut self.slots, seat);
         self.sync(rt, board, seat, reading);
         closed
     }
@@ -81,17 +81,18 @@ impl<N: Named> ServerState<N> {
         ensures same { self.new.slots.keeper.book ≡ self.old.slots.keeper.book }
         ensures openings { self.new.slots.openings ≡ self.old.slots.openings }
         ensures seats { self.new.seats ≡ self.old.seats }
-        ensures taken { IsSome (slot_in self.old.slots.subscriptions.items seat.slot) }
-        ensures freed { slot_in self.new.slots.subscriptions.items seat.slot ≡ None }
-        ensures others { (k : ℕ) → k ≢ seat.slot → slot_in self.new.slots.subscriptions.items k
-            ≡ slot_in self.old.slots.subscriptions.items k }
+        ensures taken { IsSome (slot_in self.old.slots.subscriptions (seat.slot - 1)) }
+        ensures freed { slot_in self.new.slots.subscriptions (seat.slot - 1) ≡ None }
+        ensures others { (i : ℕ) → i ≢ seat.slot - 1 → slot_in self.new.slots.subscriptions i
+            ≡ slot_in self.old.slots.subscriptions i }
         ensures later { Extends self.old.slots.keeper.book seat.book }
     {
         // For the contract alone, which says how often the seat has asked.
         let _ = hang_up_asked;
-        let place = seat.slot() as usize;
+        let Some(index) = SlotIndex::of(seat.slot()) else {
+            unreachable!()
+        };
         board.join(&mut self.slots.keeper, seat);
-        self.slots.subscriptions[place] = None;
-        self.slots.taken.put(SlotIndex::at(place - 1), false);
+        let _ = self.slots.subscriptions.remove(index);
     }
 }

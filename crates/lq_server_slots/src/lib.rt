@@ -6,9 +6,9 @@
 //! which parcel may follow. A subscription under the lock stands over a book (`IsConsistentAt` of
 //! `specs/Standing`), and the reading end is a `ReadingHold` (`specs/Reading`). Contracts see
 //! `ServerSlots` by its fields: `AreConsistent` (`specs/Slots`) says how far each taken slot has
-//! followed a book, and that the set of the taken slots is right. Puts and takes may wait for a
-//! step of a port's other end. Tests: lq_server_tests. Begin with `delivery`, `subscription`,
-//! `fill_port` and `reading`, then `slots`, `server_state` and `change`.
+//! followed a book. Puts and takes may wait for a step of a port's other end. Tests:
+//! lq_server_tests. Begin with `delivery`, `subscription`, `fill_port` and `reading`, then `slots`,
+//! `server_state` and `change`.
 #![tactic(auto)]
 
 mod change;

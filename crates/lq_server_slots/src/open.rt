@@ -1,5 +1,5 @@
 //! An opening under the lock: the lowest free slot gets a subscription, and its seat goes out.
-ghost use Rattle.std.specs.Prelude.{◌≡◌, ◌+◌, ◌<◌, ◌≤◌, ℕ, IfOk, OnOk, OnErr, IfSome, IsSome, is_none, Some, None, false};
+ghost use Rattle.std.specs.Prelude.{◌≡◌, ◌+◌, ◌<◌, ◌≤◌, IfOk, OnOk, OnErr, Some, None, false};
 ghost use Rattle.lq_value.specs.Refusal.{FailsOnlyForMemory};
 ghost use Rattle.lq_volume.specs.Book.{Extends, state_of};
 ghost use Rattle.lq_board.specs.Book.{IsFullBook};
@@ -8,7 +8,7 @@ ghost use Rattle.lq_board.specs.Slot.{slot_at};
 ghost use Rattle.lq_server_slots.specs.Identity.{identity_of};
 ghost use Rattle.lq_server_slots.specs.declared.identity.Identity.{Identity as IdentityOf};
 ghost use Rattle.lq_server_slots.specs.Noted.{IsOpenedOver};
-ghost use Rattle.lq_server_slots.specs.Slots.{AreConsistent, SameButKnown, has_no_free, slot_in};
+ghost use Rattle.lq_server_slots.specs.Slots.{AreConsistent, SameButKnown, slot_in};
 ghost use Rattle.lq_desk_sub.specs.declared.slot_index.SlotIndex.{SlotIndex as IndexOf};
 ghost use Rattle.lq_server_slots.specs.declared.slots.ServerSlots.{ServerSlots as SlotsOf};
 ghost use Rattle.lq_server_slots.specs.Opening.{IsNewSubscription, IsOpened, IsOpeningAnswer};
@@ -37,18 +37,6 @@ pub struct Opened {
     pub reading: Reading,
     pub seat: Seat<Identity>,
     pub slot: u64,
-}
-
-// The lowest free slot.
-fn lowest_free(slots: &ServerSlots) -> Option<SlotIndex>
-    requires { AreConsistent slots.now slots.now.keeper.book }
-    ensures free { IfSome result (λ index.
-        slot_in slots.now.subscriptions.items (index.index + 1) ≡ None) }
-    ensures lowest { IfSome result (λ index. (j : ℕ) → 0 < j → j < index.index + 1
-        → IsSome (slot_in slots.now.subscriptions.items j)) }
-    ensures full { is_none result ≡ has_no_free slots.now.subscriptions.items }
-{
-    slots.taken.lowest_outside()
 }
 
 // A subscription over the keeper's book, and its reading end.
@@ -100,18 +88,17 @@ fn sit(
     board: &Board<Identity>,
     keeper: &mut Keeper<Identity>,
     slot: &Subscription,
-    place: u64,
+    index: SlotIndex,
 ) -> Seat<Identity>
     ghost name: { IdentityOf }
     requires named { name ≡ identity_of slot.now }
     requires board { keeper.old.board ≡ board.now }
-    requires place { (0 < place) × (place < 65) }
-    requires free { (slot_at keeper.old.slots place).out ≡ false }
-    ensures { GoesOut keeper.old keeper.new place (Some (identity_of slot.now)) result }
+    requires free { (slot_at keeper.old.slots (index.index + 1)).out ≡ false }
+    ensures { GoesOut keeper.old keeper.new (index.index + 1) (Some (identity_of slot.now)) result }
 {
     // For the contract alone, which names the subscription.
     let _ = slot;
-    board.slot_seat(keeper, place)
+    board.slot_seat(keeper, index.number())
 }
 
 // Puts a subscription into a free slot, and gives out the slot's seat.
@@ -123,7 +110,7 @@ fn settle(
     reading: Reading,
 ) -> Opened
     requires board { slots.old.keeper.board ≡ board.now }
-    requires free { slot_in slots.old.subscriptions.items (index.index + 1) ≡ None }
+    requires free { slot_in slots.old.subscriptions index.index ≡ None }
     requires room { slots.old.openings < 1000000000000 }
     requires begun { IsNewSubscription slot reading slots.old.keeper.book slot.sub.held.query
         slot.sub.held.moved slot.places slot.sub.held.backlog }
@@ -139,17 +126,16 @@ fn settle(
     ensures opened { IsOpened result slots.old.keeper.board slots.old.keeper.book
         slot.sub.held.query slot.sub.held.moved slot.places slot.sub.held.backlog }
 {
-    slots.taken.put(index, true);
-    let place = index.index() + 1;
-    let asks = board.asks(&mut slots.keeper, place as u64);
+    let number = index.number();
+    let asks = board.asks(&mut slots.keeper, number);
     slot.asks = asks;
-    let seat = sit(board, &mut slots.keeper, &slot, place as u64);
-    slots.subscriptions[place] = Some(slot);
+    let seat = sit(board, &mut slots.keeper, &slot, index);
+    slots.subscriptions.insert(index, slot);
     slots.openings += 1;
     Opened {
         reading,
         seat,
-        slot: place as u64,
+        slot: number,
     }
 }
 
@@ -168,7 +154,7 @@ fn slot_for(slots: &ServerSlots, limit: u64, options: &OpenOptions) -> Result<Sl
     if options.backlog > MAX_BACKLOG {
         return Err(Refusal::BadBacklog);
     }
-    let Some(index) = lowest_free(slots) else {
+    let Some(index) = slots.subscriptions.lowest_free() else {
         return Err(Refusal::NoSlot);
     };
     if limit <= slots.openings {

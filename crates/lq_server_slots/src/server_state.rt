@@ -164,12 +164,10 @@ impl<N: Named> ServerState<N> {
         ensures number { result ≡ length self.old.slots.keeper.book.changes }
         ensures seats { self.new.seats ≡ self.old.seats }
     {
-        let place = seat.slot() as usize;
-        let keeper = &mut self.slots.keeper;
-        if place == 0 {
-            return board.meet(keeper, seat);
+        if seat.slot() == 0 {
+            return board.meet(&mut self.slots.keeper, seat);
         }
-        meet_slot_at(board, keeper, &self.slots.subscriptions[place], seat)
+        meet_slot_at(board, &mut self.slots, seat)
     }
 
     /// As `meet` for the seat of a slot. Another stays as it is.

@@ -1,29 +1,25 @@
-//! The slots under the lock, one or all.
-ghost use Rattle.std.specs.Prelude.{◌≡◌, ◌<◌, ◌≤◌, ℕ, length, None, IsSome, IfOk};
+//! The slots under the lock, and what is done in each of them outside a change.
+ghost use Rattle.std.specs.Prelude.{◌≡◌, ◌+◌, ◌<◌, ◌≤◌, ℕ, length, IsSome, IfOk};
 ghost use Rattle.lq_value.specs.Refusal.{FailsOnlyForMemory};
 ghost use Rattle.lq_board.specs.Slot.{slot_at, counted};
 ghost use Rattle.lq_server_slots.specs.Standing.{SameButHeld};
-ghost use Rattle.lq_server_slots.specs.Slots.{IsTakenSlot, SlotStands, AreConsistent, KeepsBook, KeepsSlot, KeepsSlots, slot_in, IsNoticed, IsServed, SlotIs, SlotsAre};
+ghost use Rattle.lq_server_slots.specs.Slots.{IsTakenSlot, AreConsistent, KeepsBook, KeepsSlots, IsNoticed, IsServed, SlotsAre};
 
 use crate::fill_port::fill;
 use crate::identity::Identity;
 use crate::subscription::{Subscription, notice};
 use lq_board::{Board, Keeper};
-use lq_desk_sub::SlotSet;
+use lq_desk_sub::{SlotIndex, SlotTable, Visit};
 use lq_value::Refusal;
 use std::alloc::Global;
 use std::sync::Wait;
 
-/// The number of places: 64 slots, and an unused place before them.
-const PLACES: usize = 65;
-
-/// The subscriptions in the slots, what the keeper knows of the slots, the set of the taken ones,
-/// and the number of openings so far.
+/// The subscriptions in the slots, what the keeper knows of the slots, and the number of openings
+/// so far.
 #[derive(Drop)]
 pub struct ServerSlots {
     pub keeper: Keeper<Identity>,
-    pub subscriptions: Vec<Option<Subscription>>,
-    pub taken: SlotSet,
+    pub subscriptions: SlotTable<Subscription>,
     pub openings: u64,
 }
 
@@ -38,28 +34,13 @@ impl ServerSlots {
         ensures openings { IfOk result (λ slots. slots.openings ≡ 0) }
         ensures holding { IfOk result (λ slots. AreConsistent slots keeper.book) }
     {
-        let subscriptions = free(alloc)?;
+        let subscriptions = SlotTable::new(alloc)?;
         Ok(ServerSlots {
             keeper,
             subscriptions,
-            taken: SlotSet::new(),
             openings: 0,
         })
     }
-}
-
-// All slots, free.
-fn free(alloc: Global) -> Result<Vec<Option<Subscription>>, Refusal>
-    ensures refused { FailsOnlyForMemory result }
-    ensures wide { IfOk result (λ slots. length slots.items ≡ 65) }
-    ensures none { IfOk result (λ slots. (k : ℕ) → k < 65 → slot_in slots.items k ≡ None) }
-{
-    let mut slots = Vec::with_capacity(alloc, PLACES)?;
-    for place in 0..PLACES {
-        let _ = place;
-        slots.push_reserved(None);
-    }
-    Ok(slots)
 }
 
 /// Ends a subscription where its reader asked for that, and answers how often its slot's seats have
@@ -68,51 +49,70 @@ pub(crate) fn notice_slot(
     board: &Board<Identity>,
     keeper: &mut Keeper<Identity>,
     slot: &mut Subscription,
-    place: u64,
+    index: SlotIndex,
     number: u64,
 ) -> u64
     requires board { keeper.old.board ≡ board.now }
-    requires place { (0 < place) × (place < 65) × (length keeper.old.slots ≡ 65) }
+    requires known { length keeper.old.slots ≡ 65 }
     requires number { number ≡ length keeper.old.book.changes }
-    requires taken { IsTakenSlot slot.old (slot_at keeper.old.slots place) keeper.old.book }
-    ensures keeper { KeepsBook keeper.old keeper.new place }
-    ensures slots { keeper.new.slots ≡ counted keeper.old.slots place result }
-    ensures asks { (slot_at keeper.old.slots place).asks ≤ result }
-    ensures taken { IsTakenSlot slot.new (slot_at keeper.new.slots place) keeper.new.book }
+    requires taken { IsTakenSlot slot.old (slot_at keeper.old.slots (index.index + 1))
+        keeper.old.book }
+    ensures keeper { KeepsBook keeper.old keeper.new (index.index + 1) }
+    ensures slots { keeper.new.slots ≡ counted keeper.old.slots (index.index + 1) result }
+    ensures asks { (slot_at keeper.old.slots (index.index + 1)).asks ≤ result }
+    ensures taken { IsTakenSlot slot.new (slot_at keeper.new.slots (index.index + 1))
+        keeper.new.book }
     ensures ended { slot.old.asks < result → IsSome slot.new.sub.held.mark }
-    ensures noticed { IsNoticed slot.new (slot_at keeper.new.slots place) }
+    ensures noticed { IsNoticed slot.new (slot_at keeper.new.slots (index.index + 1)) }
     ensures others { SameButHeld slot.old slot.new × (slot.new.first_close ≡ slot.old.first_close) }
     ensures still { IsSome slot.old.sub.held.mark
         → slot.new.sub.held.mark ≡ slot.old.sub.held.mark }
 {
-    let asks = board.asks(keeper, place);
+    let asks = board.asks(keeper, index.number());
     let hang_up_asked = asks > slot.asks;
     notice(slot, hang_up_asked, number);
     asks
 }
 
-// For a slot that may be free: ends the subscription where its reader asked, and fills its port.
-#[tactic(auto, using(crate::proofs::CommitLemmas::served_filled))]
-fn serve_at<R: Wait>(
-    rt: &R,
-    board: &Board<Identity>,
-    keeper: &mut Keeper<Identity>,
-    slot: &mut Option<Subscription>,
-    place: usize,
-    number: u64,
-)
-    requires board { keeper.old.board ≡ board.now }
-    requires place { (0 < place) × (place < 65) × (length keeper.old.slots ≡ 65) }
-    requires number { number ≡ length keeper.old.book.changes }
-    requires fits { SlotStands slot.old (slot_at keeper.old.slots place) keeper.old.book }
-    ensures keeps { KeepsSlot keeper.old keeper.new place slot.old slot.new }
-    ensures served { SlotIs IsServed slot.new (slot_at keeper.new.slots place) }
+/// Ends each subscription whose reader asked for that.
+pub(crate) fn notice_all(board: &Board<Identity>, slots: &mut ServerSlots, number: u64)
+    requires board { slots.old.keeper.board ≡ board.now }
+    requires number { number ≡ length slots.old.keeper.book.changes }
+    requires holding { AreConsistent slots.old slots.old.keeper.book }
+    ensures keeps { KeepsSlots slots.old slots.new }
+    ensures noticed { SlotsAre IsNoticed slots.new.subscriptions slots.new.keeper.slots }
+    ensures rises { (k : ℕ) → (slot_at slots.old.keeper.slots k).asks
+        ≤ (slot_at slots.new.keeper.slots k).asks }
 {
-    let Some(taken) = slot else {
-        return;
-    };
-    notice_slot(board, keeper, taken, place as u64, number);
-    fill(rt, keeper, taken);
+    let mut rest = slots.subscriptions.taken();
+    while let Some(index) = rest.pop_lowest() {
+        if let Some(slot) = slots.subscriptions.get_mut(index) {
+            notice_slot(board, &mut slots.keeper, slot, index, number);
+        }
+    }
+}
+
+/// Fills a port.
+#[derive(Drop)]
+struct Fill<'a, R> {
+    rt: &'a R,
+    keeper: &'a Keeper<Identity>,
+}
+
+impl<'a, R: Wait> Visit<Subscription, ()> for Fill<'a, R> {
+    ghost use Rattle.std.specs.Prelude.{◌+◌};
+    ghost use Rattle.lq_board.specs.Slot.{slot_at};
+    ghost use Rattle.lq_server_slots.specs.Slots.{IsTakenNoticed, Serves};
+
+    ghost allows = { λ v s i x.
+        IsTakenNoticed x (slot_at v.keeper.now.slots (i + 1)) v.keeper.now.book };
+
+    ghost did = { λ v t i x y.
+        Serves x y (slot_at v.keeper.now.slots (i + 1)) v.keeper.now.book };
+
+    fn visit(&self, _state: &mut (), _slot: SlotIndex, item: &mut Subscription) {
+        fill(self.rt, self.keeper, item);
+    }
 }
 
 /// Ends each subscription whose reader asked for that, and fills each port.
@@ -126,19 +126,12 @@ pub(crate) fn serve_all<R: Wait>(
     requires number { number ≡ length slots.old.keeper.book.changes }
     requires holding { AreConsistent slots.old slots.old.keeper.book }
     ensures keeps { KeepsSlots slots.old slots.new }
-    ensures served { SlotsAre IsServed slots.new.subscriptions.items slots.new.keeper.slots }
+    ensures served { SlotsAre IsServed slots.new.subscriptions slots.new.keeper.slots }
 {
-    let mut rest = slots.taken;
-    while let Some(index) = rest.pop_lowest() {
-        let place = index.index() + 1;
-        let keeper = &mut slots.keeper;
-        serve_at(
-            rt,
-            board,
-            keeper,
-            &mut slots.subscriptions[place],
-            place,
-            number,
-        );
-    }
+    notice_all(board, slots, number);
+    let taken = slots.subscriptions.taken();
+    let keeper = &slots.keeper;
+    slots
+        .subscriptions
+        .visit(taken, &Fill { rt, keeper }, &mut ());
 }

@@ -1,11 +1,10 @@
 //! A reader's sync under the lock, and how a slot's seat meets the keeper.
-ghost use Rattle.std.specs.Prelude.{◌≡◌, ◌<◌, ◌≤◌, length, IsSome, IsSomeAnd, Some};
-ghost use Rattle.lq_board.specs.Slot.{slot_at};
+ghost use Rattle.std.specs.Prelude.{◌≡◌, ◌+◌, ◌<◌, ℕ, length, IsSome, IsSomeAnd, Some};
 ghost use Rattle.lq_server_slots.specs.Identity.{identity_of};
 ghost use Rattle.lq_server_slots.specs.Standing.{told_by};
 ghost use Rattle.lq_server_slots.specs.declared.subscription.Subscription.{Subscription as SubscriptionOf};
 ghost use Rattle.lq_server_slots.specs.declared.identity.Identity.{Identity as IdentityOf};
-ghost use Rattle.lq_server_slots.specs.Slots.{SlotStands, KeepsSlot, IsSlotMet, asks_of};
+ghost use Rattle.lq_server_slots.specs.Slots.{AreConsistent, KeepsSlots, IsSlotMet, SameButKnown, slot_in};
 ghost use Rattle.lq_server_slots.specs.Opening.{IdentityFits};
 ghost use Rattle.lq_server_slots.specs.Progress.{ShowsProgress};
 
@@ -15,9 +14,10 @@ use crate::identity::{Identity, Told};
 use crate::reading::Reading;
 use crate::server_base::Named;
 use crate::server_state::ServerState;
-use crate::slots::notice_slot;
+use crate::slots::{ServerSlots, notice_slot};
 use crate::subscription::Subscription;
 use lq_board::{Board, Keeper, Seat};
+use lq_desk_sub::SlotIndex;
 use lq_update::Mark;
 use std::sync::Wait;
 
@@ -53,26 +53,26 @@ pub(crate) fn meet_under(
     board.meet_slot(keeper, seat)
 }
 
-// As `meet_under`, for an optional subscription. The seat keeps its name.
+// As `meet_under`, for the subscription in the seat's slot, which is taken. The seat keeps its
+// name.
 pub(crate) fn meet_slot_at(
     board: &Board<Identity>,
-    keeper: &mut Keeper<Identity>,
-    slot: &Option<Subscription>,
+    slots: &mut ServerSlots,
     seat: &mut Seat<Identity>,
 ) -> u64
-    requires board { (keeper.old.board ≡ board.now) × (seat.old.board ≡ board.now) }
-    requires place { (0 < seat.old.slot) × (seat.old.slot < 65)
-        × (length keeper.old.slots ≡ 65) }
-    requires seat { IsSome seat.old.name }
-    requires fits { SlotStands slot.now (slot_at keeper.old.slots seat.old.slot) keeper.old.book }
-    ensures met { IsSlotMet keeper.old keeper.new seat.old seat.new seat.old.name result }
-    ensures fits { SlotStands slot.now (slot_at keeper.new.slots seat.old.slot) keeper.new.book }
-    ensures asks { asks_of slot.now (slot_at keeper.new.slots seat.old.slot)
-        ≤ asks_of slot.now (slot_at keeper.old.slots seat.old.slot) }
+    requires board { (slots.old.keeper.board ≡ board.now) × (seat.old.board ≡ board.now) }
+    requires seat { 0 < seat.old.slot }
+    requires holding { AreConsistent slots.old slots.old.keeper.book }
+    ensures met { IsSlotMet slots.old.keeper slots.new.keeper seat.old seat.new seat.old.name
+        result }
+    ensures same { SameButKnown slots.old slots.new }
+    ensures holding { AreConsistent slots.new slots.new.keeper.book }
+    ensures taken { (i : ℕ) → i + 1 ≡ seat.old.slot
+        → IsSome (slot_in slots.new.subscriptions i) }
 {
-    // For the contract alone, which says what stands in the slot.
-    let _ = slot;
-    board.meet_slot(keeper, seat)
+    // For the proof: this call says that the slot is one of 64, and that the seat has a name.
+    let _ = seat.slot();
+    board.meet_slot(&mut slots.keeper, seat)
 }
 
 // What a sync answers its reader after this many changes, where this many parcels were taken: that
@@ -86,28 +86,32 @@ fn told_after(change: u64, seen: u64, mark: Option<Mark>) -> Told
     }
 }
 
-// A sync of an optional subscription. The slot is never free here.
+// A sync of the subscription of a slot's seat.
 fn sync_at<R: Wait>(
     rt: &R,
     board: &Board<Identity>,
-    keeper: &mut Keeper<Identity>,
-    slot: &mut Option<Subscription>,
+    slots: &mut ServerSlots,
     seat: &mut Seat<Identity>,
     reading: &mut Reading,
 ) -> Progress
-    requires board { (keeper.old.board ≡ board.now) × (seat.old.board ≡ board.now) }
-    requires place { (0 < seat.old.slot) × (seat.old.slot < 65)
-        × (length keeper.old.slots ≡ 65) }
-    requires seat { IsSomeAnd seat.old.name (λ t. IdentityFits t reading.old.port) }
-    requires fits { SlotStands slot.old (slot_at keeper.old.slots seat.old.slot) keeper.old.book }
-    ensures keeps { KeepsSlot keeper.old keeper.new seat.old.slot slot.old slot.new }
-    ensures seat { seat.new.book ≡ keeper.old.book }
+    requires board { (slots.old.keeper.board ≡ board.now) × (seat.old.board ≡ board.now) }
+    requires seat { (0 < seat.old.slot)
+        × IsSomeAnd seat.old.name (λ t. IdentityFits t reading.old.port) }
+    requires holding { AreConsistent slots.old slots.old.keeper.book }
+    ensures keeps { KeepsSlots slots.old slots.new }
+    ensures seat { seat.new.book ≡ slots.old.keeper.book }
     ensures progress { (s : SubscriptionOf)
         × ShowsProgress s seat.old seat.new reading.old reading.new result }
 {
-    let number = meet_slot_at(board, keeper, slot, seat);
-    let Some(taken) = slot else { unreachable!() };
-    notice_slot(board, keeper, taken, seat.slot(), number);
+    let number = meet_slot_at(board, slots, seat);
+    let Some(index) = SlotIndex::of(seat.slot()) else {
+        unreachable!()
+    };
+    let Some(taken) = slots.subscriptions.get_mut(index) else {
+        unreachable!()
+    };
+    let keeper = &mut slots.keeper;
+    notice_slot(board, keeper, taken, index, number);
     let waiting = drain(rt, keeper, taken, reading);
     let mark = taken.sub.mark();
     taken.told = GhostCopy::of(&told_after(number, reading.taken(), mark));
@@ -142,9 +146,6 @@ impl<N: Named> ServerState<N> {
         ensures progress { (s : SubscriptionOf)
             × ShowsProgress s seat.old seat.new reading.old reading.new result }
     {
-        let place = seat.slot() as usize;
-        let keeper = &mut self.slots.keeper;
-        let slot = &mut self.slots.subscriptions[place];
-        sync_at(rt, board, keeper, slot, seat, reading)
+        sync_at(rt, board, &mut self.slots, seat, reading)
     }
 }

@@ -1,6 +1,6 @@
 use Rattle.std.proofs.Common.{refl, arith, rules}
 use Rattle.std.proofs.lemmas.Grind.{common_steps}
-use Rattle.lq_server_slots.proofs.SlotLemmas.{all_stand-alike}
+use Rattle.lq_server_slots.proofs.SlotLemmas.{slots_alike}
 use Rattle.lq_server_slots.proofs.SyncLemmas.{slots_added}
 use Rattle.lq_server_slots.proofs.change.add.Goals as goal
 
@@ -20,11 +20,9 @@ returns-in_err-applied-clause-volume c =
 pub returns-in_err-applied-clause-holding : goal.returns-in_err-applied-clause-holding
 returns-in_err-applied-clause-holding c =
     let r = c.prepare.ensures in
-    let slots = c.prepare.new.slots in (
-      all_stand-alike slots.keeper slots.keeper slots.subscriptions.items slots.openings
-          slots.keeper.book c.args.slots.now.keeper.book r.keeps.holding.0 refl r.keeps.book,
-      r.keeps.holding.1,
-    )
+    let slots = c.prepare.new.slots in
+    slots_alike slots slots.keeper slots.keeper.book c.args.slots.now.keeper.book r.keeps.holding
+    refl r.keeps.book
 
 pub returns-clause-volume : goal.returns-clause-volume
 returns-clause-volume c =
@@ -37,13 +35,11 @@ returns-clause-holding c =
     let slots = c.prepare.new.slots in
     let within = c.slot.ensures.within in
     let value = c.slot.ensures.value in
-    let wide = r.keeps.holding.0.known in
-    let same = slots_added _ _ _ _ _ _ c.add_by.ensures.added (omega (arith, within, value, wide))
-    (λ pos. omega (arith, c.requires.known pos, r.rises c.args.seat.now.slot)) in (
-      all_stand-alike slots.keeper _ slots.subscriptions.items slots.openings slots.keeper.book
-          c.args.slots.now.keeper.book r.keeps.holding.0 same r.keeps.book,
-      r.keeps.holding.1,
-    )
+    let same = slots_added _ _ _ _ _ _ c.add_by.ensures.added
+    (omega (arith, within, value, r.keeps.holding.known))
+    (λ pos. omega (arith, c.requires.known pos, r.rises c.args.seat.now.slot)) in
+    slots_alike slots _ slots.keeper.book c.args.slots.now.keeper.book r.keeps.holding same
+    r.keeps.book
 
 pub returns-clause-noticed : goal.returns-clause-noticed
 returns-clause-noticed c = search (rules, arith, slots_added)

@@ -1,27 +1,23 @@
-use Rattle.std.proofs.Common.{Option, arith, rules}
-use Rattle.lq_board.specs.Known.{KnownSlot}
-use Rattle.lq_server_slots.specs.declared.identity.Identity.{Identity}
-use Rattle.lq_server_slots.specs.declared.subscription.Subscription.{Subscription}
-use Rattle.lq_server_slots.specs.Slots.{IsReadyAt, SlotIs, IsNoticed}
-use Rattle.lq_server_slots.proofs.CommitLemmas.{outside-first, outside-all}
-use Rattle.lq_server_slots.proofs.TakenLemmas.{slots_stay}
+use Rattle.lq_server_slots.specs.Slots.{IsNoticed, IsReadyAt, SlotIs}
+use Rattle.std.proofs.Common.{arith, rules, true, ◌+◌}
+use Rattle.lq_server_slots.proofs.TakenLemmas.{outside_taken}
+use Rattle.lq_board.specs.Slot.{slot_at}
+use Rattle.lq_server_slots.proofs.SlotLemmas.{slots_stay}
 use Rattle.lq_server_slots.proofs.change.prepare.Goals as goal
 
 pub returns-then-is_empty : goal.returns-then-is_empty
 returns-then-is_empty c =
     let slots = c.args.slots.now in
-    let items = slots.subscriptions.items in
-    let known = slots.keeper.slots in
+    let items = slots.subscriptions in
     let none = c.is_empty.ensures.empty c.if-is_empty.true in
-    let marks = c.requires.stands.holding.1 in
-    let ready : Option Subscription → KnownSlot Identity → Type 0 =
-    λ z _. IsReadyAt z c.args.volume.now c.args.change.now in
+    let taken = c.taken.ensures.taken in
     record {
       lawful = c.in_ok-check.ensures.ok;
-      ready = outside-all ready items slots.taken.word known none
-          (outside-first ready items slots.taken.word known marks (λ i lt is. tt));
-      noticed = outside-all (SlotIs IsNoticed) items slots.taken.word known none
-          (outside-first (SlotIs IsNoticed) items slots.taken.word known marks (λ i lt is. tt));
+      ready = λ i low. outside_taken (λ o. IsReadyAt o c.args.volume.now c.args.change.now) _ items
+          i taken (none i) tt;
+      noticed = λ i low. outside_taken
+          (λ o. SlotIs IsNoticed o (slot_at slots.keeper.slots (i + 1))) _ items i taken (none i)
+          tt;
       keeps = slots_stay slots c.requires.stands.holding;
       rises = λ k. omega arith;
       refused = search rules;

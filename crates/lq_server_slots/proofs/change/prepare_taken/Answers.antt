@@ -1,5 +1,5 @@
 use Rattle.std.proofs.Common.{rules, arith}
-use Rattle.lq_server_slots.proofs.TakenLemmas.{slots_stay}
+use Rattle.lq_server_slots.proofs.SlotLemmas.{slots_stay}
 use Rattle.lq_server_slots.proofs.change.prepare_taken.Goals as goal
 
 pub returns : goal.returns

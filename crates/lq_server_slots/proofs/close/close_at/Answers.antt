@@ -1,30 +1,41 @@
-use Rattle.std.proofs.Common.{refl, ap, ◌∙◌, arith, rules}
-use Rattle.lq_board.specs.Token.{SeatToken}
-use Rattle.lq_server_slots.specs.declared.identity.Identity.{Identity}
-use Rattle.lq_server_slots.proofs.SyncLemmas.{keeps_then, taken_closed}
+use Rattle.std.proofs.Common.{arith, rules, sym, ◌∙◌}
+use Rattle.lq_server_slots.proofs.SyncLemmas.{keeps_then, kept_known, seat_named, taken_closed}
+use Rattle.lq_server_slots.proofs.SlotLemmas.{slots_kept-taken, taken_at}
 use Rattle.lq_server_slots.proofs.close.close_at.Goals as goal
 
+pub notice_slot-requires-clause-taken : goal.notice_slot-requires-clause-taken
+notice_slot-requires-clause-taken c =
+    let mid = c.meet_slot_at-number.new.slots in
+    taken_at mid mid.keeper.book c.in-Some.index.index _ c.meet_slot_at-number.ensures.holding
+    c.in-Some.index.within c.in-Some-get_mut.ensures.value
+
 pub returns-clause-closed : goal.returns-clause-closed
-returns-clause-closed c = search (rules, arith)
+returns-clause-closed c =
+    let m = c.meet_slot_at-number in
+    let at = c.in-Some.ensures ∙ c.slot.ensures.value in
+    let name = seat_named m.new.slots c.in-Some.index.index c.in-Some-get_mut.taken.now
+    c.args.seat.now m.new.seat _ m.ensures.holding c.in-Some.index.within
+    c.in-Some-get_mut.ensures.value m.ensures.met at in
+    let noticed = rw at at c.notice_slot.ensures.taken in
+    let asks = rw at at c.notice_slot.ensures.asks in
+    search (rules, arith)
 
 pub returns-clause-keeps : goal.returns-clause-keeps
 returns-clause-keeps c =
-    let met = c.meet_slot_at-number.ensures.met in
-    let slot = ap (λ (s : SeatToken Identity). s.slot) met.seat in
-    let place = c.slot.ensures.value in
+    let m = c.meet_slot_at-number in
+    let at = c.in-Some.ensures ∙ c.slot.ensures.value in
     let n = c.notice_slot.ensures in
     let f = c.close-closed.ensures in
-    let u = c.meet_under.ensures in
+    let u = c.meet_under in
+    let taken = rw at at n.taken in
     let book = c.notice_slot.new.keeper.book in
-    let taken = rw place at n.taken in
-    record {
-      keeper = keeps_then _ _ _ _ _
-          (keeps_then _ _ _ _ _ met.keeper n.keeper (place ∙ slot)) u.keeper slot;
-      fits = rw met.seat at
-          (rw (← u.keeper.book) at
-          (taken_closed _ _ _ _ _ book taken
-          (f.stands book taken.stands (rw (n.keeper.book, met.keeper.book) met.number)) f.others
-          f.messages f.hung u.asks u.place));
-      asks = search (rules, arith);
-      kept = rw c.in-Some.is refl;
-    }
+    slots_kept-taken c.args.slots.now m.new.slots u.new.keeper c.in-Some.index.index
+    c.in-Some-get_mut.taken.now _
+    (kept_known c.args.slots.now m.new.slots m.ensures.same m.ensures.holding)
+    c.in-Some.index.within c.in-Some-get_mut.ensures.value
+    (keeps_then _ _ _ _ _ n.keeper u.ensures.keeper (sym at))
+    (rw (at, u.ensures.keeper.book)
+    (taken_closed _ _ _ _ _ book taken
+    (f.stands book taken.stands (rw (n.keeper.book, m.ensures.met.keeper.book)
+    m.ensures.met.number)) f.others f.messages f.hung u.ensures.asks u.ensures.place))
+    (f.others.asks ∙ n.others.0.asks)

@@ -1,51 +1,40 @@
-use Rattle.std.proofs.Common.{◌+◌, ap, sym, None, arith}
-use Rattle.std.proofs.lemmas.List.{get_or_read}
-use Rattle.lq_server_slots.specs.Slots.{SlotIs, IsNoticed, IsServed}
-use Rattle.lq_server_slots.proofs.SlotLemmas.{only_self}
-use Rattle.lq_server_slots.proofs.TakenLemmas.{marks-kept}
-use Rattle.lq_server_slots.proofs.CommitLemmas.{partly_committed-step, partly_committed-last, outside-more, outside-all, inside-still}
+use Rattle.lq_server_slots.proofs.prepare_commit.commit_all.Given.{Over}
+use Rattle.lq_server_slots.specs.Slots.{AreConsistent, IsReadyAt, IsServed, SlotsAre, before_of}
+use Rattle.std.proofs.Common.{Option, Some, ap, arith, subst}
+use Rattle.lq_server_slots.specs.declared.subscription.Subscription.{Subscription}
+use Rattle.lq_server_slots.proofs.TakenLemmas.{all_served, noticed_at}
+use Rattle.std.specs.Option.{option_flatten}
+use Rattle.std.proofs.lemmas.Option.{slice_get_within}
+use Rattle.lq_volume.specs.Book.{state_of}
 use Rattle.lq_server_slots.proofs.prepare_commit.commit_all.Goals as goal
 
-pub loop-index-preserved : goal.loop-index-preserved
-loop-index-preserved g c =
-    let i = c.loop-index.invariant in
-    let was = c.loop-index.slots in
-    let items = was.subscriptions.items in
-    let known = was.keeper.slots in
-    let old = c.loop-index.rest.word in
-    let new = c.pop_lowest.new.self.word in
-    let index = c.in-Some.index in
-    let k = c.index-place.result + 1 in
-    let is = ap (λ n. n + 1) (sym c.index-place.ensures.value) in
-    let out = c.in-Some.ensures in
-    let within = c.index-place.ensures.within in
-    let wide = i.partly.wide in
-    let t = c.commit_at.ensures in
-    let read = get_or_read items k _ (omega arith) c.index_mut.ensures.value None in
-    record {
-      keeper = i.keeper;
-      openings = i.openings;
-      marks = marks-kept was.taken.word items k c.commit_at.new.slot i.marks wide (omega arith)
-          (rw read at t.kept);
-      partly = partly_committed-step was.keeper items old new index.index k was.openings
-          c.args.change.now c.commit_at.new.slot i.partly index.within is out t.fits
-          (rw read at t.asks);
-      served = outside-more (SlotIs IsServed) items old new index.index k c.commit_at.new.slot is
-          out known known wide index.within (only_self known k) t.served i.served;
-      noticed = inside-still (SlotIs IsNoticed) items old new index.index k c.commit_at.new.slot is
-          out known i.noticed;
-    }
+pub visit-requires : goal.visit-requires
+visit-requires g c = record {
+  allowed = λ i x set found.
+      let slots = c.args.slots.now in
+      let r = c.requires in
+      let low = slice_get_within slots.subscriptions i (Some x) found in
+      record {
+        grown = r.grown;
+        stood = noticed_at slots (before_of slots.keeper.book) i x r.holding r.noticed found;
+        ready = subst (λ (o : Option Subscription).
+            IsReadyAt o (state_of (before_of slots.keeper.book)) c.args.change.now)
+            (ap option_flatten found) (r.ready i (omega (arith, low, r.holding.wide)));
+      };
+}
+
+-- each slot was served
+served : (g : Over) (c : goal.After-visit g)
+    → AreConsistent (record c.args.slots.now { subscriptions = c.visit.new.self })
+    c.args.slots.now.keeper.book
+    × SlotsAre IsServed c.visit.new.self c.args.slots.now.keeper.slots
+served g c =
+    let slots = c.args.slots.now in
+    all_served _ slots c.taken-taken.result.word c.visit.new.self (before_of slots.keeper.book) _ _
+    c.requires.holding c.taken-taken.ensures.taken c.visit.ensures.wide c.visit.ensures.visits
 
 pub returns-clause-holding : goal.returns-clause-holding
-returns-clause-holding g c =
-    let l = c.loop-index in (
-      partly_committed-last l.slots.keeper l.slots.subscriptions.items l.rest.word l.slots.openings
-          c.args.change.now l.invariant.partly c.in_default.ensures,
-      l.invariant.marks,
-    )
+returns-clause-holding g c = (served g c).0
 
 pub returns-clause-served : goal.returns-clause-served
-returns-clause-served g c =
-    let l = c.loop-index in
-    outside-all (SlotIs IsServed) l.slots.subscriptions.items l.rest.word l.slots.keeper.slots
-    c.in_default.ensures l.invariant.served
+returns-clause-served g c = (served g c).1

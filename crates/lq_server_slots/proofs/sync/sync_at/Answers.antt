@@ -1,40 +1,47 @@
-use Rattle.std.proofs.Common.{refl, ap, ◌∙◌, arith, sym, rules}
-use Rattle.lq_board.specs.Slot.{slot_at}
-use Rattle.lq_board.specs.Token.{SeatToken}
 use Rattle.lq_server_slots.specs.declared.identity.Identity.{Identity}
-use Rattle.lq_server_slots.proofs.SlotLemmas.{identity_alike, identity_others}
-use Rattle.lq_server_slots.proofs.SyncLemmas.{keeps_then, same_port, taken_shown}
+use Rattle.lq_board.specs.Token.{SeatToken}
+use Rattle.std.proofs.Common.{ap, arith, rules, sym, ◌∙◌}
+use Rattle.lq_server_slots.proofs.SlotLemmas.{identity_alike, identity_others, slots_kept-taken, taken_at}
+use Rattle.lq_server_slots.proofs.SyncLemmas.{keeps_then, kept_known, same_port, seat_named, taken_shown}
+use Rattle.lq_board.specs.Slot.{slot_at}
 use Rattle.lq_server_slots.proofs.sync.sync_at.Goals as goal
+
+pub notice_slot-requires-clause-taken : goal.notice_slot-requires-clause-taken
+notice_slot-requires-clause-taken g c =
+    let mid = c.meet_slot_at-number.new.slots in
+    taken_at mid mid.keeper.book c.in-Some.index.index _ c.meet_slot_at-number.ensures.holding
+    c.in-Some.index.within c.in-Some-get_mut.ensures.value
 
 pub drain-waiting-requires-clause-port : goal.drain-waiting-requires-clause-port
 drain-waiting-requires-clause-port g c =
-    let taken = rw c.in-Some.is at c.requires.fits in
-    let name = sym c.meet_slot_at-number.ensures.met.name ∙ taken.name in
+    let m = c.meet_slot_at-number in
+    let x = c.in-Some-get_mut.taken.now in
+    let name = seat_named m.new.slots c.in-Some.index.index x c.args.seat.now m.new.seat _
+    m.ensures.holding c.in-Some.index.within c.in-Some-get_mut.ensures.value m.ensures.met
+    (c.in-Some.ensures ∙ c.slot.ensures.value) in
     rw c.notice_slot.ensures.others.0.input
-    (same_port c.in-Some.taken _ c.args.reading.now.port name c.requires.seat)
+    (same_port x _ c.args.reading.now.port name c.requires.seat.1)
 
 pub returns-clause-keeps : goal.returns-clause-keeps
 returns-clause-keeps g c =
-    let met = c.meet_slot_at-number.ensures.met in
-    let slot = ap (λ (s : SeatToken Identity). s.slot) met.seat in
-    let place = c.slot.ensures.value in
+    let m = c.meet_slot_at-number in
+    let at = c.in-Some.ensures ∙ c.slot.ensures.value in
     let n = c.notice_slot.ensures in
     let d = c.drain-waiting in
-    let u = c.meet_under.ensures in
-    let k = c.meet_slot_at-number.new.seat.slot in
-    record {
-      keeper = keeps_then _ _ _ _ _
-          (keeps_then _ _ _ _ _ met.keeper n.keeper (place ∙ slot)) u.keeper slot;
-      fits = rw met.seat at
-          (rw (← u.keeper.book) at
-          (taken_shown c.notice_slot.new.slot d.new.slot c.of-taken.result
-          (slot_at c.notice_slot.new.keeper.slots k) (slot_at c.meet_under.new.keeper.slots k)
-          c.meet_slot_at-number.new.seat.asks c.notice_slot.new.keeper.book c.args.reading.now
-          d.new.reading d.result (rw place at n.taken) d.ensures.between d.ensures.drained
-          (search (rules, arith)) u.asks u.place));
-      asks = search (rules, arith);
-      kept = rw c.in-Some.is refl;
-    }
+    let u = c.meet_under in
+    slots_kept-taken c.args.slots.now m.new.slots u.new.keeper c.in-Some.index.index
+    c.in-Some-get_mut.taken.now _
+    (kept_known c.args.slots.now m.new.slots m.ensures.same m.ensures.holding)
+    c.in-Some.index.within c.in-Some-get_mut.ensures.value
+    (keeps_then _ _ _ _ _ n.keeper u.ensures.keeper (sym at))
+    (rw (at, u.ensures.keeper.book)
+    (taken_shown c.notice_slot.new.slot d.new.slot c.of-taken.result
+    (slot_at c.notice_slot.new.keeper.slots m.new.seat.slot)
+    (slot_at u.new.keeper.slots m.new.seat.slot)
+    m.new.seat.asks c.notice_slot.new.keeper.book c.args.reading.now
+    d.new.reading d.result (rw at at n.taken) d.ensures.between d.ensures.drained
+    (search (rules, arith)) u.ensures.asks u.ensures.place))
+    (d.ensures.between.alike.asks ∙ n.others.0.asks)
 
 pub returns-clause-seat : goal.returns-clause-seat
 returns-clause-seat g c =
@@ -42,4 +49,13 @@ returns-clause-seat g c =
     ∙ c.notice_slot.ensures.keeper.book ∙ c.meet_slot_at-number.ensures.met.keeper.book
 
 pub returns-clause-progress : goal.returns-clause-progress
-returns-clause-progress g c = search (rules, arith, identity_alike, identity_others)
+returns-clause-progress g c =
+    let m = c.meet_slot_at-number in
+    let at = c.in-Some.ensures ∙ c.slot.ensures.value in
+    let name = seat_named m.new.slots c.in-Some.index.index c.in-Some-get_mut.taken.now
+    c.args.seat.now m.new.seat _ m.ensures.holding c.in-Some.index.within
+    c.in-Some-get_mut.ensures.value m.ensures.met at in
+    let noticed = rw at at c.notice_slot.ensures.taken in
+    let asks = rw at at c.notice_slot.ensures.asks in
+    let slots = rw at at c.notice_slot.ensures.slots in
+    search (rules, arith, identity_alike, identity_others)

@@ -1,73 +1,49 @@
-use Rattle.std.proofs.Common.{ℕ, ◌≤◌, None, refl, sym, subst, arith, rules, slice_set, length-set, ◌∙◌}
+use Rattle.std.proofs.Common.{None, refl, subst, arith, rules, ◌∙◌, ◌+◌, ◌-◌, ◌≡◌}
 use Rattle.std.specs.Prelude.{IsSome}
-use Rattle.lq_board.specs.Slot.{slot_at}
-use Rattle.lq_server_slots.specs.declared.slots.ServerSlots.{ServerSlots}
 use Rattle.lq_server_slots.specs.Hold.{LockHold}
-use Rattle.lq_server_slots.specs.Slots.{asks_of, slot_in}
-use Rattle.lq_server_slots.proofs.SlotLemmas.{all_stand-step, in_here, in_else}
+use Rattle.lq_server_slots.specs.Slots.{slot_in}
+use Rattle.lq_server_slots.proofs.SlotLemmas.{in_here, in_else, slots_kept-step, slots_stay}
 use Rattle.lq_server_slots.proofs.StateLemmas.{state_kept}
 use Rattle.lq_server_slots.proofs.SyncLemmas.{seat_joined, joined_asks}
-use Rattle.lq_server_slots.proofs.TakenLemmas.{marks-put, taken_out}
+use Rattle.lq_server_slots.proofs.TakenLemmas.{taken_out}
+use Rattle.lq_board.specs.Slot.{slot_at}
 use Rattle.lq_server_slots.proofs.server_state.ServerState.free.Goals as goal
 
 pub invariant_of-self : goal.invariant_of-self
 invariant_of-self g c =
     let i = c.self.invariant in
     let was = c.self.inside.slots in
-    let h = i.6.0 in
     let f = c.join.ensures in
-    let items = was.subscriptions.items in
     let seat = c.args.seat in
-    let place = c.slot-place.result in
     let low = c.requires.seat.0 in
-    let value = c.slot-place.ensures.value in
-    let within = c.slot-place.ensures.within in
+    let index = c.in-Some.index in
+    let at = c.in-Some.ensures ∙ c.slot.ensures.value in
     let back = seat_joined was.keeper c.join.new.keeper seat.slot seat.asks seat.name f.keeper low
-    (omega (arith, within, value, h.known)) in
-    let fits = h.each seat.slot low (omega (arith, within, value)) in
-    let new : ServerSlots = record was {
-      keeper = c.join.new.keeper;
-      subscriptions = record was.subscriptions {
-        items = slice_set was.subscriptions.items c.slot-place.result None;
-        ok = (
-          was.subscriptions.ok.0
-              ∙ sym (length-set was.subscriptions.items c.slot-place.result None),
-          was.subscriptions.ok.1,
-        );
-      };
-      taken = c.put.new.self;
-    } in
-    state_kept g.N.Named.board g.N.Named.start was new c.self.inside.volume i (record {
-      counts = record { board = back.0.board; counted = back.0.counted; openings = refl };
-      book = back.0.book;
-      holding = (
-        all_stand-step was.keeper c.join.new.keeper items seat.slot place was.openings None
-            was.keeper.book c.join.new.keeper.book h (omega (arith, low, value)) within (sym value)
-            back.0.book back.0.only (rw back.1 refl)
-            (rw back.1
-            (subst (λ (n : ℕ). seat.asks
-            ≤ asks_of (slot_in items n) (slot_at was.keeper.slots seat.slot)) (sym value)
-            (joined_asks _ _ _ seat.name seat.asks c.args.hang_up_asked fits (f.was_out low).out
-            (f.was_out low).name c.requires.seat.1))),
-        marks-put was.taken.word c.put.new.self.word items c.at.result.index place None
-            i.6.1 h.wide c.at.result.within
-            (omega (arith, c.at.ensures, low, value)) c.put.ensures.here c.put.ensures.others,
-      );
-    })
+    (omega (arith, at, index.within, i.6.known)) in
+    let fits = rw at at (i.6.each index.index index.within) in
+    state_kept g.N.Named.board g.N.Named.start was _ c.self.inside.volume i
+    (rw c.remove.ensures.table
+    (slots_kept-step was was c.join.new.keeper index.index None (slots_stay was i.6) index.within
+    (rw at back.0) (rw (at, back.1) refl)
+    (rw (at, back.1)
+    (joined_asks _ _ _ seat.name seat.asks c.args.hang_up_asked fits (f.was_out low).out
+    (f.was_out low).name c.requires.seat.1))))
 
 pub returns-clause-freed : goal.returns-clause-freed
 returns-clause-freed g c = search (rules, arith, in_here)
 
 pub returns-clause-taken : goal.returns-clause-taken
 returns-clause-taken g c =
-    let low = c.requires.seat.0 in
-    let within = c.slot-place.ensures.within in
-    let value = c.slot-place.ensures.value in
-    subst (λ (h : LockHold). IsSome (slot_in h.slots.subscriptions.items c.args.seat.slot))
+    let was = c.self.inside.slots in
+    let index = c.in-Some.index in
+    let at = c.in-Some.ensures ∙ c.slot.ensures.value in
+    let here : c.args.seat.slot - 1 ≡ index.index = omega (arith, at) in
+    subst (λ (h : LockHold). IsSome (slot_in h.slots.subscriptions (c.args.seat.slot - 1)))
     c.self.view_is
-    (taken_out _ _ _
-    (c.self.invariant.6.0.each c.args.seat.slot low (omega (arith, within, value)))
-    (c.join.ensures.was_out low).out)
+    (rw here
+    (taken_out _ (slot_at was.keeper.slots (index.index + 1)) was.keeper.book
+    (c.self.invariant.6.each index.index index.within)
+    (rw at (c.join.ensures.was_out c.requires.seat.0).out)))
 
 pub returns-clause-others : goal.returns-clause-others
 returns-clause-others g c = search (rules, arith, in_else)

@@ -1,4 +1,4 @@
-use Rattle.std.proofs.Common.{◌+◌, Ok, Err, sym, ap, ◌∙◌, subst, arith, rules}
+use Rattle.std.proofs.Common.{◌+◌, Ok, Err, sym, ap, ◌∙◌, subst, arith, rules, ◌-◌, ◌≡◌}
 use Rattle.std.specs.Prelude.{Result}
 use Rattle.std.proofs.lemmas.Result.{err_from_is_err_and}
 use Rattle.lq_value.specs.declared.refusal.Refusal.{Refusal}
@@ -68,7 +68,10 @@ pub settle-requires-clause-begun : goal.settle-requires-clause-begun
 settle-requires-clause-begun g c = search (rules, arith, begun_own)
 
 pub settle-requires-clause-free : goal.settle-requires-clause-free
-settle-requires-clause-free g c = search (rules, arith)
+settle-requires-clause-free g c =
+    let i = c.in_ok-index.index.index in
+    let same : i + 1 - 1 ≡ i = omega arith in
+    rw same at c.in_ok-index.ensures.answered.free
 
 pub invariant_of-self : goal.invariant_of-self
 invariant_of-self g c =

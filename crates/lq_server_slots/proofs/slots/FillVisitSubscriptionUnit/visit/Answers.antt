@@ -1,0 +1,15 @@
+use Rattle.lq_server_slots.proofs.CommitLemmas.{served_filled}
+use Rattle.lq_server_slots.proofs.SlotLemmas.{taken_filled, to_fill}
+use Rattle.lq_server_slots.proofs.slots.FillVisitSubscriptionUnit.visit.Goals as goal
+
+pub returns-clause-did : goal.returns-clause-did
+returns-clause-did g c =
+    let s = c.args.item.now in
+    let t = c.fill.new.slot in
+    let f = c.fill.ensures in
+    record {
+      taken = taken_filled s t _ _ (to_fill s _ _ c.requires.taken) f.stands f.alike f.taken
+          f.stuck;
+      served = served_filled s t _ c.requires.noticed f.alike f.stuck;
+      asks = f.alike.asks;
+    }

@@ -1,0 +1,17 @@
+use Rattle.std.proofs.Common.{◌≡◌, ◌<◌, ◌≤◌, ◌+◌, ℕ, false}
+use Rattle.lq_board.specs.Slot.{slot_at}
+use Rattle.lq_desk_sub.specs.SlotSet.{has}
+use Rattle.lq_server_slots.specs.Slots.{IsNoticed, KeepsSlots, SlotIs, slot_in}
+use Rattle.lq_server_slots.proofs.slots.notice_all.Given as goal
+
+abbrev pub invariant-loop-index : goal.invariant-loop-index
+invariant-loop-index l = record {
+  keeps : KeepsSlots l.fn.slots l.slots;
+  noticed : (i : ℕ) → i < 64 → has l.rest.word i ≡ false
+      → SlotIs IsNoticed (slot_in l.slots.subscriptions i) (slot_at l.slots.keeper.slots (i + 1));
+  rises : (k : ℕ) → (slot_at l.fn.slots.keeper.slots k).asks
+      ≤ (slot_at l.slots.keeper.slots k).asks;
+}
+
+abbrev pub decreases-loop-index : goal.decreases-loop-index
+decreases-loop-index l = l.rest.word
