@@ -1,5 +1,5 @@
 //! A watch leaves out the subscriptions that a change can't concern: no clause says how many.
-use lq_desk_sub::{Sub, Watch};
+use lq_desk_sub::{SlotIndex, Sub, Watch};
 use lq_predicate::read;
 use lq_value::{AttrName, Kind, Name, Refusal, Value};
 use lq_volume::Change;
@@ -52,25 +52,30 @@ fn change(alloc: Global, number: usize) -> Result<Change, Refusal> {
     }
 }
 
-// To whom each of these changes is shown, as a word with a bit for each.
+// To whom each of these changes is shown, as a word with a bit for each slot.
 fn shown(alloc: Global, watch: &Watch) -> Result<[u64; 7], Refusal> {
     let mut words = [0; 7];
     for number in 0..7 {
-        words[number] = watch.slots_for(&change(alloc, number)?);
+        words[number] = watch.slots_for(&change(alloc, number)?).word();
     }
     Ok(words)
 }
 
-// To whom they are shown where index 3 looks at a status and index 5 at sizes, and then where both
-// look at sizes.
+// A slot by its number.
+fn slot(number: u64) -> Result<SlotIndex, Refusal> {
+    SlotIndex::of(number).ok_or(Refusal::NotOpen)
+}
+
+// To whom they are shown if slot 4 looks at a status and slot 6 at sizes, and then if both look at
+// sizes.
 fn asked(alloc: Global) -> Result<([u64; 7], [u64; 7]), Refusal> {
     let status = subscribed(alloc, "MAIL:status==\"New\"")?;
     let sizes = subscribed(alloc, "size>7")?;
     let mut watch = Watch::new();
-    watch.set(3, &status);
-    watch.set(5, &sizes);
+    watch.set(slot(4)?, &status);
+    watch.set(slot(6)?, &sizes);
     let first = shown(alloc, &watch)?;
-    watch.set(3, &sizes);
+    watch.set(slot(4)?, &sizes);
     Ok((first, shown(alloc, &watch)?))
 }
 

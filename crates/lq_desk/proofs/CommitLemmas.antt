@@ -1,20 +1,12 @@
 -- A slot after a change, by whether messages were made in it.
-use Rattle.std.proofs.Common.{◌≡◌, ◌+◌, ℕ, [], List, true, false, inl, inr, sym, ap, arith, append-nil}
-use Rattle.std.specs.Prelude.{◌==◌}
-use Rattle.std.specs.Int.{bit_at}
+use Rattle.std.proofs.Common.{◌≡◌, ◌+◌, ℕ, [], List, true, inl, inr, sym, ap, arith, append-nil}
 use Rattle.std.proofs.lemmas.Bool.{cases_Bool}
-use Rattle.std.proofs.lemmas.Bool.Decides.{nat_tests}
-use Rattle.std.proofs.lemmas.Nat.Bits.{bit_at-lt}
 use Rattle.lq_volume.specs.declared.change.Change.{Change}
 use Rattle.lq_volume.specs.State.{State}
 use Rattle.lq_update.specs.declared.message.Message.{Message}
 use Rattle.lq_desk_sub.specs.Held.{Held, after_messages, is_live, messages_due}
 use Rattle.lq_desk.specs.Slot.{PreparedSlot, committed_slot, slot_after, slot_of}
 use Rattle.lq_desk.specs.Words.{AreMadeIn}
-
--- a bit whose test fails is clear
-pub bit-clear : (word i : ℕ) → (bit_at word i == 1) ≡ false → bit_at word i ≡ 0
-bit-clear word i is = let lt = bit_at-lt word i in grind (arith, nat_tests)
 
 -- where there are no messages, what is held stays
 told-none : (h : Held) (ready : List Message) (before : ℕ) → ready ≡ []

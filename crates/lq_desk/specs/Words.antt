@@ -1,6 +1,5 @@
 -- Sets of slots: a slot that isn't in a set has no work to do.
 use Rattle.std.specs.Prelude.{◌≡◌, ◌<◌, ◌^◌, ℕ, List, [], Bool, true, false, Option, Some, length, slice_get}
-use Rattle.std.specs.Int.{bit_at}
 use Rattle.lq_volume.specs.declared.change.Change.{Change}
 use Rattle.lq_volume.specs.State.{State}
 use Rattle.lq_desk_sub.specs.declared.watch.Watch.{Watch}
@@ -16,14 +15,14 @@ abbrev pub MarksPassing : {T : Type 0} → (T → Bool) → ℕ → List (Option
 MarksPassing {T} test set slots = (i : ℕ) (x : T) → slice_get slots i ≡ Some (Some x) → test x ≡ true
     → has set i ≡ true
 
--- the change has no message for a slot whose bit is clear in this word
+-- the change has no message for a slot outside this set
 abbrev pub PassOver : Change → ℕ → List (Option KeptSlot) → Type 0
-PassOver c word ks = (i : ℕ) (k : KeptSlot) → slice_get ks i ≡ Some (Some k) → bit_at word i ≡ 0
+PassOver c set ks = (i : ℕ) (k : KeptSlot) → slice_get ks i ≡ Some (Some k) → has set i ≡ false
     → TellsNothing k.held.query c
 
 -- no change has a message for a slot that isn't to be asked for it
 abbrev pub AreWatched : Watch → List (Option KeptSlot) → Type 0
-AreWatched w ks = (c : Change) → PassOver c (slots_for w c) ks
+AreWatched w ks = (c : Change) → PassOver c (slots_for w c).word ks
 
 -- there are 64 places; the sets have the slots that are ending, and those whose port could take a
 -- parcel; and all are watched

@@ -80,7 +80,7 @@ impl Slots {
     {
         self.ending.put(index, slot.is_ending());
         self.movable.put(index, slot.can_move());
-        self.watch.set(index.index(), &slot.sub);
+        self.watch.set(index, &slot.sub);
         self.table.insert(index, slot);
     }
 
@@ -93,7 +93,7 @@ impl Slots {
         ensures kept { map (option_map slot_of) self.new ≡ map (option_map slot_of) self.old }
     {
         // A slot that isn't in this set has no message of this change.
-        let asked = SlotSet::from_word(self.watch.slots_for(planned.change()));
+        let asked = self.watch.slots_for(planned.change());
         // For its clauses `lawful` and `volume`.
         let _ = planned.applied();
         let mut state = Preparation {

@@ -7,7 +7,6 @@
 //! then `watch`; for the slots, `slot_table`.
 #![tactic(auto)]
 
-mod bits;
 mod laws;
 mod live_query;
 mod messages;

@@ -1,5 +1,5 @@
 //! The query of a subscription, with its names and number spans, which are looked up once.
-ghost use Rattle.std.specs.Prelude.{◌≡◌, ◌<◌, ℕ, Bool, [], not, IfNone, IfOk, IfSome};
+ghost use Rattle.std.specs.Prelude.{◌≡◌, ◌<◌, ℕ, Bool, List, [], false, not, IfNone, IfOk, IfSome};
 ghost use Rattle.lq_value.specs.Refusal.{FailsOnlyForMemory};
 ghost use Rattle.lq_predicate.specs.Names.{names_of};
 ghost use Rattle.lq_predicate.specs.Needs.{needs_attribute};
@@ -9,7 +9,6 @@ ghost use Rattle.lq_update.specs.Touched.{is_match};
 ghost use Rattle.lq_update.specs.Updates.{step_of};
 ghost use Rattle.lq_desk_sub.specs.Passing.{HasEndings, are_written, ending_of, is_name_among, passes_over};
 
-use crate::bits::{has_bit, with_bit};
 use crate::laws::passed_changes_tell_nothing;
 use lq_predicate::{Predicate, Spans, names, needs_attribute};
 use lq_update::{matches_of, writes_cross_no_number};
@@ -94,12 +93,14 @@ impl LiveQuery {
         !needs_attribute(&self.predicate)
     }
 
-    /// A word with a bit for the ending of each of the query's names.
+    /// Whether one of the query's names may have an ending: `false` if none of them has it.
     #[inline(always)]
-    pub fn endings(&self) -> u64
-        ensures { HasEndings (names_of self.now) result }
+    pub fn may_name(&self, ending: usize) -> bool
+        requires { ending < 64 }
+        ensures { (name : List ℕ) → ending_of name ≡ ending → result ≡ false
+            → is_name_among (names_of self.now) name ≡ false }
     {
-        self.endings
+        (self.endings >> ending) & 1 == 1
     }
 
     /// Whether the query matches the entry of a change's own node before the change, and after it,
@@ -147,10 +148,7 @@ impl LiveQuery {
     fn sees(&self, name: &str) -> bool
         ensures { result ≡ is_name_among (names_of self.now) name.now }
     {
-        if !has_bit(self.endings, ending_of(name)) {
-            return false;
-        }
-        is_among(&self.names, name)
+        self.may_name(ending_of(name)) && is_among(&self.names, name)
     }
 }
 
@@ -160,7 +158,7 @@ fn endings_of(names: &[AttrName]) -> u64
 {
     let mut endings = 0;
     for name in names {
-        endings = with_bit(endings, ending_of(name.as_str()));
+        endings |= 1 << ending_of(name.as_str());
     }
     endings
 }

@@ -29,13 +29,6 @@ impl SlotSet {
         self.word == 0
     }
 
-    /// The slots whose bits are set in a word, for each slot the bit with its index.
-    pub fn from_word(word: u64) -> SlotSet
-        ensures { (i : ℕ) → i < 64 → has result.word i ≡ (bit_at word i == 1) }
-    {
-        SlotSet { word }
-    }
-
     /// A word with the bits of the slots in the set, for each slot the one with its index.
     pub fn word(self) -> u64
         ensures { (i : ℕ) → has self.word i ≡ (bit_at result i == 1) }

@@ -22,6 +22,5 @@ invariant_of-self c =
     c.put-2.ensures.others
     (λ is. c.put-2.ensures.here ∙ (c.can_move.ensures ∙ is))
     (watched-set c.self.inside.watch _ ks i k
-    (rw (c.index.ensures.value, sub) at c.set.ensures.here)
-    (rw c.index.ensures.value at c.set.ensures.others) c.self.invariant.watched)
+    (rw sub at c.set.ensures.here) c.set.ensures.others c.self.invariant.watched)
     c.self.invariant)

@@ -1,9 +1,7 @@
-use Rattle.std.proofs.Common.{◌≡◌, ◌∙◌, ◌^◌, ◌-◌, ◌+◌, ℕ, Bool, List, Option, Some, false, inl, inr, map, ap, arith, sym}
+use Rattle.std.proofs.Common.{◌≡◌, ◌∙◌, ◌^◌, ◌-◌, ◌+◌, ℕ, Bool, List, Option, Some, false, inl, inr, map, ap, sym}
 use Rattle.std.specs.Prelude.{slice_get}
 use Rattle.std.specs.List.{AllByRecursion}
 use Rattle.std.proofs.lemmas.Bool.{both_ways}
-use Rattle.std.proofs.lemmas.List.{length-map}
-use Rattle.std.proofs.lemmas.Option.{slice_get_within}
 use Rattle.lq_volume.specs.declared.change.Change.{Change}
 use Rattle.lq_volume.specs.State.{State}
 use Rattle.lq_desk_sub.specs.declared.slot_set.SlotSet.{SlotSet}
@@ -15,7 +13,6 @@ use Rattle.lq_desk.specs.Slot.{PreparedSlot, slot_of}
 use Rattle.lq_desk.specs.Words.{MayPrepare, Prepares}
 use Rattle.lq_desk.proofs.FewLemmas.{few-there}
 use Rattle.lq_desk.proofs.PassLemmas.{visits-alike, visits-from}
-use Rattle.lq_desk.proofs.CommitLemmas.{bit-clear}
 use Rattle.lq_desk.proofs.SlotsLemmas.{kept-there, kept_slot}
 use Rattle.lq_desk.proofs.slots.Slots.prepare.Goals as goal
 
@@ -71,14 +68,7 @@ returns-clause-prepared c i y at live =
             some = λ is. absurd (both_ways _ none is);
             none = λ out. c.self.invariant.watched change i (slot_of y)
                 (rw d.1 at (kept-there xs i f.0 f.1))
-                (rw (← c.change.ensures, ← c.slots_for.ensures)
-                (bit-clear c.slots_for.result i (sym (c.from_word-asked.ensures i
-                (omega (
-                  arith,
-                  slice_get_within xs i (Some f.0) f.1,
-                  length-map xs kept_slot,
-                  c.self.invariant.wide,
-                ))) ∙ d.0)))
+                (rw (← c.change.ensures, ← c.slots_for-asked.ensures) d.0)
                 y.sub.held.moved s (y.sub.held.sent + 1) c.applied.ensures.volume
                 c.applied.ensures.lawful;
           }
