@@ -19,7 +19,8 @@ use std::thread::Threads;
 /// that begins with `-` has to follow `--`. Status 0: done. 1: a `RunFault`, a writer's fault in
 /// `check`, or no memory, with one line on `faults`. 2: a refused formula, with `lq: BadQuery at P`
 /// there, or other arguments, with `lq: usage`. A fault there is ignored. It may wait, so what is
-/// promised holds once it returns. When it reads is said of `run` alone (`waits`).
+/// promised holds once it returns. No clause here says when it reads: a `Source` may be read at any
+/// moment. It's proved of `run` (`waits`), and that the word `run` calls it rests on the body here.
 pub fn program<T: Threads + Wait + Sync, R: Source, W: Sink, F: Sink>(
     rt: &T,
     alloc: Global,
