@@ -1,5 +1,5 @@
 -- A slot's fold after a script's events: Fold over its opening's result and what was read since.
-use Rattle.std.proofs.Common.{◌≡◌, ◌≢◌, ◌⊎◌, ◌==◌, ℕ, zero, suc, ◌-◌, ◌≤◌, List, [], ◌∷◌, ◌++◌, length, replicate, refl, ap, ◌∙◌, sym, subst, arith, append_assoc, length-append, inl, inr, Bool, true, false, Option, Some, None}
+use Rattle.std.proofs.Common.{◌≡◌, ◌≢◌, ◌⊎◌, ◌==◌, ℕ, zero, suc, ◌+◌, ◌-◌, ◌≤◌, List, [], ◌∷◌, ◌++◌, length, replicate, refl, ap, ◌∙◌, sym, subst, arith, append_assoc, length-append, inl, inr, Bool, true, false, Option, Some, None}
 use Rattle.std.specs.Prelude.{slice_get, slice_set}
 use Rattle.std.specs.Option.{option_flatten}
 use Rattle.std.proofs.lemmas.Bool.Decides.{nat_tests}
@@ -41,36 +41,36 @@ set-read (x ∷ xs) (suc i) zero o f is = inr (omega arith, is)
 set-read (x ∷ xs) (suc i) (suc j) o f is = grind (arith, set-read xs i j o f is)
 
 -- a slot's fold after one was set
-fold-set : (folds : Folds) (k slot : ℕ) (o : Option Folding) (f : Folding)
+pub fold-set : (folds : Folds) (k slot : ℕ) (o : Option Folding) (f : Folding)
     → fold_at (with_fold folds k o) slot ≡ Some f
     → (((k == slot) ≡ true) × (k ≡ slot) × (o ≡ Some f))
     ⊎ (((k == slot) ≡ false) × (fold_at folds slot ≡ Some f))
 fold-set folds k slot o f is = grind (arith, nat_tests, set-read)
 
 -- a fold after messages, of which it ignores those that it refuses
-abbrev kept_after : Folding → List Message → Folding
+abbrev pub kept_after : Folding → List Message → Folding
 kept_after f [] = f
 kept_after f (m ∷ ms) = kept_after (after_message m f) ms
 
 -- a slot's fold goes on from folds: it was there, and the slot stays taken
-abbrev GoesOn : ℕ → Folds → List Event → List Answer → Folding → Type 0
+abbrev pub GoesOn : ℕ → Folds → List Event → List Answer → Folding → Type 0
 GoesOn slot folds events answers f = (old : Folding) × (fold_at folds slot ≡ Some old)
     × StaysTaken slot events answers
     × (f ≡ kept_after old (updates_in (reads_of slot events answers)))
 
 -- a slot's fold begins: the first event opens the slot, which then stays taken
-record Begins (slot : ℕ) (e : Event) (a : Answer) (events : List Event) (answers : List Answer)
+pub record Begins (slot : ℕ) (e : Event) (a : Answer) (events : List Event) (answers : List Answer)
     (f : Folding) : Type 0 where
-  query : Query
-  port : ℕ
-  backlog : ℕ
-  moved : Bool
-  at : ℕ
-  first : List Entry
-  event_is : e ≡ Open query port backlog moved
-  answer_is : a ≡ Opened slot at first
-  taken : StaysTaken slot events answers
-  fold : f ≡ kept_after (opened_at at first) (updates_in (reads_of slot events answers))
+  pub query : Query
+  pub port : ℕ
+  pub backlog : ℕ
+  pub moved : Bool
+  pub at : ℕ
+  pub first : List Entry
+  pub event_is : e ≡ Open query port backlog moved
+  pub answer_is : a ≡ Opened slot at first
+  pub taken : StaysTaken slot events answers
+  pub fold : f ≡ kept_after (opened_at at first) (updates_in (reads_of slot events answers))
 
 -- an answer that leaves the folds frees no slot and gives no update
 quiet-reads : (slot : ℕ) (e : Event) (a : Answer) (events : List Event) (answers : List Answer)
@@ -80,7 +80,7 @@ quiet-reads : (slot : ℕ) (e : Event) (a : Answer) (events : List Event) (answe
 quiet-reads slot e a events answers quiet = grind arith
 
 -- a fold after an event was there before it, or the event opened the slot
-one-more : {w : World} {e : Event} {a : Answer} {slots : List (Option Subscribed)}
+pub one-more : {w : World} {e : Event} {a : Answer} {slots : List (Option Subscribed)}
     → Does w e a slots → (slot : ℕ) (folds : Folds) (events : List Event) (answers : List Answer)
     (f : Folding) → GoesOn slot (folds_after (slot_named e) a folds) events answers f
     → GoesOn slot folds (e ∷ events) (a ∷ answers) f ⊎ Begins slot e a events answers f
@@ -123,27 +123,30 @@ one-more (finishes {k} some) slot folds events answers f g =
 -- ---- many events
 
 -- no message is refused that is read after an opening of the slot
-abbrev NoneRefused : ℕ → List Event → List Answer → Type 0
+abbrev pub NoneRefused : ℕ → List Event → List Answer → Type 0
 NoneRefused slot events answers =
     (before after : List Event) (befores afters : List Answer) (q : Query) (port backlog : ℕ)
     (moved : Bool) (at : ℕ) (first : List Entry)
     → events ≡ before ++ Open q port backlog moved ∷ after
     → answers ≡ befores ++ Opened slot at first ∷ afters → length before ≡ length befores
-    → kept_after (opened_at at first) (updates_in (reads_of slot after afters))
-    ≡ folding_after_all (opened_at at first) (updates_in (reads_of slot after afters))
+    → (kept_after (opened_at at first) (updates_in (reads_of slot after afters))
+    ≡ folding_after_all (opened_at at first) (updates_in (reads_of slot after afters)))
+    × ((folding_after_all (opened_at at first) (updates_in (reads_of slot after afters))).seq
+    ≡ length (updates_in (reads_of slot after afters)))
 
 module _ (follow : FoldingsFollow) (slot : ℕ) (all : List Event) (alls : List Answer)
     (none : NoneRefused slot all alls) where
   -- the fold that begins with an event among all of them
-  begun : (before events : List Event) (befores answers : List Answer) (e : Event) (a : Answer)
+  pub begun : (before events : List Event) (befores answers : List Answer) (e : Event) (a : Answer)
       (f : Folding) → length before ≡ length befores → all ≡ before ++ e ∷ events
       → alls ≡ befores ++ a ∷ answers → Begins slot e a events answers f
       → IsFoldOf slot all alls f
   begun before events befores answers e a f place is are b =
       let opening = is ∙ ap (λ x. before ++ x ∷ events) b.event_is in
       let opened = are ∙ ap (λ x. befores ++ x ∷ answers) b.answer_is in
-      let fold = b.fold ∙ none before events befores answers b.query b.port b.backlog b.moved b.at
-      b.first opening opened place in
+      let all = none before events befores answers b.query b.port b.backlog b.moved b.at b.first
+      opening opened place in
+      let fold = b.fold ∙ all.0 in
       let says = follow (opened_at b.at b.first) (updates_in (reads_of slot events answers)) in
       record {
         before = before;
@@ -160,6 +163,7 @@ module _ (follow : FoldingsFollow) (slot : ℕ) (all : List Event) (alls : List 
         opened = opened;
         place = place;
         taken = b.taken;
+        seq = ap (λ (g : Folding). g.seq) fold ∙ all.1;
         entries = ap (λ (g : Folding). g.entries) fold ∙ says.0;
         change = ap (λ (g : Folding). g.change) fold ∙ says.1;
         settled = ap (λ (g : Folding). g.settled) fold ∙ says.2;
@@ -203,6 +207,20 @@ takes-all f (m ∷ ms) takes =
     ∙ takes-all (folding_after f m) ms
     (λ front rest n is. takes (m ∷ front) rest n (ap (λ l. m ∷ l) is))
 
+-- and has taken as many messages as these are
+takes-count : (f : Folding) (ms : List Message) → TakesAll f ms
+    → (folding_after_all f ms).seq ≡ f.seq + length ms
+takes-count f [] takes = omega arith
+takes-count f (m ∷ ms) takes =
+    let one = taken-next f m (takes [] ms m refl) in
+    let rest = takes-count (folding_after f m) ms
+    (λ front rest n is. takes (m ∷ front) rest n (ap (λ l. m ∷ l) is)) in
+    omega (arith, one, rest)
+  where
+    taken-next : (f : Folding) (m : Message) → first_refusal (fold_refusals f m) ≡ None
+        → m.seq ≡ f.seq + 1
+    taken-next f m is = grind (arith, nat_tests)
+
 -- the first events accept no more changes than all
 accepted-front : (before events : List Event) (befores answers : List Answer)
     → length before ≡ length befores → length (accepted before befores)
@@ -223,7 +241,7 @@ told-all s events answers told =
     at (told.readers n)
 
 -- what is read after an opening is the beginning of its updates, of which none is refused
-none-refused : RebuildsTakeAll → (s : State) → IsVolume s → (slot : ℕ) (events : List Event)
+pub none-refused : RebuildsTakeAll → (s : State) → IsVolume s → (slot : ℕ) (events : List Event)
     (answers : List Answer) → ReadersAreTold s events answers → NoneRefused slot events answers
 none-refused rebuilds s volume slot events answers told before after befores afters q port backlog
     moved at first opening opened place =
@@ -238,17 +256,19 @@ none-refused rebuilds s volume slot events answers told before after befores aft
     rw start (rebuilds q moved b at (number_of b) front (rest ++ says.1.prefix.0) m volume
     told.book (omega (arith, says.0.number)) (omega (arith, says.0.number, fewer))
     (sym (append_assoc front (m ∷ rest) says.1.prefix.0)
-    ∙ (ap (λ ms. ms ++ says.1.prefix.0) is ∙ says.1.prefix.1))) in
-    takes-all (opened_at at first) (updates_in reads) takes
+    ∙ (ap (λ ms. ms ++ says.1.prefix.0) is ∙ says.1.prefix.1))) in (
+      takes-all (opened_at at first) (updates_in reads) takes,
+      omega (arith, takes-count (opened_at at first) (updates_in reads) takes),
+    )
 
 -- ---- scripts
 
 -- the volume of a script's first world
-first-volume : IsVolume (empty_state 1000000000000)
+pub first-volume : IsVolume (empty_state 1000000000000)
 first-volume = grind arith
 
 -- no slot has a fold before the first event
-none-first : (slot : ℕ) (f : Folding) → fold_at no_folds slot ≡ Some f → ⊥
+pub none-first : (slot : ℕ) (f : Folding) → fold_at no_folds slot ≡ Some f → ⊥
 none-first slot f had = let free = none 64 (slot - 1) in grind arith
   where
     none : (n i : ℕ) → option_flatten {T = Folding} (slice_get (replicate n None) i) ≡ None

@@ -129,6 +129,7 @@ pub record IsFoldOf (slot : ℕ) (events : List Event) (answers : List Answer) (
   pub opened : answers ≡ befores ++ Opened slot at first ∷ afters
   pub place : length before ≡ length befores
   pub taken : StaysTaken slot after afters
+  pub seq : f.seq ≡ length (updates_in (reads_of slot after afters))
   pub entries : f.entries ≡ folded first (updates_in (reads_of slot after afters))
   pub change : f.change ≡ last_change at (updates_in (reads_of slot after afters))
   pub settled : f.settled ≡ ends_settled (updates_in (reads_of slot after afters))

@@ -8,7 +8,6 @@ use Rattle.lq_desk_world.specs.Turns.{turn_outcome}
 use Rattle.lq_desk.specs.Turn.{TurnRuns}
 use Rattle.lq_script_request.specs.declared.request.Request.{Request}
 use Rattle.lq_script_request.specs.declared.request.Request.TheVariants as request
-use Rattle.lq_script_desk.specs.SessionHistory.{KeepsHistory}
 use Rattle.lq_script_desk.specs.Folds.{Folds, folds_after, is_folded, with_fold}
 use Rattle.lq_script_desk.specs.Session.{Session}
 use Rattle.lq_script_desk.specs.Answered.{slot_named}
@@ -26,12 +25,10 @@ Follow slot a old new = (new ≡ folds_after slot a old)
 
 -- The answer and the world are those of the event's turn, as after a line that asks for it. Where
 -- memory ran out for the event, the rest of its turn stands: the turn is a run to the new world.
--- Whatever history the session had, the turn goes on from it.
 pub record Turned (old new : Session) (e : Event) (a : Answer) : Type 0 where
   pub run : TurnRuns old.core e a new.core
   pub outcome : (a ≡ Refused NoMemory) ⊎ ((a, new.core) ≡ turn_outcome old.core e)
   pub folds : Follow (slot_named e) a old.folds new.folds
-  pub history : KeepsHistory old.core new.core e a
 
 -- What a line that asks this does to the session. Its event, if it asks for one, has its turn, also
 -- where memory runs out after it, and the reply tells the answer of that turn. A line that was

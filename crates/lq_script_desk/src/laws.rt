@@ -1,7 +1,7 @@
 //! The laws of scripts and of sessions: each is the contract of a function that does nothing.
 ghost use denote.Param.Send.{IsSend};
 ghost use Rattle.lq_script_desk.specs.History.{ScriptsTellReaders};
-ghost use Rattle.lq_script_desk.specs.Script.{script_world};
+ghost use Rattle.lq_script_desk.specs.Script.{script_session};
 ghost use Rattle.lq_script_desk.specs.SessionHistory.{SessionsTell};
 ghost use Rattle.lq_script_desk.specs.contracts.session.Session as sessions;
 
@@ -25,13 +25,16 @@ pub fn scripts_tell_readers()
 }
 
 /// The first session has the empty history, and of every history of a session the headline is true.
+/// In it each result of a slot is Fold over its opening's result and the updates read since.
 ///
-/// Each call of a session goes on from its history (`specs/SessionHistory`): a line, and a typed
+/// A turn goes on from each history (`specs/SessionHistory`): that of a line, and that of a typed
 /// call too. So what was read of a slot since its opening is as the headline says, at every moment.
 pub fn sessions_tell_readers()
-    ensures { SessionsTell script_world }
+    ensures { SessionsTell script_session }
 {
     readers_are_told();
+    rebuilds_take_all();
+    foldings_follow();
 }
 
 /// A session may go to another thread.

@@ -1,5 +1,4 @@
 use Rattle.std.proofs.Common.{rules}
-use Rattle.lq_script_desk.proofs.SessionLemmas.{turn-history}
 use Rattle.lq_script_desk.proofs.session.Session.turn.Goals as goal
 
 pub returns : goal.returns
@@ -7,5 +6,4 @@ returns c = record {
   run = c.turn-reply.ensures.run;
   outcome = c.turn-reply.ensures.outcome;
   folds = search rules;
-  history = turn-history _ _ _ _ c.turn-reply.ensures.run;
 }

@@ -1,6 +1,6 @@
 use Rattle.std.proofs.Common.{rules}
 use Rattle.lq_desk.specs.Reply.{answer_of}
-use Rattle.lq_script_desk.proofs.SessionLemmas.{answer-own, ok-any, turn-history}
+use Rattle.lq_script_desk.proofs.SessionLemmas.{answer-own, ok-any}
 use Rattle.lq_script_desk.proofs.session.Session.write_answer.Goals.{in-Refused+in-BadName-1, in-Changed-2}
 use Rattle.lq_script_desk.proofs.session.Session.write_answer.Goals as goal
 
@@ -11,7 +11,6 @@ returns-in-Refused-NoMemory-clause-turned c = (
     run = c.turn-reply.ensures.run;
     outcome = c.turn-reply.ensures.outcome;
     folds = search rules;
-    history = turn-history _ _ _ _ c.turn-reply.ensures.run;
   },
   tt,
 )
@@ -23,7 +22,6 @@ returns-then-is_err-clause-turned c = (
     run = c.turn-reply.ensures.run;
     outcome = c.turn-reply.ensures.outcome;
     folds = search rules;
-    history = turn-history _ _ _ _ c.turn-reply.ensures.run;
   },
   search rules,
 )
@@ -35,7 +33,6 @@ returns-clause-turned c = (
     run = c.turn-reply.ensures.run;
     outcome = c.turn-reply.ensures.outcome;
     folds = search rules;
-    history = turn-history _ _ _ _ c.turn-reply.ensures.run;
   },
   ok-any c.put_event_reply.result _ (elim c.match-reply.branch [
     | in-Refused+in-BadName-1 w ↦
