@@ -9,9 +9,9 @@ ghost use Rattle.lq_board.specs.Meeting.{GoesOut, WasOut};
 ghost use Rattle.lq_board.specs.Slot.{unused_slots, slot_at, come_back, counted};
 ghost use Rattle.lq_board.specs.Token.{counted_board, moment_of};
 
-use crate::step_types::{Ask, Back, Check, Count, Lead, See, Slotless};
 use crate::token_views::{Law, TokenView};
 use crate::tokens::{Keeper, Seat};
+use crate::word_steps::{Ask, Back, Check, Count, Lead, See, Slotless};
 use atomic_table::Table;
 use lq_value::Refusal;
 use lq_volume::Volume;

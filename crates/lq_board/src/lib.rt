@@ -10,9 +10,9 @@
 mod board;
 mod meet_calls;
 mod shared_steps;
-mod step_types;
 mod token_views;
 mod tokens;
+mod word_steps;
 
 pub use board::Board;
 pub use tokens::{Keeper, Seat};

@@ -9,8 +9,8 @@ ghost use Rattle.lq_board.specs.Roll.{IsMerged, without_number};
 ghost use Rattle.lq_board.specs.Token.{moment_of};
 
 use crate::board::Board;
-use crate::step_types::{Compare, Dismiss, Enlist, Note, Part, Together};
 use crate::tokens::{Keeper, Seat};
+use crate::word_steps::{Compare, Dismiss, Enlist, Note, Part, Together};
 use lq_volume::Change;
 use std::marker::Brand;
 

@@ -10,8 +10,8 @@ ghost use Rattle.lq_board.specs.View.{sitting_of, slotless_sitting, IsSeat};
 ghost use Rattle.lq_board.specs.Meeting.{GoesOutAgain};
 
 use crate::board::Board;
-use crate::step_types::{Add, Again, Back, Check, Chosen, Open};
 use crate::tokens::{Keeper, Token};
+use crate::word_steps::{Add, Again, Back, Check, Chosen, Open};
 use lq_volume::{Change, accepted_changes_keep_trees};
 
 impl<M> Board<M> {

@@ -6,16 +6,16 @@
 //! `unsafe` code. Nothing here waits. Tests: `tests/c` and `tests/python`. Begin with `handles`.
 #![tactic(auto)]
 
-mod attrs;
-mod bound_values;
-mod changes;
-mod folders;
+mod attr_calls;
+mod change_calls;
+mod folder_calls;
+mod formula_calls;
 mod handle;
+mod handle_numbers;
 mod handle_target;
 mod handles;
-mod live_queries;
-mod lookups;
-mod numbers;
+mod live_query_calls;
+mod lookup_calls;
 mod outs;
-mod pushes;
+mod push_calls;
 mod results;

@@ -3,7 +3,7 @@ ghost use Rattle.lq_c.specs.Held.{held_state};
 ghost use Rattle.lq_c.specs.Numbers.{GivesNext, TakesOf, is_latest};
 
 use crate::handle::Lq;
-use crate::numbers::{MISUSE, is_latest};
+use crate::handle_numbers::{MISUSE, is_latest};
 use lq_embed::RowOut;
 
 /// No entry is left.

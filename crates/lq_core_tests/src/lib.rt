@@ -1,7 +1,7 @@
 //! Tests of lq_value, lq_predicate, lq_script_request and lq_script_lines, of what no script or
 //! formula can show; and of lq_desk_sub, lq_script_desk, lq_board and lq_port. A module for each
-//! subject. `plain` makes a reply as a JSON value first, of `members`, to compare with the replies
-//! that are written piece by piece. Begin with `plain`.
+//! subject. `plain_reply` makes a reply as a JSON value first, of `members`, to compare with the
+//! replies that are written piece by piece. Begin with `plain_reply`.
 #![tactic(auto)]
 
 #[cfg(test)]
@@ -17,7 +17,7 @@ mod members;
 #[cfg(test)]
 mod patterns;
 #[cfg(test)]
-mod plain;
+mod plain_reply;
 #[cfg(test)]
 mod ports;
 #[cfg(test)]

@@ -1,5 +1,5 @@
 //! Each kind of response by pieces, as the plain way writes it.
-use crate::plain::put_plainly;
+use crate::plain_reply::put_plainly;
 use lq_desk::{Read, Reply};
 use lq_script_desk::{Response, put_event_reply, put_reply};
 use lq_update::{Cause, Mark, Message, Opcode};

@@ -12,8 +12,8 @@ use Rattle.lq_desk_sub.specs.contracts.slot_table.SlotTable.TheInside as in_tabl
 use Rattle.lq_desk_sub.specs.contracts.sub.Sub as sub
 use Rattle.lq_desk.specs.contracts.slot.Slot as slot
 use Rattle.lq_desk.specs.contracts.slot.Slot.TheInside as in_slot
-use Rattle.lq_desk.specs.contracts.slots.Slots as slots
-use Rattle.lq_desk.specs.contracts.slots.Slots.TheInside as in_slots
+use Rattle.lq_desk.specs.contracts.desk_slots.Slots as slots
+use Rattle.lq_desk.specs.contracts.desk_slots.Slots.TheInside as in_slots
 use Rattle.lq_desk.specs.contracts.engine.Engine as engine
 use Rattle.lq_desk.specs.contracts.engine.Engine.TheInside as in_engine
 use Rattle.lq_desk.specs.contracts.witness.Witness as witness

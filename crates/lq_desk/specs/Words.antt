@@ -7,7 +7,7 @@ use Rattle.lq_desk_sub.specs.Held.{is_live, messages_due}
 use Rattle.lq_desk_sub.specs.Passing.{TellsNothing}
 use Rattle.lq_desk_sub.specs.SlotSet.{has}
 use Rattle.lq_desk_sub.specs.Watch.{slots_for}
-use Rattle.lq_desk.specs.declared.slots.Preparation.{Preparation}
+use Rattle.lq_desk.specs.declared.desk_slots.Preparation.{Preparation}
 use Rattle.lq_desk.specs.Slot.{KeptSlot, PreparedSlot, can_move, is_ending, slot_of}
 
 -- a set has the place of each slot that passes a test

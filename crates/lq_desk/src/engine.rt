@@ -5,9 +5,9 @@ ghost use Rattle.std.specs.Prelude.{◌≡◌, ◌+◌, None, IfOk, OnOk, OnErr,
 ghost use Rattle.lq_value.specs.Refusal.{FailsOnlyForMemory, IsRefusedBy};
 ghost use Rattle.lq_volume.specs.Change.{refused, node_of};
 
+use crate::desk_slots::Slots;
 use crate::reply::Reply;
 use crate::slot::Slot;
-use crate::slots::Slots;
 use lq_desk_world::{Act, Event};
 use lq_predicate::Predicate;
 use lq_update::{OpenOptions, steps_are_few};

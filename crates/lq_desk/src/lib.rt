@@ -8,11 +8,11 @@
 #![tactic(auto)]
 
 mod desk;
+mod desk_slots;
 mod engine;
 mod laws;
 mod reply;
 mod slot;
-mod slots;
 mod witness;
 
 pub use desk::Desk;

@@ -8,6 +8,7 @@
 //! `embedded`, then `changes`, then `live_queries`.
 #![tactic(auto)]
 
+mod answer_lines;
 mod attrs;
 mod bound_formula;
 mod bound_values;
@@ -16,7 +17,6 @@ mod embedded;
 mod find_path;
 mod folders;
 mod laws;
-mod lines;
 mod live_queries;
 mod lookups;
 mod numbers;

@@ -5,7 +5,7 @@ ghost use Rattle.lq_port.specs.End.{known_of, IsPutter, IsTaker};
 ghost use Rattle.lq_port.specs.Port.{Shares};
 
 use crate::item_law::Follows;
-use crate::step_types::{Apart, Away, Beside, InOrder, Known, Total};
+use crate::port_steps::{Apart, Away, Beside, InOrder, Known, Total};
 use crossbeam_channel::{Pass, RuledReceiver, RuledSender};
 use std::alloc::Global;
 use std::sync::Wait;

@@ -6,7 +6,7 @@ ghost use Rattle.lq_port.specs.Port.{port_refusal};
 
 use crate::channel::{PortPass, PortReceiver, PortSender, meet, wait_for_ever};
 use crate::item_law::Follows;
-use crate::step_types::{InOrder, Known, Put, Take};
+use crate::port_steps::{InOrder, Known, Put, Take};
 use crossbeam_channel::{TrySendError, bounded_with};
 use lq_value::{MAX_PLACES, Refusal};
 use std::alloc::Global;

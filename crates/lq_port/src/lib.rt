@@ -9,7 +9,7 @@
 mod channel;
 mod ends;
 mod item_law;
-mod step_types;
+mod port_steps;
 
 pub use ends::{PortIn, PortOut, make};
 pub use item_law::Follows;

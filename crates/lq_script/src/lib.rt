@@ -17,7 +17,7 @@ mod batch;
 mod canonical_text;
 mod commands;
 mod gate;
-mod lines;
+mod input_lines;
 mod readers;
 mod runner;
 mod server_session;

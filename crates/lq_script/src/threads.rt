@@ -6,7 +6,7 @@ ghost use Rattle.lq_script.specs.Changes.{TellsAllChanges};
 ghost use Rattle.lq_script.specs.Progress.{TellsMade, TellsRetired};
 
 use crate::gate::Gate;
-use crate::lines::Lines;
+use crate::input_lines::Lines;
 use crate::readers::Readers;
 use crate::runner::Runner;
 use crate::server_session::ServerSession;

@@ -9,7 +9,7 @@ ghost use Rattle.lq_volume.specs.Lookup.{listed};
 ghost use Rattle.lq_script_desk.specs.Reply.{attr_data, kind_name, listing_data, sized_members, type_name, value_data, word};
 
 use crate::pieces::{put_bytes, put_signed, put_unsigned};
-use crate::text::put_text;
+use crate::quoted_text::put_text;
 use lq_value::{AttrName, Kind, Value};
 use lq_volume::Listing;
 use std::alloc::AllocError;

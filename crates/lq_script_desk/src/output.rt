@@ -4,7 +4,7 @@ ghost use Rattle.lq_script_desk.specs.Answer.{response_of};
 ghost use Rattle.lq_script_desk.specs.Reply.{reply_text};
 ghost use Rattle.lq_script_desk.specs.Writes.{ClosesRun, HasTaken, PutsText};
 
-use crate::reply::put_reply;
+use crate::reply_text::put_reply;
 use crate::response::Response;
 use lq_script_lines::{Failed, GATHERED, RunFault, Sink, write_replies};
 use std::alloc::Global;

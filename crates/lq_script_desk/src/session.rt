@@ -15,7 +15,7 @@ ghost use Rattle.lq_desk_world.specs.Events.{Answer};
 mod typed;
 
 use crate::rebuilds::{fold_reply, folded_slot, put};
-use crate::reply::{put_event_reply, put_reply};
+use crate::reply_text::{put_event_reply, put_reply};
 use crate::response::Response;
 use lq_desk::{Desk, Event, Reply};
 use lq_desk_sub::SlotTable;

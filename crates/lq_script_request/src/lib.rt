@@ -10,6 +10,7 @@
 #![tactic(auto)]
 
 mod field;
+mod field_values;
 mod fields;
 mod key;
 mod member;
@@ -18,7 +19,6 @@ mod quick_read;
 mod raw_request;
 mod request;
 mod scratch;
-mod values;
 
 pub use fields::Fields;
 pub use key::Key;

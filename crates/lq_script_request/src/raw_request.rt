@@ -5,9 +5,9 @@ ghost use Rattle.lq_script_request.specs.Fields.{AreLastMembers, whole_data};
 ghost use Rattle.lq_script_request.specs.Request.{asked_of, create_of, remove_of, move_of, write_of, set_of, unset_of, open_of, act_asked, rebuilt_of, find_of, entry_asked, fetch_of};
 ghost use Rattle.lq_script_request.specs.Asked.{asked_by};
 
+use crate::field_values::{bool_or_false, i64_or_zero, kind_or_file, typed_in, u64_or};
 use crate::fields::Fields;
 use crate::key::Key;
-use crate::values::{bool_or_false, i64_or_zero, kind_or_file, typed_in, u64_or};
 use lq_desk_world::Act;
 use lq_value::{Kind, View};
 

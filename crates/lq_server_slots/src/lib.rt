@@ -8,10 +8,11 @@
 //! `ServerSlots` by its fields: `AreConsistent` (`specs/Slots`) says how far each taken slot has
 //! followed a book. Puts and takes may wait for a step of a port's other end. Tests:
 //! lq_server_tests. Begin with `delivery`, `subscription`, `fill_port` and `reading`, then `slots`,
-//! `server_state` and `change`.
+//! `server_state` and `apply_change`.
 #![tactic(auto)]
 
-mod change;
+mod apply_change;
+mod change_passes;
 mod close;
 mod delivery;
 mod fill_port;
@@ -19,7 +20,6 @@ mod ghost_copy;
 mod identity;
 mod laws;
 mod open;
-mod prepare_commit;
 mod reading;
 mod server_base;
 mod server_state;

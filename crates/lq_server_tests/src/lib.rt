@@ -4,13 +4,11 @@
 //! plays it at a new server, and `Done::is_right` compares what was accepted and read with a plain
 //! reference, which takes the difference of two whole results. Begin with `acts`, then `scenario`,
 //! `party`, `reader_log` and `reference`; the tests are in `scenarios`, `seats`, `waits`, `followed`
-//! and `again`, and the tables of `scenarios` in `one_thread`, `more_threads` and `fills`.
+//! and `repeated_calls`, and the tables of `scenarios` in `one_thread`, `more_threads` and `fills`.
 #![tactic(auto)]
 
 #[cfg(test)]
 mod acts;
-#[cfg(test)]
-mod again;
 #[cfg(test)]
 mod fills;
 #[cfg(test)]
@@ -27,6 +25,8 @@ mod random_changes;
 mod reader_log;
 #[cfg(test)]
 mod reference;
+#[cfg(test)]
+mod repeated_calls;
 #[cfg(test)]
 mod scenario;
 #[cfg(test)]

@@ -1,7 +1,7 @@
 //! Whichever growth is refused, the answers stay the same: calls that are repeated where memory ran
 //! out, and the places of faults.
 use crate::act::Act;
-use crate::plain::is_same;
+use crate::plain_step::is_same;
 use lq_predicate::{Predicate, read};
 use lq_update::{Rebuild, step_planned};
 use lq_value::{Entry, Refusal};

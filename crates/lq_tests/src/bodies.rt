@@ -2,7 +2,7 @@
 ghost use Rattle.lq_volume.specs.Change.{IsLawful};
 
 use crate::act::{Act, Draws};
-use crate::plain;
+use crate::plain_step;
 use lq_predicate::{Predicate, read};
 use lq_update::{Message, Opcode, matches_of, step, step_planned};
 use lq_volume::{Change, Planned, Volume};

@@ -1,9 +1,9 @@
 //! Tests that cross crates: worked examples as lists of events (`events`), each call that may give
-//! up with memory for each variant of its arguments (`variants`), listings and paths (`folders`),
+//! up with memory for each variant of its arguments (`variants`), listings and paths (`listings`),
 //! calls that are given again where memory ran out (`again`), the plain body of `step` beside the
-//! fast one (`plain`, `bodies`), and changes without a message (`skipped_writes`, `creates`). And
-//! calls that no script and no other test makes (`values`, `predicates`, `attributes`, `folds`).
-//! Begin with `events`. Nothing here waits.
+//! fast one (`plain_step`, `bodies`), and changes without a message (`skipped_writes`, `creates`).
+//! And calls that no script and no other test makes (`values`, `predicate_copies`, `entry_rows`,
+//! `folds`). Begin with `events`. Nothing here waits.
 #![tactic(auto)]
 
 #[cfg(test)]
@@ -13,23 +13,23 @@ mod again;
 #[cfg(test)]
 mod ask;
 #[cfg(test)]
-mod attributes;
-#[cfg(test)]
 mod bodies;
 #[cfg(test)]
 mod creates;
+#[cfg(test)]
+mod entry_rows;
 #[cfg(test)]
 mod events;
 #[cfg(test)]
 mod fits;
 #[cfg(test)]
-mod folders;
-#[cfg(test)]
 mod folds;
 #[cfg(test)]
-mod plain;
+mod listings;
 #[cfg(test)]
-mod predicates;
+mod plain_step;
+#[cfg(test)]
+mod predicate_copies;
 #[cfg(test)]
 mod skipped_writes;
 #[cfg(test)]

@@ -1,7 +1,7 @@
 //! Threads that stay over batches, beside the run by one thread.
 ghost use Rattle.std.specs.Prelude.{◌≡◌, ◌<◌};
 
-use crate::devices::{FREE, Pace, reader_of, writer_of};
+use crate::failing_devices::{FREE, Pace, reader_of, writer_of};
 use lq_script::{Host, OpenGate, RunFault, run, run_threads};
 use std::alloc::{Alloc, AllocError, Global};
 use std::fs::Files;

@@ -1,7 +1,7 @@
 //! Faults of `run`, and the limits of its input.
 ghost use Rattle.std.specs.Prelude.{false, None};
 
-use crate::devices::{FREE, Pace, reader_of, writer_of};
+use crate::failing_devices::{FREE, Pace, reader_of, writer_of};
 use lq_script::{Failed, RunFault, Source, run};
 use std::alloc::Global;
 use std::test::Fail;

@@ -7,7 +7,7 @@ mod batches;
 #[cfg(test)]
 mod device_calls;
 #[cfg(test)]
-mod devices;
+mod failing_devices;
 #[cfg(test)]
 mod faults;
 #[cfg(test)]

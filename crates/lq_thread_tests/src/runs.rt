@@ -1,5 +1,5 @@
 //! Reads side by side, and devices that fail in mid-stream, beside the run by one thread.
-use crate::devices::{FREE, Pace, reader_of, writer_of};
+use crate::failing_devices::{FREE, Pace, reader_of, writer_of};
 use lq_script::{Gate, Host, OpenGate, RunFault, run, run_threads};
 use std::alloc::Global;
 use std::sync::Wait;

@@ -5,7 +5,7 @@
 //! the list of names and values in order of first setting (`specs/Attributes`). `specs/Edits` says
 //! what each edit makes of the records, `specs/Folder` what is in a folder. The index of places is
 //! by folder, then by a hash of the name (`specs/Places`); it shows in no public clause. Nothing
-//! here waits. Tests: `attributes`, `folders` and `again` of lq_tests. Begin with `stored_record`,
+//! here waits. Tests: `entry_rows`, `listings` and `again` of lq_tests. Begin with `stored_record`,
 //! then `attributes`, `places`, `records` and `entries`.
 #![tactic(auto)]
 

@@ -1,0 +1,45 @@
+use Rattle.std.proofs.Common.{refl, arith, rules}
+use Rattle.std.proofs.lemmas.Grind.{common_steps}
+use Rattle.lq_server_slots.proofs.SlotLemmas.{slots_alike}
+use Rattle.lq_server_slots.proofs.SyncLemmas.{slots_added}
+use Rattle.lq_server_slots.proofs.apply_change.add.Goals as goal
+
+pub returns-clause-made : goal.returns-clause-made
+returns-clause-made c = search rules
+
+pub returns-in_err-prepare-clause-made : goal.returns-in_err-prepare-clause-made
+returns-in_err-prepare-clause-made c = search rules
+
+pub returns-in_err-applied-clause-made : goal.returns-in_err-applied-clause-made
+returns-in_err-applied-clause-made c = search rules
+
+pub returns-in_err-applied-clause-volume : goal.returns-in_err-applied-clause-volume
+returns-in_err-applied-clause-volume c =
+    first_of (search rules, grind (arith, common_steps))
+
+pub returns-in_err-applied-clause-holding : goal.returns-in_err-applied-clause-holding
+returns-in_err-applied-clause-holding c =
+    let r = c.prepare.ensures in
+    let slots = c.prepare.new.slots in
+    slots_alike slots slots.keeper slots.keeper.book c.args.slots.now.keeper.book r.keeps.holding
+    refl r.keeps.book
+
+pub returns-clause-volume : goal.returns-clause-volume
+returns-clause-volume c =
+    rw (c.add_by.ensures.added.state, c.prepare.ensures.keeps.book, ← c.requires.stands.state)
+    c.in_ok-applied.ensures.ok
+
+pub returns-clause-holding : goal.returns-clause-holding
+returns-clause-holding c =
+    let r = c.prepare.ensures in
+    let slots = c.prepare.new.slots in
+    let within = c.slot.ensures.within in
+    let value = c.slot.ensures.value in
+    let same = slots_added _ _ _ _ _ _ c.add_by.ensures.added
+    (omega (arith, within, value, r.keeps.holding.known))
+    (λ pos. omega (arith, c.requires.known pos, r.rises c.args.seat.now.slot)) in
+    slots_alike slots _ slots.keeper.book c.args.slots.now.keeper.book r.keeps.holding same
+    r.keeps.book
+
+pub returns-clause-noticed : goal.returns-clause-noticed
+returns-clause-noticed c = search (rules, arith, slots_added)

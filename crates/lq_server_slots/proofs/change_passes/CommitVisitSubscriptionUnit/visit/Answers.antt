@@ -1,0 +1,21 @@
+use Rattle.lq_server_slots.specs.Slots.{before_of}
+use Rattle.lq_server_slots.proofs.CommitLemmas.{committed, committed_filled}
+use Rattle.lq_server_slots.proofs.change_passes.CommitVisitSubscriptionUnit.visit.Goals as goal
+
+pub fill-requires : goal.fill-requires
+fill-requires g c =
+    let m = c.commit.ensures in
+    let book = c.args.self.now.keeper.now.book in
+    (committed _ c.args.item.now c.commit.new.slot _ book c.requires (m.stands (before_of book))
+    m.others m.first_close m.hung).stands
+
+pub returns-clause-did : goal.returns-clause-did
+returns-clause-did g c =
+    let m = c.commit.ensures in
+    let f = c.fill.ensures in
+    let s = c.args.item.now in
+    let book = c.args.self.now.keeper.now.book in
+    committed_filled _ s c.commit.new.slot c.fill.new.slot _ book c.requires
+    (committed _ s c.commit.new.slot _ book c.requires (m.stands (before_of book)) m.others
+    m.first_close m.hung)
+    m.others m.still f.stands f.alike f.taken f.stuck

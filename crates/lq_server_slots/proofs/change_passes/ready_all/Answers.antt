@@ -1,0 +1,50 @@
+use Rattle.lq_server_slots.proofs.TakenLemmas.{all_prepared, noticed_at}
+use Rattle.std.proofs.Common.{false, refl, arith, rules}
+use Rattle.lq_server_slots.proofs.CommitLemmas.{few_sent}
+use Rattle.lq_server_slots.proofs.SlotLemmas.{slots_kept-on}
+use Rattle.lq_server_slots.proofs.change_passes.ready_all.Goals as goal
+
+pub notice_all-requires-clause-number : goal.notice_all-requires-clause-number
+notice_all-requires-clause-number c =
+    let state = c.requires.stands.state in
+    let number = rw (← state) at c.requires.stands.full.number in
+    search (rules, arith)
+
+pub visit-requires : goal.visit-requires
+visit-requires c = record {
+  allowed = λ i x set found.
+      let slots = c.notice_all.new.slots in
+      few_sent x slots.keeper.book
+      (noticed_at slots slots.keeper.book i x c.notice_all.ensures.keeps.holding
+      c.notice_all.ensures.noticed found).taken.stands;
+}
+
+pub returns-then-full : goal.returns-then-full
+returns-then-full c =
+    let n = c.notice_all.ensures in
+    let p = all_prepared _ _ _ c.notice_all.new.slots c.taken-taken.result.word c.visit.new.self _ _
+    n.keeps.holding n.noticed c.taken-taken.ensures.taken c.visit.ensures.wide
+    c.visit.ensures.visits in
+    record {
+      lawful = tt;
+      ready = tt;
+      noticed = tt;
+      keeps = slots_kept-on c.args.slots.now c.notice_all.new.slots c.visit.new.self n.keeps p.0;
+      rises = n.rises;
+      refused = rw c.requires.lawful (tt, refl);
+    }
+
+pub returns : goal.returns
+returns c =
+    let n = c.notice_all.ensures in
+    let p = all_prepared _ _ _ c.notice_all.new.slots c.taken-taken.result.word c.visit.new.self _ _
+    n.keeps.holding n.noticed c.taken-taken.ensures.taken c.visit.ensures.wide
+    c.visit.ensures.visits in
+    record {
+      lawful = c.requires.lawful;
+      ready = p.2 c.if-full.false;
+      noticed = p.1;
+      keeps = slots_kept-on c.args.slots.now c.notice_all.new.slots c.visit.new.self n.keeps p.0;
+      rises = n.rises;
+      refused = rw c.requires.lawful (refl, tt);
+    }

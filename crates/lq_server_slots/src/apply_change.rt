@@ -1,0 +1,135 @@
+//! A change under the lock: first everything that takes memory, then the change, then its messages.
+ghost use Rattle.std.specs.Prelude.{◌≡◌, ◌+◌, ◌<◌, ◌≤◌, [], ◌∷◌, length, true, None, IfOk, OnOk, OnErr};
+ghost use Rattle.lq_volume.specs.Book.{grown, state_of};
+ghost use Rattle.lq_volume.specs.Change.{refused};
+ghost use Rattle.lq_board.specs.Book.{IsFullBook};
+ghost use Rattle.lq_board.specs.Slot.{slot_at};
+ghost use Rattle.lq_server_slots.specs.Applied.{IsApplied};
+ghost use Rattle.lq_server_slots.specs.Changing.{IsChangeMade, IsPrepared};
+ghost use Rattle.lq_server_slots.specs.Slots.{AreConsistent, IsConsistentWith, AllReady, IsNoticed, IsServed, SlotsAre, KeepsCounts};
+
+use crate::change_passes::{commit_all, ready_all};
+use crate::identity::Identity;
+use crate::server_base::Named;
+use crate::server_state::ServerState;
+use crate::slots::{ServerSlots, serve_all};
+use lq_board::{Board, Seat};
+use lq_value::Refusal;
+use lq_volume::{Applied, Change, Volume};
+use std::sync::Wait;
+
+impl<N: Named> ServerState<N> {
+    /// Makes a change and notifies the subscriptions. The seat is its author, and then knows the
+    /// book.
+    ///
+    /// First the subscriptions whose readers hung up end, as the keeper then knows. Messages and
+    /// marks are put until none is left or the port is full. Refused as the volume refuses the
+    /// change, or `NoMemory`; the book is then as it was, but the ports are filled.
+    ///
+    /// A refused change walks over the taken slots twice, or four times where memory ran out. An
+    /// accepted one walks over them three times.
+    pub fn apply<R: Wait>(
+        &mut self,
+        rt: &R,
+        board: &Board<Identity>,
+        seat: &mut Seat<Identity>,
+        change: &Change,
+    ) -> Result<Applied, Refusal>
+        requires board { (board.now ≡ N.board) × (seat.old.board ≡ N.board) }
+        requires signs { seat.old.author.signs ≡ true }
+        ensures applied { IsApplied change.now self.new.slots.keeper.book seat.old seat.new result }
+        ensures grown { OnOk result
+            (self.new.slots.keeper.book ≡ grown self.old.slots.keeper.book (change.now ∷ [])) }
+        ensures same { OnErr result (self.new.slots.keeper.book ≡ self.old.slots.keeper.book) }
+        ensures openings { self.new.slots.openings ≡ self.old.slots.openings }
+        ensures seats { self.new.seats ≡ self.old.seats }
+        ensures served { SlotsAre IsServed self.new.slots.subscriptions
+            self.new.slots.keeper.slots }
+        ensures number { IfOk result (λ a.
+            a.change ≡ length self.old.slots.keeper.book.changes + 1) }
+    {
+        // The keeper of a slot's seat first learns how often it has asked. Another seat meets the
+        // keeper with its change, or once it is refused.
+        self.meet_slot(board, seat);
+        match add(board, &mut self.slots, &mut self.volume, seat, change) {
+            Ok(applied) => {
+                commit_all(rt, &mut self.slots, change);
+                Ok(applied)
+            }
+            Err(refusal) => {
+                self.meet(board, seat);
+                serve_all(rt, board, &mut self.slots, self.volume.changes());
+                Err(refusal)
+            }
+        }
+    }
+}
+
+// Makes a change: first everything that takes memory, then the point of the change. No message is
+// held yet.
+fn add(
+    board: &Board<Identity>,
+    slots: &mut ServerSlots,
+    volume: &mut Volume,
+    seat: &mut Seat<Identity>,
+    change: &Change,
+) -> Result<Applied, Refusal>
+    requires board { (slots.old.keeper.board ≡ board.now) × (seat.old.board ≡ board.now) }
+    requires signs { seat.old.author.signs ≡ true }
+    requires known { 0 < seat.old.slot
+        → seat.old.asks ≤ (slot_at slots.old.keeper.slots seat.old.slot).asks }
+    requires stands { IsConsistentWith slots.old volume.old }
+    ensures made { IsChangeMade change.now result volume.old volume.new
+        slots.old.keeper.book slots.new.keeper.book seat.old seat.new }
+    ensures lawful { OnOk result (refused volume.old change.now ≡ None) }
+    ensures ready { OnOk result (AllReady slots.new.subscriptions
+        (state_of slots.old.keeper.book) change.now) }
+    ensures noticed { OnOk result
+        (SlotsAre IsNoticed slots.new.subscriptions slots.new.keeper.slots) }
+    ensures counts { KeepsCounts slots.old slots.new }
+    ensures volume { volume.new ≡ state_of slots.new.keeper.book }
+    ensures full { IsFullBook slots.new.keeper.book }
+    ensures holding { AreConsistent slots.new slots.old.keeper.book }
+{
+    prepare(board, slots, volume, change)?;
+    let applied = volume.make(change)?;
+    // For the proof: this call says that the seat's slot is one of 64, or 0.
+    let _ = seat.slot();
+    board.add_by(&mut slots.keeper, seat, change);
+    Ok(applied)
+}
+
+// Checks a change, and prepares its messages in the taken slots. Where no slot is taken it makes no
+// plan, which is a large value.
+fn prepare(
+    board: &Board<Identity>,
+    slots: &mut ServerSlots,
+    volume: &Volume,
+    change: &Change,
+) -> Result<(), Refusal>
+    requires board { slots.old.keeper.board ≡ board.now }
+    requires stands { IsConsistentWith slots.old volume.now }
+    ensures { IsPrepared volume.now change.now result slots.old slots.new }
+{
+    if slots.subscriptions.taken().is_empty() {
+        volume.check(change)?;
+        return Ok(());
+    }
+    prepare_taken(board, slots, volume, change)
+}
+
+// As `prepare`, by a plan.
+#[inline(never)]
+fn prepare_taken(
+    board: &Board<Identity>,
+    slots: &mut ServerSlots,
+    volume: &Volume,
+    change: &Change,
+) -> Result<(), Refusal>
+    requires board { slots.old.keeper.board ≡ board.now }
+    requires stands { IsConsistentWith slots.old volume.now }
+    ensures { IsPrepared volume.now change.now result slots.old slots.new }
+{
+    let planned = volume.plan(change)?;
+    ready_all(board, slots, &planned)
+}

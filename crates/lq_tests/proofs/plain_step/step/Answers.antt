@@ -1,0 +1,45 @@
+use Rattle.std.proofs.Common.{◌≡◌, ◌+◌, ◌≤◌, ℕ, List, [], ◌∷◌, length, suc, refl, ap, ◌∙◌, arith}
+use Rattle.lq_value.specs.declared.entry.Entry.{Entry}
+use Rattle.lq_volume.specs.Change.{after}
+use Rattle.lq_update.specs.declared.message.Opcode.{Opcode}
+use Rattle.lq_update.specs.Diff.{diff}
+use Rattle.lq_update.specs.Updates.{numbered}
+use Rattle.lq_tests.proofs.plain_step.step.Goals as goal
+use Rattle.lq_tests.proofs.plain_step.step.Goals.{In_ok-differences}
+
+length-numbered : (seq number : ℕ) (xs : List (Opcode × Entry))
+    → length (numbered seq number xs) ≡ length xs
+length-numbered seq number [] = refl
+length-numbered seq number (x ∷ xs) = ap suc (length-numbered (seq + 1) number xs)
+
+-- what is told is the difference of the two results
+told-diff : (c : In_ok-differences) → c.in_ok-differences.differences.items ≡ diff c.args.predicate.now c.args.moved
+    c.args.before.now (after c.args.before.now c.args.change.now)
+told-diff c =
+    c.in_ok-differences.ensures.value ∙ rw (
+      c.deref.ensures.value,
+      c.deref-2.ensures.value,
+      c.in_ok-old.ensures.entries,
+      c.in_ok-new.ensures.entries,
+    ) refl
+
+pub number_all-requires-clause-few : goal.number_all-requires-clause-few
+number_all-requires-clause-few c =
+    let few = c.steps_are_few.ensures c.args.predicate.now c.args.moved c.args.before.now
+    c.args.change.now c.args.first_seq c.changes-number.ensures.volume c.requires.lawful in
+    rw (told-diff c) (rw length-numbered at few)
+
+pub returns-clause-messages : goal.returns-clause-messages
+returns-clause-messages c = c.in_ok-number_all.ensures.messages ∙ rw
+    (told-diff (goal.at.returns-clause-messages c).In_ok-differences, c.changes-number.ensures.number) refl
+
+pub returns-clause-few : goal.returns-clause-few
+returns-clause-few c =
+    let few = c.steps_are_few.ensures c.args.predicate.now c.args.moved c.args.before.now
+    c.args.change.now c.args.first_seq c.changes-number.ensures.volume c.requires.lawful in
+    let all : length c.in_ok-number_all.field-0.items ≤ 3 = rw (
+      c.in_ok-number_all.ensures.messages,
+      told-diff (goal.at.returns-clause-few c).In_ok-differences,
+      c.changes-number.ensures.number,
+    ) few in
+    omega (arith, c.in_ok-number_all.field-0.ok)
