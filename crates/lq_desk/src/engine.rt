@@ -1,4 +1,5 @@
-//! The code of a desk: the volume with the 64 slots, and what each event and each turn does to them.
+//! The code of a desk: the volume with the 64 slots, and what each event and each turn does to
+//! them.
 //!
 //! An engine knows no book and no world: `desk` ties it to the world that contracts speak of.
 ghost use Rattle.std.specs.Prelude.{◌≡◌, ◌+◌, None, IfOk, OnOk, OnErr, replicate};

@@ -5,9 +5,9 @@
 //! is faulty, `specs/Canonical` writes a query, `specs/Truth` says when it is true of a row, and
 //! `specs/PredicateLimits` when it is a predicate. `specs/Lexing`, `Machine` and `MachineReading`
 //! say how a token and a reading are found, for the law `machine_reads` and for functions of this
-//! crate and of lq_predicate. Nothing here waits, and asking takes no memory. Tests: `predicates` of
-//! lq_core_tests, through lq_predicate. Begin with `token`, then `laws`, then `tree` and `row`, then
-//! `tree/truth`, `text_sink` and `write_comparison`.
+//! crate and of lq_predicate. Nothing here waits, and asking takes no memory. Tests: `predicates`
+//! of lq_core_tests, through lq_predicate. Begin with `token`, then `laws`, then `tree` and `row`,
+//! then `tree/truth`, `text_sink` and `write_comparison`.
 #![tactic(auto)]
 
 mod count;

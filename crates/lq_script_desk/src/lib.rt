@@ -2,10 +2,10 @@
 //!
 //! Contracts see a response as what it says (`specs/Response`), and its text as serde_json's
 //! compact text of its data (`specs/Reply`), with LF. The code makes no such data: it appends the
-//! text piece by piece (`pieces`, `quoted_text`) to a buffer (`specs/Front`). They see a session as its
-//! desk's world and the result read from each slot (`specs/Folds`), and a script's output as the
-//! texts of that world's answers to its lines (`specs/Script`). `specs/History` ties the lines to
-//! the headline. `output` holds replies until they are written (`specs/Writes`). Nothing here
+//! text piece by piece (`pieces`, `quoted_text`) to a buffer (`specs/Front`). They see a session as
+//! its desk's world and the result read from each slot (`specs/Folds`), and a script's output as
+//! the texts of that world's answers to its lines (`specs/Script`). `specs/History` ties the lines
+//! to the headline. `output` holds replies until they are written (`specs/Writes`). Nothing here
 //! waits. Tests: `plain_reply` and `replies` of lq_core_tests, and the scenarios. Begin with
 //! `response` and `reply_text`, then `session` and `script`.
 #![tactic(auto)]
