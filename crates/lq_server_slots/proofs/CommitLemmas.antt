@@ -12,8 +12,9 @@ use Rattle.lq_server_slots.specs.declared.subscription.Subscription.{Subscriptio
 use Rattle.lq_server_slots.specs.Marking.{hung_mark}
 use Rattle.lq_server_slots.specs.Standing.{IsConsistentAt, IsReady, SameButHeld, SameButPuts, CannotPut}
 use Rattle.lq_server_slots.specs.Slots.{before_of, IsNoticed, IsServed, Serves}
-use Rattle.lq_server_slots.proofs.SlotLemmas.{counted_here, IsToFill, to_fill_then, taken_filled}
+use Rattle.lq_server_slots.proofs.SlotLemmas.{IsToFill, to_fill_then, taken_filled}
 use Rattle.lq_server_slots.specs.Changing.{MayCommit}
+use Rattle.lq_server_slots.proofs.TableLemmas.{counted_here}
 
 -- a subscription has made few messages
 pub few_sent : (s : Subscription) (book : Book) → IsConsistentAt s book

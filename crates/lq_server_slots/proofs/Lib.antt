@@ -9,6 +9,7 @@ pub mod PutLemmas
 pub mod EndLemmas
 pub mod ReadLemmas
 pub mod SlotLemmas
+pub mod TableLemmas
 pub mod TakenLemmas
 pub mod CommitLemmas
 pub mod SyncLemmas

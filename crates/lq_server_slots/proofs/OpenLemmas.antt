@@ -33,8 +33,8 @@ use Rattle.lq_server_slots.specs.Opening.{IsNewSubscription, IsOpeningAnswer, si
 use Rattle.lq_server_slots.specs.Hold.{LockHold}
 use Rattle.lq_server_slots.specs.Noted.{IsOpenedOver}
 use Rattle.lq_server_slots.proofs.StateLemmas.{IsState}
-use Rattle.lq_server_slots.proofs.SlotLemmas.{counted_here, only_set, slots_set}
 use Rattle.lq_desk_sub.specs.SlotTable.{first_free}
+use Rattle.lq_server_slots.proofs.TableLemmas.{counted_here, only_set, slots_set}
 
 -- a subscription that was just made, and the end that reads
 pub begun_new : NewSubscriptionsStand → (s : Subscription) (r : ReadingHold) (book : Book)

@@ -22,9 +22,10 @@ use Rattle.lq_server_slots.specs.Standing.{IsConsistentAt, IsDrained, IsSeen, Ca
 use Rattle.lq_server_slots.specs.Slots.{IsTakenSlot, SlotStands, IsSlotMet, KeepsBook, asks_of, OnlyAt, AreConsistent, slot_in, KeepsSlots, SameButKnown}
 use Rattle.lq_server_slots.specs.Opening.{IdentityFits, asks_after, name_or}
 use Rattle.lq_server_slots.proofs.EndLemmas.{told_now}
-use Rattle.lq_server_slots.proofs.SlotLemmas.{only_set, stuck_filled, slots_known, taken_at}
+use Rattle.lq_server_slots.proofs.SlotLemmas.{stuck_filled}
 use Rattle.lq_server_slots.specs.declared.slots.ServerSlots.{ServerSlots}
 use Rattle.lq_server_slots.proofs.TakenLemmas.{taken_out}
+use Rattle.lq_server_slots.proofs.TableLemmas.{only_set, slots_known, taken_at}
 
 -- the name that is there
 some_name : (o : Option Identity) → IsSome o → Some (name_or o) ≡ o

@@ -1,4 +1,4 @@
-//! The slots under the lock, and what is done in each of them outside a change.
+//! The slots under the lock, and the passes over them that end subscriptions and fill ports.
 ghost use Rattle.std.specs.Prelude.{◌≡◌, ◌+◌, ◌<◌, ◌≤◌, ℕ, length, IsSome, IfOk};
 ghost use Rattle.lq_value.specs.Refusal.{FailsOnlyForMemory};
 ghost use Rattle.lq_board.specs.Slot.{slot_at, counted};

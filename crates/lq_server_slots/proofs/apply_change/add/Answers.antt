@@ -1,7 +1,7 @@
 use Rattle.std.proofs.Common.{refl, arith, rules}
 use Rattle.std.proofs.lemmas.Grind.{common_steps}
-use Rattle.lq_server_slots.proofs.SlotLemmas.{slots_alike}
 use Rattle.lq_server_slots.proofs.SyncLemmas.{slots_added}
+use Rattle.lq_server_slots.proofs.TableLemmas.{slots_alike}
 use Rattle.lq_server_slots.proofs.apply_change.add.Goals as goal
 
 pub returns-clause-made : goal.returns-clause-made

@@ -1,8 +1,8 @@
 use Rattle.lq_server_slots.specs.Slots.{IsNoticed, IsReadyAt, SlotIs}
-use Rattle.std.proofs.Common.{arith, rules, true, ◌+◌}
+use Rattle.std.proofs.Common.{arith, rules, ◌+◌}
 use Rattle.lq_server_slots.proofs.TakenLemmas.{outside_taken}
 use Rattle.lq_board.specs.Slot.{slot_at}
-use Rattle.lq_server_slots.proofs.SlotLemmas.{slots_stay}
+use Rattle.lq_server_slots.proofs.TableLemmas.{slots_stay}
 use Rattle.lq_server_slots.proofs.apply_change.prepare.Goals as goal
 
 pub returns-then-is_empty : goal.returns-then-is_empty

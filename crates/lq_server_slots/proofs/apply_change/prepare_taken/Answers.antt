@@ -1,5 +1,5 @@
 use Rattle.std.proofs.Common.{rules, arith}
-use Rattle.lq_server_slots.proofs.SlotLemmas.{slots_stay}
+use Rattle.lq_server_slots.proofs.TableLemmas.{slots_stay}
 use Rattle.lq_server_slots.proofs.apply_change.prepare_taken.Goals as goal
 
 pub returns : goal.returns

@@ -1,7 +1,7 @@
 use Rattle.lq_server_slots.proofs.TakenLemmas.{all_prepared, noticed_at}
-use Rattle.std.proofs.Common.{false, refl, arith, rules}
+use Rattle.std.proofs.Common.{refl, arith, rules}
 use Rattle.lq_server_slots.proofs.CommitLemmas.{few_sent}
-use Rattle.lq_server_slots.proofs.SlotLemmas.{slots_kept-on}
+use Rattle.lq_server_slots.proofs.TableLemmas.{slots_kept-on}
 use Rattle.lq_server_slots.proofs.change_passes.ready_all.Goals as goal
 
 pub notice_all-requires-clause-number : goal.notice_all-requires-clause-number

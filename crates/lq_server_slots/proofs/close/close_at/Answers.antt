@@ -1,6 +1,6 @@
 use Rattle.std.proofs.Common.{arith, rules, sym, ◌∙◌}
 use Rattle.lq_server_slots.proofs.SyncLemmas.{keeps_then, kept_known, seat_named, taken_closed}
-use Rattle.lq_server_slots.proofs.SlotLemmas.{slots_kept-taken, taken_at}
+use Rattle.lq_server_slots.proofs.TableLemmas.{slots_kept-taken, taken_at}
 use Rattle.lq_server_slots.proofs.close.close_at.Goals as goal
 
 pub notice_slot-requires-clause-taken : goal.notice_slot-requires-clause-taken

@@ -4,9 +4,9 @@ use Rattle.lq_server_slots.specs.declared.subscription.Subscription.{Subscriptio
 use Rattle.lq_server_slots.proofs.TakenLemmas.{asks_rise, outside_taken}
 use Rattle.lq_server_slots.proofs.CommitLemmas.{counted_more}
 use mathlib.Core.Logic.{dite}
-use Rattle.lq_server_slots.proofs.SlotLemmas.{place_cases, slots_kept-taken, slots_stay, taken_at}
 use Rattle.lq_board.specs.Slot.{slot_at}
 use native.Mathlib.Decide.{ℕ_discrete}
+use Rattle.lq_server_slots.proofs.TableLemmas.{place_cases, slots_kept-taken, slots_stay, taken_at}
 use Rattle.lq_server_slots.proofs.slots.notice_all.Goals as goal
 
 pub loop-index-init : goal.loop-index-init

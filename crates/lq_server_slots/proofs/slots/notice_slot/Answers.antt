@@ -1,7 +1,8 @@
 use Rattle.std.proofs.Common.{arith, rules}
 use Rattle.std.proofs.lemmas.Bool.{lt-ltb, ltb-true}
-use Rattle.lq_server_slots.proofs.SlotLemmas.{taken_noticed, counted_here, only_set}
+use Rattle.lq_server_slots.proofs.SlotLemmas.{taken_noticed}
 use Rattle.lq_server_slots.proofs.CommitLemmas.{noticed_then}
+use Rattle.lq_server_slots.proofs.TableLemmas.{counted_here, only_set}
 use Rattle.lq_server_slots.proofs.slots.notice_slot.Goals as goal
 
 pub returns-clause-keeper : goal.returns-clause-keeper

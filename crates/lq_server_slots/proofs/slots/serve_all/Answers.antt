@@ -1,7 +1,7 @@
 use Rattle.lq_server_slots.proofs.slots.serve_all.Given.{Over}
 use Rattle.lq_server_slots.specs.Slots.{AreConsistent, IsServed, SlotsAre}
 use Rattle.lq_server_slots.proofs.TakenLemmas.{all_served, noticed_at}
-use Rattle.lq_server_slots.proofs.SlotLemmas.{slots_kept-on}
+use Rattle.lq_server_slots.proofs.TableLemmas.{slots_kept-on}
 use Rattle.lq_server_slots.proofs.slots.serve_all.Goals as goal
 
 pub visit-requires : goal.visit-requires

@@ -1,9 +1,10 @@
 use Rattle.lq_server_slots.specs.declared.identity.Identity.{Identity}
 use Rattle.lq_board.specs.Token.{SeatToken}
 use Rattle.std.proofs.Common.{ap, arith, rules, sym, ◌∙◌}
-use Rattle.lq_server_slots.proofs.SlotLemmas.{identity_alike, identity_others, slots_kept-taken, taken_at}
+use Rattle.lq_server_slots.proofs.SlotLemmas.{identity_alike, identity_others}
 use Rattle.lq_server_slots.proofs.SyncLemmas.{keeps_then, kept_known, same_port, seat_named, taken_shown}
 use Rattle.lq_board.specs.Slot.{slot_at}
+use Rattle.lq_server_slots.proofs.TableLemmas.{slots_kept-taken, taken_at}
 use Rattle.lq_server_slots.proofs.sync.sync_at.Goals as goal
 
 pub notice_slot-requires-clause-taken : goal.notice_slot-requires-clause-taken

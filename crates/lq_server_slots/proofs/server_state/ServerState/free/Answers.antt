@@ -2,11 +2,11 @@ use Rattle.std.proofs.Common.{None, refl, subst, arith, rules, ◌∙◌, ◌+�
 use Rattle.std.specs.Prelude.{IsSome}
 use Rattle.lq_server_slots.specs.Hold.{LockHold}
 use Rattle.lq_server_slots.specs.Slots.{slot_in}
-use Rattle.lq_server_slots.proofs.SlotLemmas.{in_here, in_else, slots_kept-step, slots_stay}
 use Rattle.lq_server_slots.proofs.StateLemmas.{state_kept}
 use Rattle.lq_server_slots.proofs.SyncLemmas.{seat_joined, joined_asks}
 use Rattle.lq_server_slots.proofs.TakenLemmas.{taken_out}
 use Rattle.lq_board.specs.Slot.{slot_at}
+use Rattle.lq_server_slots.proofs.TableLemmas.{in_else, in_here, slots_kept-step, slots_stay}
 use Rattle.lq_server_slots.proofs.server_state.ServerState.free.Goals as goal
 
 pub invariant_of-self : goal.invariant_of-self

@@ -1,4 +1,4 @@
-use Rattle.lq_server_slots.proofs.SlotLemmas.{slots_free}
+use Rattle.lq_server_slots.proofs.TableLemmas.{slots_free}
 use Rattle.lq_server_slots.proofs.slots.ServerSlots.new.Goals as goal
 
 pub returns-clause-holding : goal.returns-clause-holding
