@@ -39,9 +39,9 @@ replies_text (reply ∷ replies) = reply_text reply ++ replies_text replies
 -- ---- the changes of a book
 
 -- these are all changes of the book, each once, in their order: 1, 2, 3 and so on
-pub record AreAllChanges (book : Book) (told : List Applied) : Type 0 where
-  pub in_order : map (λ a. a.change) told ≡ numbers (length book.changes)
-  pub each : AllByRecursion (IsChangeOf book) told
+pub record AreAllChanges (book : Book) (reported : List Applied) : Type 0 where
+  pub in_order : map (λ a. a.change) reported ≡ numbers (length book.changes)
+  pub each : AllByRecursion (IsChangeOf book) reported
 
 -- ---- a whole run
 

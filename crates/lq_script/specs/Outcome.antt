@@ -19,11 +19,11 @@ pub record Transcript (R W F : Type 0) : Type 0 where
   pub faults' : F
   pub read : ReaderLog
   pub wrote : WriterLog
-  pub told : WriterLog
+  pub reported : WriterLog
 
 abbrev pub transcript_of : {R W F : Type 0} → R → R → W → W → F → F
     → ReaderLog → WriterLog → WriterLog → Transcript R W F
-transcript_of reader reader' writer writer' faults faults' read wrote told = record {
+transcript_of reader reader' writer writer' faults faults' read wrote reported = record {
   reader = reader;
   reader' = reader';
   writer = writer;
@@ -32,12 +32,12 @@ transcript_of reader reader' writer writer' faults faults' read wrote told = rec
   faults' = faults';
   read = read;
   wrote = wrote;
-  told = told;
+  reported = reported;
 }
 
 -- a line went to standard error
 abbrev pub TellsLine : {R W F : Type 0} → Transcript R W F → List ℕ → Type 0
-TellsLine t line = WritesOrFails line t.told.written t.told.written' t.told.failed t.told.stalled
+TellsLine t line = WritesOrFails line t.reported.written t.reported.written' t.reported.failed t.reported.stalled
 
 -- a fault went there, and the streams are as this fault says
 pub record TellsFault {R W F : Type 0} (t : Transcript R W F) : Type 0 where

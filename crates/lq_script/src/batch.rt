@@ -28,7 +28,7 @@ pub struct SlotReads<'a, N: Named, G> {
     slot: SlotIndex,
     reads: usize,
     answers: Vec<Read>,
-    told: usize,
+    answered: usize,
 }
 
 impl<'a, N: Named, G: Gate> Task for SlotReads<'a, N, G> {
@@ -55,12 +55,12 @@ impl<'a, N: Named, G> SlotReads<'a, N, G> {
     fn next(&mut self) -> Result<Response, Refusal>
         ensures none { IfOk result (λ r. change_told (response_of r) ≡ []) }
     {
-        let told = self.told;
-        let Some(place) = self.answers.get_mut(told) else {
+        let answered = self.answered;
+        let Some(place) = self.answers.get_mut(answered) else {
             return Err(Refusal::NoMemory);
         };
         let answer = mem::replace(place, Read::Ended);
-        self.told = told + 1;
+        self.answered = answered + 1;
         Ok(Response::Reply {
             slot: self.slot.number(),
             reply: Reply::Took(answer),
@@ -97,9 +97,9 @@ pub fn read_beside<
     sends::<OwnReader<N>>();
     sends::<Read>();
     let mut batch = workers.do_all(batch)?;
-    let told = put_replies(&mut batch, slots, out);
+    let put = put_replies(&mut batch, slots, out);
     put_back(batch, readers);
-    told
+    put
 }
 
 // Puts the readers of a batch back in their places.
@@ -177,7 +177,7 @@ fn batch_of<'a, N: Named, G: Gate>(
             slot,
             reads,
             answers: Vec::with_capacity(alloc, reads)?,
-            told: 0,
+            answered: 0,
         })?;
     }
     Ok(batch)

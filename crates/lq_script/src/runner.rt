@@ -177,9 +177,9 @@ impl<
         if self.slots.is_empty() {
             return Ok(());
         }
-        let told = self.session.read(&self.slots, &mut self.output.replies);
+        let appended = self.session.read(&self.slots, &mut self.output.replies);
         self.slots.clear();
-        if told.is_err() {
+        if appended.is_err() {
             return Err(RunFault::Memory);
         }
         self.output.write_replies()

@@ -16,7 +16,7 @@ use Rattle.lq_server_slots.specs.declared.delivery.Delivery.{Delivery}
 use Rattle.lq_server_slots.specs.declared.delivery.Opening.{Opening}
 use Rattle.lq_server_slots.specs.declared.identity.FirstClose.{FirstClose}
 use Rattle.lq_server_slots.specs.declared.identity.Identity.{Identity}
-use Rattle.lq_server_slots.specs.declared.identity.Told.{Told}
+use Rattle.lq_server_slots.specs.declared.identity.LastReport.{LastReport}
 use Rattle.lq_server_slots.specs.declared.subscription.Subscription.{Subscription}
 use Rattle.lq_server_slots.specs.declared.sync.Progress.{Progress}
 use Rattle.lq_server_slots.specs.Updates.{updates}
@@ -24,7 +24,7 @@ use Rattle.lq_server_slots.specs.Rule.{query_of, message_of, mark_or, messages_i
 use Rattle.lq_server_slots.specs.LegalList.{known_by}
 use Rattle.lq_server_slots.specs.Identity.{identity_of}
 use Rattle.lq_server_slots.specs.Reading.{ReadingHold, known_book, received, ready, mark_read, is_marked, what_of, IsTold}
-use Rattle.lq_server_slots.specs.Standing.{messages_given, upto, moved_mark, IsOut, FirstCloseFits, IsOverrun, StaysTrue, seen_of, told_by}
+use Rattle.lq_server_slots.specs.Standing.{messages_given, upto, moved_mark, IsOut, FirstCloseFits, IsOverrun, StaysTrue, seen_of, report_of}
 use Rattle.lq_server_slots.specs.Opening.{IdentityFits, asks_after, name_or}
 use Rattle.lq_server_slots.specs.Progress.{ShowsProgress}
 use Rattle.lq_server_slots.specs.Own.{IsOwn}
@@ -39,13 +39,13 @@ name_of_own : (r : ReaderHold) (t : Identity) (e : End Delivery Opening) → IsO
     → IdentityFits t e × (r.seat.asks ≡ asks_after t.asks r.hang_up_asked)
 name_of_own r t e own name port = grind arith
 
--- a reader stays own, whatever its seat's name says of what was told and of a close
-pub own_renamed : (r : ReaderHold) (seat : SeatToken Identity) (reading : ReadingHold) (told : Told)
+-- a reader stays own, whatever its seat's name says of what was last reported and of a close
+pub own_renamed : (r : ReaderHold) (seat : SeatToken Identity) (reading : ReadingHold) (last_report : LastReport)
     (first_close : FirstClose) → IsOwn r → IsSamePort r.reading.port reading.port
     → seat ≡ record r.seat { book = seat.book; name = seat.name }
-    → seat.name ≡ Some (record (name_or r.seat.name) { told = told; first_close = first_close })
+    → seat.name ≡ Some (record (name_or r.seat.name) { last_report = last_report; first_close = first_close })
     → IsOwn (record r { reading = reading; seat = seat })
-own_renamed r seat reading told first_close own port same name = grind arith
+own_renamed r seat reading last_report first_close own port same name = grind arith
 
 -- one parcel that waits, and the others
 one_waits : (qs : List Delivery) (w : Parcel) → (IsSome (mark_or w None) → qs ≡ [])
@@ -252,7 +252,7 @@ module _ (s : Subscription) (old : ReaderHold) (seat : SeatToken Identity) (read
   synced n is =
       let name : seat.name
       ≡ Some (record (name_or old.seat.name) {
-        told = told_by (length seat.book.changes) (length e.taken) h.mark;
+        last_report = report_of (length seat.book.changes) (length e.taken) h.mark;
       }) =
       grind arith in
       let read_same : mark_read reading ≡ mark_read old.reading = ap mark_in lv.taken in
@@ -275,7 +275,7 @@ module _ (s : Subscription) (old : ReaderHold) (seat : SeatToken Identity) (read
         received_stays = received_same;
         seat = lv.seat;
         name = name;
-        still = at_name (λ t. StaysTrue t.told h.mark (length seat.book.changes)) lv.stands.still;
+        still = at_name (λ t. StaysTrue t.last_report h.mark (length seat.book.changes)) lv.stands.still;
         later = lv.later;
         knows = knows;
         lawful = lv.stands.full;
@@ -305,6 +305,6 @@ module _ (s : Subscription) (old : ReaderHold) (seat : SeatToken Identity) (read
             at_name (λ t. FirstCloseFits t.first_close h.mark) lv.stands.first_close;
         overrun = at_name (λ t. IfSome h.mark (λ k.
             k.cause ≡ Overrun
-            → IsOverrun t.query t.moved t.opened t.places t.backlog (seen_of t.told) seat.book
+            → IsOverrun t.query t.moved t.opened t.places t.backlog (seen_of t.last_report) seat.book
             k.change)) lv.stands.overrun;
       })

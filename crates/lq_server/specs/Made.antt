@@ -14,10 +14,10 @@ abbrev pub state_before : Book → ℕ → State
 state_before book n = after_all book.start (take (n - 1) book.changes)
 
 -- the book has a change of this number, and that change created or named this node
-pub record IsChangeOf (book : Book) (told : Applied) : Type 0 where
+pub record IsChangeOf (book : Book) (applied : Applied) : Type 0 where
   pub change : Change
-  pub place : slice_get book.changes (told.change - 1) ≡ Some change
-  pub node : told.node ≡ node_of (state_before book told.change) change
+  pub place : slice_get book.changes (applied.change - 1) ≡ Some change
+  pub node : applied.node ≡ node_of (state_before book applied.change) change
 
 -- A seat made these changes more, in this order, and no others. The book that it then knows has
 -- them.

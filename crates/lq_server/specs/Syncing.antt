@@ -17,7 +17,7 @@ use Rattle.lq_server_slots.specs.Marking.{hung_mark}
 use Rattle.lq_desk_sub.specs.declared.read.Read.{Read}
 use Rattle.lq_desk_sub.specs.declared.read.Read.TheVariants.{Empty, Ended}
 use Rattle.lq_server_slots.specs.Reading.{known_book, received, ready, mark_read, is_marked, Gives, Fails}
-use Rattle.lq_server_slots.specs.Standing.{upto, FirstCloseFits, IsOverrun, StaysTrue, seen_of, told_by}
+use Rattle.lq_server_slots.specs.Standing.{upto, FirstCloseFits, IsOverrun, StaysTrue, seen_of, report_of}
 use Rattle.lq_server_slots.specs.Opening.{name_or}
 use Rattle.lq_server_slots.specs.Own.{IsOwn}
 use Rattle.lq_server_slots.specs.Hold.{ReaderHold}
@@ -65,9 +65,9 @@ pub record IsSynced (old new : ReaderHold) (x : Synced) : Type 0 where
   -- the seat's name says what is told, and what was told before is still so
   pub name : new.seat.name
       ≡ Some (record (name_or old.seat.name) {
-        told = told_by x.change (length new.reading.port.taken) x.mark;
+        last_report = report_of x.change (length new.reading.port.taken) x.mark;
       })
-  pub still : IsSomeAnd old.seat.name (λ t. StaysTrue t.told x.mark x.change)
+  pub still : IsSomeAnd old.seat.name (λ t. StaysTrue t.last_report x.mark x.change)
   pub later : Extends new.seat.book old.seat.book
   pub knows : Extends new.seat.book (known_book old.reading)
   pub lawful : IsFullBook new.seat.book
@@ -87,7 +87,7 @@ pub record IsSynced (old new : ReaderHold) (x : Synced) : Type 0 where
   pub first_close : IsSomeAnd old.seat.name (λ t. FirstCloseFits t.first_close x.mark)
   pub overrun : IsSomeAnd old.seat.name (λ t. IfSome x.mark (λ k.
       k.cause ≡ Overrun
-      → IsOverrun t.query t.moved t.opened t.places t.backlog (seen_of t.told) new.seat.book
+      → IsOverrun t.query t.moved t.opened t.places t.backlog (seen_of t.last_report) new.seat.book
       k.change))
 
 -- the mark is in the port where it was put and wasn't read

@@ -10,7 +10,7 @@ use Rattle.lq_board.specs.Slot.{slot_at, counted}
 use Rattle.lq_server_slots.specs.declared.identity.Identity.{Identity}
 use Rattle.lq_server_slots.specs.declared.subscription.Subscription.{Subscription}
 use Rattle.lq_server_slots.specs.Marking.{hung_mark}
-use Rattle.lq_server_slots.specs.Standing.{IsConsistentAt, IsReady, SameButHeld, SameButPuts, CannotPut}
+use Rattle.lq_server_slots.specs.Standing.{IsConsistentAt, HasPrepared, SameButHeld, SameButPuts, CannotPut}
 use Rattle.lq_server_slots.specs.Slots.{before_of, IsNoticed, IsServed, Serves}
 use Rattle.lq_server_slots.proofs.SlotLemmas.{IsToFill, to_fill_then, taken_filled}
 use Rattle.lq_server_slots.specs.Changing.{MayCommit}
@@ -34,14 +34,14 @@ served_filled s t p noticed alike stuck = grind arith
 -- a change was committed in a taken slot, whose port is still to be filled
 pub committed : (c : Change) (s t : Subscription) (p : KnownSlot Identity) (book : Book)
     → MayCommit c s p book
-    → (IsConsistentAt s (before_of book) → IsReady s.sub (state_of (before_of book)) c
+    → (IsConsistentAt s (before_of book) → HasPrepared s.sub (state_of (before_of book)) c
     → IsLawful (state_of (before_of book)) c → IsFullBook (grown (before_of book) (c ∷ []))
     → IsConsistentAt t (grown (before_of book) (c ∷ [])))
     → SameButHeld s t → t.first_close ≡ s.first_close
     → (hung_mark t.sub.held.mark → hung_mark s.sub.held.mark) → IsToFill t p book
 committed c s t p book may stands others first_close hung =
     let grown = may.grown in
-    let t_stands = stands may.stood.taken.stands may.ready grown.lawful
+    let t_stands = stands may.stood.taken.stands may.prepared grown.lawful
     (subst IsFullBook grown.book grown.full) in
     to_fill_then s t p (before_of book) book may.stood.taken
     (subst (IsConsistentAt t) (sym grown.book) t_stands) others first_close hung

@@ -19,12 +19,12 @@ use Rattle.lq_server_slots.specs.declared.delivery.Delivery.{Delivery}
 use Rattle.lq_server_slots.specs.declared.delivery.Opening.{Opening}
 use Rattle.lq_server_slots.specs.declared.identity.FirstClose.{FirstClose}
 use Rattle.lq_server_slots.specs.declared.identity.FirstClose.TheVariants.{Never}
-use Rattle.lq_server_slots.specs.declared.identity.Told.{Told}
-use Rattle.lq_server_slots.specs.declared.identity.Told.TheVariants.{Live}
+use Rattle.lq_server_slots.specs.declared.identity.LastReport.{LastReport}
+use Rattle.lq_server_slots.specs.declared.identity.LastReport.TheVariants.{Live}
 use Rattle.lq_server_slots.specs.Updates.{updates}
 use Rattle.lq_server_slots.specs.Rule.{floor_of, query_of, messages_in}
 use Rattle.lq_server_slots.specs.LegalList.{known_by}
-use Rattle.lq_server_slots.specs.Standing.{messages_given, Stands, IsOverrun, IsReady, seen_of, told_by}
+use Rattle.lq_server_slots.specs.Standing.{messages_given, Stands, IsOverrun, HasPrepared, seen_of, report_of}
 use Rattle.lq_server_slots.proofs.Books.{extends_self, extends_trans, extends_length}
 use Rattle.lq_server_slots.proofs.UpdateLemmas.{updates-add, updates-same, updates-none}
 
@@ -49,11 +49,11 @@ over_longer q mv o places backlog seen book book' e full p le over =
     let long = extends_length book book' p in
     grind arith
 
-module _ (h : Held) (e : End Delivery Opening) (places : ℕ) (told : Told)
-    (first_close : FirstClose) (book : Book) (s : Stands h e places told first_close book) where
+module _ (h : Held) (e : End Delivery Opening) (places : ℕ) (last_report : LastReport)
+    (first_close : FirstClose) (book : Book) (s : Stands h e places last_report first_close book) where
   -- an ended one stands over each longer book
   pub longer_marked : (book' : Book) (k : Mark) → Extends book' book → IsFullBook book'
-      → h.mark ≡ Some k → Stands h e places told first_close book'
+      → h.mark ≡ Some k → Stands h e places last_report first_close book'
   longer_marked book' k p full mark =
       let fits = rw mark at s.mark in
       let opened = rw mark at s.opened in
@@ -62,8 +62,8 @@ module _ (h : Held) (e : End Delivery Opening) (places : ℕ) (told : Told)
       let same =
       updates-same h.query h.moved book book' h.opened k.change s.full.first p opened fits.1 in
       let over : k.cause ≡ Overrun
-      → IsOverrun h.query h.moved h.opened places h.backlog (seen_of told) book' k.change =
-      λ c. over_longer h.query h.moved h.opened places h.backlog (seen_of told) book book' k.change
+      → IsOverrun h.query h.moved h.opened places h.backlog (seen_of last_report) book' k.change =
+      λ c. over_longer h.query h.moved h.opened places h.backlog (seen_of last_report) book book' k.change
       s.full p opened ((rw mark at s.overrun) c) in
       grind arith
 
@@ -78,9 +78,9 @@ module _ (h : Held) (e : End Delivery Opening) (places : ℕ) (told : Told)
 
     -- it ends by an overrun, in a book that goes on from this one
     overran : (book' : Book) → Extends book' book → IsFullBook book'
-        → IsOverrun h.query h.moved h.opened places h.backlog (seen_of told) book'
+        → IsOverrun h.query h.moved h.opened places h.backlog (seen_of last_report) book'
         (length book.changes)
-        → Stands (ended_by h Overrun (length book.changes)) e places told first_close book'
+        → Stands (ended_by h Overrun (length book.changes)) e places last_report first_close book'
     overran book' p full over =
         let long = extends_length book book' p in
         let later = extends_trans (known_by e.floor (all_put e)) book book' s.later p in
@@ -113,7 +113,7 @@ module _ (h : Held) (e : End Delivery Opening) (places : ℕ) (told : Told)
 
       -- with the change's updates held, the subscription stands over the longer book
       goes_on : length h.messages + length more ≤ h.backlog
-          → Stands (with_messages h more) e places told first_close book'
+          → Stands (with_messages h more) e places last_report first_close book'
       goes_on room =
           let later =
           extends_trans (known_by e.floor (all_put e)) book book' s.later (c ∷ [], refl) in
@@ -127,10 +127,10 @@ module _ (h : Held) (e : End Delivery Opening) (places : ℕ) (told : Told)
           grind arith
 
       module _ (filled : 0 < length h.messages
-          → places + seen_of told ≤ length (messages_in (all_put e))) where
+          → places + seen_of last_report ≤ length (messages_in (all_put e))) where
         -- more updates than the backlog takes are an overrun
         over_is : 0 < length more → h.backlog < length h.messages + length more
-            → IsOverrun h.query h.moved h.opened places h.backlog (seen_of told) book'
+            → IsOverrun h.query h.moved h.opened places h.backlog (seen_of last_report) book'
             (length book.changes)
         over_is some many =
             let front =
@@ -144,7 +144,7 @@ module _ (h : Held) (e : End Delivery Opening) (places : ℕ) (told : Told)
 
         -- the subscription stands after the change, by whether it overruns
         pub by_test : (b : Bool) → overruns h more ≡ b
-            → Stands (after_messages_by h more (length book.changes) b) e places told first_close
+            → Stands (after_messages_by h more (length book.changes) b) e places last_report first_close
             book'
         by_test true test =
             let t = overrun_test h more test in
@@ -173,28 +173,28 @@ pub none_there : (o : Option Mark) → is_none o ≡ true → o ≡ None
 none_there o e = grind arith
 
 -- the messages of a change are made
-pub ready_of : (s : State) (c : Change) (p q : Prepared) → q ≡ prepared_for s c p → IsReady q s c
-ready_of s c p q e = rw e (λ _. (refl, refl))
+pub prepared_of : (s : State) (c : Change) (p q : Prepared) → q ≡ prepared_for s c p → HasPrepared q s c
+prepared_of s c p q e = rw e (λ _. (refl, refl))
 
 -- a commit makes it stand over the book with the change
-pub committed_stands : (p q : Prepared) (e : End Delivery Opening) (places : ℕ) (told : Told)
+pub committed_stands : (p q : Prepared) (e : End Delivery Opening) (places : ℕ) (last_report : LastReport)
     (first_close : FirstClose) (book : Book) (c : Change) → p.held.mark ≡ None
     → q ≡ committed p → StepsAreFew
-    → (0 < length p.held.messages → places + seen_of told ≤ length (messages_in (all_put e)))
-    → Stands p.held e places told first_close book → IsReady p (state_of book) c
+    → (0 < length p.held.messages → places + seen_of last_report ≤ length (messages_in (all_put e)))
+    → Stands p.held e places last_report first_close book → HasPrepared p (state_of book) c
     → IsLawful (state_of book) c → IsFullBook (grown book (c ∷ []))
-    → Stands q.held e places told first_close (grown book (c ∷ []))
-committed_stands p q e places told first_close book c live is few filled s ready lawful full =
-    let r = ready live in
-    subst (λ (h : Held). Stands h e places told first_close (grown book (c ∷ [])))
+    → Stands q.held e places last_report first_close (grown book (c ∷ []))
+committed_stands p q e places last_report first_close book c live is few filled s prepared lawful full =
+    let r = prepared live in
+    subst (λ (h : Held). Stands h e places last_report first_close (grown book (c ∷ [])))
     (sym (ap (λ (z : Prepared). z.held) is
     ∙ (λ i. after_messages p.held (r.0 i) ((r.1 ∙ s.full.number) i))))
-    (by_test p.held e places told first_close book s live c full
+    (by_test p.held e places last_report first_close book s live c full
     (few p.held.query p.held.moved (state_of book) c (p.held.sent + 1) s.full.state lawful) filled
     (overruns p.held (step_of p.held.query p.held.moved (state_of book) c (p.held.sent + 1))) refl)
 
 -- a subscription stands on once its reader is told
-pub told_now : (h : Held) (e : End Delivery Opening) (places : ℕ) (told : Told)
-    (first_close : FirstClose) (book : Book) (seen : ℕ) → Stands h e places told first_close book
-    → Stands h e places (told_by (length book.changes) seen h.mark) first_close book
-told_now h e places told first_close book seen s = grind arith
+pub told_now : (h : Held) (e : End Delivery Opening) (places : ℕ) (last_report : LastReport)
+    (first_close : FirstClose) (book : Book) (seen : ℕ) → Stands h e places last_report first_close book
+    → Stands h e places (report_of (length book.changes) seen h.mark) first_close book
+told_now h e places last_report first_close book seen s = grind arith

@@ -19,7 +19,7 @@ use Rattle.lq_desk_world.specs.Events.{size_refusals, opening_refusals}
 use Rattle.lq_server_slots.specs.declared.delivery.Opening.{Opening}
 use Rattle.lq_server_slots.specs.declared.identity.Identity.{Identity}
 use Rattle.lq_server_slots.specs.declared.identity.FirstClose.TheVariants.{Never}
-use Rattle.lq_server_slots.specs.declared.identity.Told.TheVariants.{Live}
+use Rattle.lq_server_slots.specs.declared.identity.LastReport.TheVariants.{Live}
 use Rattle.lq_server_slots.specs.declared.subscription.Subscription.{Subscription}
 use Rattle.lq_server_slots.specs.Rule.{floor_of, query_of}
 use Rattle.lq_server_slots.specs.Identity.{identity_of}
@@ -40,16 +40,16 @@ use Rattle.lq_server_slots.proofs.TableLemmas.{counted_here, only_set, slots_set
 pub begun_new : NewSubscriptionsStand → (s : Subscription) (r : ReadingHold) (book : Book)
     (q : Query) (mv : Bool) (port backlog at : ℕ) (g : Opening)
     → s.sub.held ≡ opened_with q mv at backlog
-    → at ≡ length book.changes → s.places ≡ port → s.told.value ≡ Live at 0
+    → at ≡ length book.changes → s.places ≡ port → s.last_report.value ≡ Live at 0
     → s.first_close ≡ Never
     → s.input.places ≡ port → s.input.floor ≡ g → query_of g ≡ q → g.moved ≡ mv → g.opened ≡ at
     → floor_of g ≡ book → s.input.taken ≡ [] → s.input.ahead ≡ [] → IsFullBook book
     → r.port ≡ s.input → r.hand ≡ None → r.result ≡ opened_at at (result_of q (state_of book))
     → IsNewSubscription s r book q mv port backlog
-begun_new stand s r book q mv port backlog at g held number places told first_close ports opening_at
+begun_new stand s r book q mv port backlog at g held number places last_report first_close ports opening_at
     query moved opened floor taken ahead full end hand result =
     let stands : IsConsistentAt s book =
-    rw (held, told, first_close, number)
+    rw (held, last_report, first_close, number)
     (stand q mv backlog s.input s.places book taken ahead (rw opening_at floor)
     (rw opening_at query) (rw opening_at moved) (rw (opening_at, ← number) opened)
     (ports ∙ sym places) full) in
@@ -124,7 +124,7 @@ opening_fits full openings limit port backlog some high few free less = grind (a
 -- of a subscription that was just made nothing had been taken
 pub begun_seen : (s : Subscription) (r : ReadingHold) (book : Book) (q : Query) (mv : Bool)
     (port backlog : ℕ) → IsNewSubscription s r book q mv port backlog → IsSeen s
-begun_seen s r book q mv port backlog b = rw b.told (omega arith)
+begun_seen s r book q mv port backlog b = rw b.last_report (omega arith)
 
 -- ---- an answer of a slot, and that of the opening
 

@@ -12,7 +12,7 @@ use Rattle.lq_port.specs.End.{End, all_put, IsSamePort, Gains, AreBeside}
 use Rattle.lq_server_slots.specs.declared.delivery.Delivery.{Delivery}
 use Rattle.lq_server_slots.specs.declared.delivery.Opening.{Opening}
 use Rattle.lq_server_slots.specs.declared.identity.FirstClose.{FirstClose}
-use Rattle.lq_server_slots.specs.declared.identity.Told.{Told}
+use Rattle.lq_server_slots.specs.declared.identity.LastReport.{LastReport}
 use Rattle.lq_server_slots.specs.declared.subscription.Subscription.{Subscription}
 use Rattle.lq_server_slots.specs.Rule.{book_of, message_of, mark_or, messages_in, mark_in, IsMark, Tells, MayFollow}
 use Rattle.lq_server_slots.specs.LegalList.{known_by}
@@ -47,8 +47,8 @@ next_is : (h : Held) (p : Parcel) → next_parcel h ≡ Some p
     ⊎ ((k : Mark) × (p ≡ Fin k) × (h.messages ≡ []) × (h.mark ≡ Some k) × (h.mark_out ≡ false))
 next_is h p next = grind arith
 
-module _ (h : Held) (d : End Delivery Opening) (places : ℕ) (told : Told)
-    (first_close : FirstClose) (book : Book) (s : Stands h d places told first_close book) where
+module _ (h : Held) (d : End Delivery Opening) (places : ℕ) (last_report : LastReport)
+    (first_close : FirstClose) (book : Book) (s : Stands h d places last_report first_close book) where
   -- the mark's change is within the book
   upto_within : upto h.mark (length book.changes) ≤ length book.changes
   upto_within = grind arith
@@ -89,7 +89,7 @@ module _ (h : Held) (d : End Delivery Opening) (places : ℕ) (told : Told)
   pub may_put : (p : Parcel) (x : Delivery) → next_parcel h ≡ Some p → x.what ≡ p → book_of x ≡ book
       → MayFollow (all_put d) d.floor x
   may_put p x next is at =
-      let open_yet = unput p next in let told = tells p next in grind arith
+      let open_yet = unput p next in let open_next = tells p next in grind arith
 
   module _ (e : End Delivery Opening) (p : Parcel) (x : Delivery) (next : next_parcel h ≡ Some p)
       (is : x.what ≡ p) (at : book_of x ≡ book) (port : IsSamePort d e) (gains : Gains d x e) where
@@ -103,7 +103,7 @@ module _ (h : Held) (d : End Delivery Opening) (places : ℕ) (told : Told)
         rw (all_then, messages_in-snoc, is, append_assoc, parcel_then h p next)
 
     -- a parcel was put, and the list of what is put and held stays
-    put_stands : Stands (without_parcel h (Some p)) e places told first_close book
+    put_stands : Stands (without_parcel h (Some p)) e places last_report first_close book
     put_stands =
         let later : Extends book (known_by e.floor (all_put e)) =
         rw (all_then, last_book-snoc, at) (extends_self book) in
@@ -129,12 +129,12 @@ put_ok s sub e p x book stands next rest is at port gains =
     let held = rw next at rest in
     let same = same_held h p in
     let given =
-    given_then h s.input s.places s.told.value s.first_close book stands e p x next is at port
+    given_then h s.input s.places s.last_report.value s.first_close book stands e p x next is at port
     gains in
     let left = left_then h p next in
     record {
       stands = rw held
-          (put_stands h s.input s.places s.told.value s.first_close book stands e p x next is at
+          (put_stands h s.input s.places s.last_report.value s.first_close book stands e p x next is at
           port gains);
       alike = grind arith;
       less = rw held left;
@@ -143,11 +143,11 @@ put_ok s sub e p x book stands next rest is at port gains =
 -- ---- many parcels
 
 -- only what is known to be taken differs
-pub same_put : (h : Held) (d e : End Delivery Opening) (places : ℕ) (told : Told)
+pub same_put : (h : Held) (d e : End Delivery Opening) (places : ℕ) (last_report : LastReport)
     (first_close : FirstClose) (book : Book)
-    → IsSamePort d e → all_put e ≡ all_put d → Stands h d places told first_close book
-    → Stands h e places told first_close book
-same_put h d e places told first_close book port put s =
+    → IsSamePort d e → all_put e ≡ all_put d → Stands h d places last_report first_close book
+    → Stands h e places last_report first_close book
+same_put h d e places last_report first_close book port put s =
     let later : Extends book (known_by e.floor (all_put e)) = rw (port.2, put) s.later in
     grind arith
 
@@ -199,7 +199,7 @@ module _ (s t : Subscription) (c d e input : End Delivery Opening) (book : Book)
   looks =
       let all : all_put input ≡ all_put t.input = rw (ends.input.0, ends.input.1) ends.put in
       let stands : IsConsistentAt (record t { input = input }) book =
-      same_put t.sub.held t.input input t.places t.told.value t.first_close book ends.ports.1 all
+      same_put t.sub.held t.input input t.places t.last_report.value t.first_close book ends.ports.1 all
       at.stands in
       let later = prefix_trans c.ahead d.ahead e.ahead at.known ends.known in
       grind arith

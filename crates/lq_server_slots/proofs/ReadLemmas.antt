@@ -41,11 +41,11 @@ received_is r got all =
     rw all (take_at got o (length (got ++ o) - length o) (omega (arith, length-append got o)))
 
 -- what is so of a reading that has folded these messages
-told_by : (r : ReadingHold) (got : List Message) → LegalList r.port.floor r.port.taken
+is_told : (r : ReadingHold) (got : List Message) → LegalList r.port.floor r.port.taken
     → messages_in r.port.taken ≡ got ++ option_to_list r.hand
     → r.result ≡ folding_after_all (opening_of r.port.floor) got
     → (IsSome (mark_read r) → r.hand ≡ None) → IsTold r
-told_by r got list all folds no_hand =
+is_told r got list all folds no_hand =
     let is = received_is r got all in
     record { legal_list = list; all = rw is all; folds = rw is folds; no_hand = no_hand }
 
@@ -118,10 +118,10 @@ module _ (old : ReadingHold) (e : End Delivery Opening) (m : Message) (next : Is
       → OnOk read ((result ≡ folding_after old.result m) × (hand ≡ None))
       → OnErr read ((result ≡ old.result) × (hand ≡ Some m)) → IsTold (hold e hand result)
   next_reads result hand (Ok a) ok err =
-      told_by (hold e hand result) (received old ++ m ∷ []) next.legal_list
+      is_told (hold e hand result) (received old ++ m ∷ []) next.legal_list
       (rw (ok.1, append-nil) next.all) (rw (ok.0, folds-snoc, ← next.folds)) (λ _. ok.1)
   next_reads result hand (Err x) ok err =
-      told_by (hold e hand result) (received old) next.legal_list (rw err.1 next.all)
+      is_told (hold e hand result) (received old) next.legal_list (rw err.1 next.all)
       (rw err.0 next.folds) (λ some. absurd (true≢false (sym some ∙ ap is_some next.live)))
 
   -- and the mark is still to come
@@ -200,7 +200,7 @@ module _ (old : ReadingHold) (told : IsTold old) (none : old.hand ≡ None)
   -- when the mark is taken, the reader has ended
   pub took_mark : (k : Mark) → x.what ≡ told_fin k → IsTold (hold e old.hand old.result)
   took_mark k is =
-      told_by (hold e old.hand old.result) (received old) legal_list_then
+      is_told (hold e old.hand old.result) (received old) legal_list_then
       (messages_then ∙ rw (is, none)) (rw same.2 told.folds) (λ _. none)
 
   -- and the read gives it
@@ -245,7 +245,7 @@ pub reads_new : (e : End Delivery Opening) (result : Folding) → e.taken ≡ []
     → e.floor.opened ≡ length (floor_of e.floor).changes → IsFullBook (floor_of e.floor)
     → result ≡ opening_of e.floor → IsTold (hold e None result)
 reads_new e result taken opening full is =
-    told_by (hold e None result) [] (rw taken (legal_list-none e.floor opening full)) (rw taken) is
+    is_told (hold e None result) [] (rw taken (legal_list-none e.floor opening full)) (rw taken) is
     (λ _. refl)
 
 -- ---- the result

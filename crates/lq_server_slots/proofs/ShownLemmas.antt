@@ -19,7 +19,7 @@ use Rattle.lq_server_slots.specs.declared.identity.Identity.{Identity}
 use Rattle.lq_server_slots.specs.declared.subscription.Subscription.{Subscription}
 use Rattle.lq_server_slots.specs.Updates.{updates}
 use Rattle.lq_server_slots.specs.Rule.{messages_in, mark_in}
-use Rattle.lq_server_slots.specs.Standing.{IsConsistentAt, IsReady, upto}
+use Rattle.lq_server_slots.specs.Standing.{IsConsistentAt, HasPrepared, upto}
 use Rattle.lq_server_slots.specs.Marking.{held_committed}
 use Rattle.lq_server_slots.specs.Slots.{SlotStands, slot_in}
 use Rattle.lq_server_slots.specs.Shown.{mark_ending, shown_subscription, slot_shown, mark_to_put, with_mark, PassesOnAs, SlotPassesOn, SlotsShowWorlds, ActsShowWorlds}
@@ -98,7 +98,7 @@ marks : (b : Bool) (s : Subscription) (book : Book) → s.sub.held.mark_out ≡ 
     → drop (length (all_put s.input) - n) (mark_behind n (mark_ending s.sub.held.mark))
     ≡ mark_to_put s.sub.held.mark_out s.sub.held.mark
 marks false s book is stands n long =
-    let told = told_length (all_put s.input) (rw is at stands.out) in
+    let put_so_far = told_length (all_put s.input) (rw is at stands.out) in
     let joined = length-append (messages_in (all_put s.input)) s.sub.held.messages in
     let zero : length (all_put s.input) - n ≡ 0 = omega arith in
     let seq : IfSome s.sub.held.mark (λ k. k.seq ≡ n + 1) = numbered s book stands n long in
@@ -150,10 +150,10 @@ slots_shown slots taken full stands i low =
 
 -- a commit ends it as the change does, where its messages are too many
 change_shown : (asked : Bool) (taken : ℕ) (s : Subscription) (book : Book) (c : Change)
-    → IsFullBook book → IsConsistentAt s book → IsReady s.sub (state_of book) c
+    → IsFullBook book → IsConsistentAt s book → HasPrepared s.sub (state_of book) c
     → after_change book c (shown_subscription asked taken s)
     ≡ with_mark (shown_subscription asked taken s) (held_committed s.sub).mark
-change_shown asked taken s book c full stands ready =
+change_shown asked taken s book c full stands prepared =
     let passed = passed_on asked taken s book full stands in
     grind arith
 
@@ -161,7 +161,7 @@ change_shown asked taken s book c full stands ready =
 pub acts_shown : ActsShowWorlds
 acts_shown s book asked taken full stands =
     record {
-      change = λ c ready. change_shown asked taken s book c full stands ready;
+      change = λ c prepared. change_shown asked taken s book c full stands prepared;
       notice = grind arith;
       close = grind arith;
     }

@@ -33,7 +33,7 @@ held_unmoved s book stands some = grind arith
 pub stuck_filled : (s : Subscription) (book : Book) → IsConsistentAt s book → IsSeen s → CannotPut s
     → IsFilled s
 stuck_filled s book stands seen stuck some =
-    let told = told_length (all_put s.input) (held_unmoved s book stands some) in
+    let put_so_far = told_length (all_put s.input) (held_unmoved s book stands some) in
     let long = length-append s.input.taken s.input.ahead in
     grind arith
 
@@ -92,7 +92,7 @@ pub taken_alike : (s t : Subscription) (p : KnownSlot Identity) (book : Book) �
     → IsTakenSlot t p book
 taken_alike s t p book taken held others first_close =
     let stands : IsConsistentAt t book =
-    rw (held, others.input, others.places, others.told, first_close) taken.stands in
+    rw (held, others.input, others.places, others.last_report, first_close) taken.stands in
     grind arith
 
 -- ---- a book that grew by a change

@@ -13,12 +13,12 @@ use Rattle.lq_server_slots.specs.declared.delivery.Delivery.{Delivery}
 use Rattle.lq_server_slots.specs.declared.delivery.Opening.{Opening}
 use Rattle.lq_server_slots.specs.declared.ghost_copy.GhostCopy.{GhostCopy}
 use Rattle.lq_server_slots.specs.declared.identity.Identity.{Identity}
-use Rattle.lq_server_slots.specs.declared.identity.Told.{Told}
+use Rattle.lq_server_slots.specs.declared.identity.LastReport.{LastReport}
 use Rattle.lq_server_slots.specs.declared.subscription.Subscription.{Subscription}
 use Rattle.lq_server_slots.specs.Marking.{hung_mark}
 use Rattle.lq_server_slots.specs.Identity.{identity_of, port_id_inj}
 use Rattle.lq_server_slots.specs.Reading.{ReadingHold}
-use Rattle.lq_server_slots.specs.Standing.{IsConsistentAt, IsDrained, IsSeen, CannotPut, SameButHeld, SideBySide, told_by}
+use Rattle.lq_server_slots.specs.Standing.{IsConsistentAt, IsDrained, IsSeen, CannotPut, SameButHeld, SideBySide, report_of}
 use Rattle.lq_server_slots.specs.Slots.{IsTakenSlot, SlotStands, IsSlotMet, KeepsBook, asks_of, OnlyAt, AreConsistent, slot_in, KeepsSlots, SameButKnown}
 use Rattle.lq_server_slots.specs.Opening.{IdentityFits, asks_after, name_or}
 use Rattle.lq_server_slots.proofs.EndLemmas.{told_now}
@@ -80,16 +80,16 @@ keeps_then old mid new k j a b e =
     }
 
 -- a taken slot stands on once its port is filled and its reader told, and its seat has its new name
-pub taken_shown : (s m : Subscription) (told : GhostCopy Told) (p q : KnownSlot Identity)
+pub taken_shown : (s m : Subscription) (last_report : GhostCopy LastReport) (p q : KnownSlot Identity)
     (n : ℕ) (book : Book) (d e : ReadingHold) (waiting : ℕ) → IsTakenSlot s p book
     → SideBySide s m d.port e.port book waiting → IsDrained m waiting
-    → told.value ≡ told_by (length book.changes) (length e.port.taken) m.sub.held.mark → p.asks ≤ n
-    → q ≡ record { out = true; asks = n; name = Some (identity_of (record m { told = told })) }
-    → IsTakenSlot (record m { told = told }) q book
-taken_shown s m told p q n book d e waiting taken between drained is le known =
-    let u : Subscription = record m { told = told } in
+    → last_report.value ≡ report_of (length book.changes) (length e.port.taken) m.sub.held.mark → p.asks ≤ n
+    → q ≡ record { out = true; asks = n; name = Some (identity_of (record m { last_report = last_report })) }
+    → IsTakenSlot (record m { last_report = last_report }) q book
+taken_shown s m last_report p q n book d e waiting taken between drained is le known =
+    let u : Subscription = record m { last_report = last_report } in
     let stands : IsConsistentAt u book =
-    rw is (told_now m.sub.held m.input m.places m.told.value m.first_close book
+    rw is (told_now m.sub.held m.input m.places m.last_report.value m.first_close book
     (length e.port.taken) between.stands) in
     let few : IsSeen u = grind arith in
     let stuck : CannotPut u = rw (between.ends.input.1, ← between.ends.value) drained in

@@ -13,7 +13,7 @@ use Rattle.lq_volume.specs.Book.{Book}
 use Rattle.lq_server_slots.specs.declared.identity.Identity.{Identity}
 use Rattle.lq_server_slots.specs.declared.slots.ServerSlots.{ServerSlots}
 use Rattle.lq_server_slots.specs.declared.subscription.Subscription.{Subscription}
-use Rattle.lq_server_slots.specs.Slots.{AreConsistent, IsServed, OnlyAt, Serves, SlotIs, SlotStands, SlotsAre, asks_of, slot_in, AllReady, IsNoticed, IsReadyAt, IsTakenNoticed}
+use Rattle.lq_server_slots.specs.Slots.{AreConsistent, IsServed, OnlyAt, Serves, SlotIs, SlotStands, SlotsAre, asks_of, slot_in, AllPrepared, IsNoticed, HasPreparedAt, IsTakenNoticed}
 use Rattle.lq_volume.specs.declared.change.Change.{Change}
 use Rattle.lq_server_slots.specs.Changing.{Prepares}
 use Rattle.lq_volume.specs.State.{State}
@@ -111,7 +111,7 @@ pub all_prepared : (v : State) (c : Change) (allows : Bool → ℕ → Subscript
     → HasTaken set slots.subscriptions → length ys ≡ 64
     → Visits allows (λ t i x y. Prepares v c t x y) (has set) slots.subscriptions ys s t
     → AreConsistent (record slots { subscriptions = ys }) slots.keeper.book
-    × SlotsAre IsNoticed ys slots.keeper.slots × (t ≡ false → AllReady ys v c)
+    × SlotsAre IsNoticed ys slots.keeper.slots × (t ≡ false → AllPrepared ys v c)
 all_prepared v c allows slots set ys s t h noticed taken wide visits =
     let each = visits-all allows (λ t i x y. Prepares v c t x y) set slots.subscriptions ys s t
     visits taken in
@@ -129,6 +129,6 @@ all_prepared v c allows slots set ys s t h noticed taken wide visits =
       },
       λ i low. each (λ o. SlotIs IsNoticed o (p i)) i (λ none. tt)
           (λ x y some d. rw (d.others.asks, d.held) (rw some at (noticed i low))),
-      λ whole i low. each (λ o. IsReadyAt o v c) i (λ none. tt)
-          (λ x y some d. d.ready whole),
+      λ whole i low. each (λ o. HasPreparedAt o v c) i (λ none. tt)
+          (λ x y some d. d.prepared whole),
     )

@@ -13,8 +13,8 @@ use Rattle.lq_board.specs.Slot.{slot_at}
 use Rattle.lq_board.specs.Token.{SeatToken}
 use Rattle.lq_server_slots.specs.declared.identity.Identity.{Identity}
 use Rattle.lq_server_slots.specs.declared.slots.ServerSlots.{ServerSlots}
-use Rattle.lq_server_slots.specs.Slots.{AllReady, IsNoticed, SlotsAre, KeepsSlots, IsGrown, IsTakenNoticed, before_of}
-use Rattle.lq_server_slots.specs.Standing.{IsReady, SameButHeld}
+use Rattle.lq_server_slots.specs.Slots.{AllPrepared, IsNoticed, SlotsAre, KeepsSlots, IsGrown, IsTakenNoticed, before_of}
+use Rattle.lq_server_slots.specs.Standing.{HasPrepared, SameButHeld}
 use Rattle.lq_board.specs.Known.{KnownSlot}
 use Rattle.lq_server_slots.specs.declared.subscription.Subscription.{Subscription}
 
@@ -41,7 +41,7 @@ pub record IsChangeMade (change : Change) (result : Result Applied Refusal) (v w
 pub record IsPrepared (v : State) (change : Change) (result : Result (Unit {0}) Refusal)
     (old new : ServerSlots) : Type 0 where
   pub lawful : OnOk result (refused v change ≡ None)
-  pub ready : OnOk result (AllReady new.subscriptions v change)
+  pub prepared : OnOk result (AllPrepared new.subscriptions v change)
   pub noticed : OnOk result (SlotsAre IsNoticed new.subscriptions new.keeper.slots)
   pub keeps : KeepsSlots old new
   pub rises : (k : ℕ) → (slot_at old.keeper.slots k).asks ≤ (slot_at new.keeper.slots k).asks
@@ -53,11 +53,11 @@ pub record Prepares (v : State) (change : Change) (full : Bool) (s t : Subscript
   pub held : t.sub.held ≡ s.sub.held
   pub others : SameButHeld s t
   pub first_close : t.first_close ≡ s.first_close
-  pub ready : full ≡ false → IsReady t.sub v change
+  pub prepared : full ≡ false → HasPrepared t.sub v change
 
 -- a taken slot that stands over the book before its last change, the messages of which are prepared
 pub record MayCommit (change : Change) (s : Subscription) (p : KnownSlot Identity) (book : Book)
     : Type 0 where
   pub grown : IsGrown book change
   pub stood : IsTakenNoticed s p (before_of book)
-  pub ready : IsReady s.sub (state_of (before_of book)) change
+  pub prepared : HasPrepared s.sub (state_of (before_of book)) change

@@ -28,7 +28,7 @@ identity_of s =
       places = s.places;
       backlog = s.sub.held.backlog;
       asks = s.asks;
-      told = s.told.value;
+      last_report = s.last_report.value;
       first_close = s.first_close;
       port = port_id s.input.port;
     }

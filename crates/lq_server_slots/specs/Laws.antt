@@ -9,7 +9,7 @@ use Rattle.lq_port.specs.End.{End}
 use Rattle.lq_server_slots.specs.declared.delivery.Delivery.{Delivery}
 use Rattle.lq_server_slots.specs.declared.delivery.Opening.{Opening}
 use Rattle.lq_server_slots.specs.declared.identity.FirstClose.TheVariants.{Never}
-use Rattle.lq_server_slots.specs.declared.identity.Told.TheVariants.{Live}
+use Rattle.lq_server_slots.specs.declared.identity.LastReport.TheVariants.{Live}
 use Rattle.lq_server_slots.specs.Updates.{updates}
 use Rattle.lq_server_slots.specs.Rule.{floor_of, query_of}
 use Rattle.lq_server_slots.specs.Standing.{Stands}

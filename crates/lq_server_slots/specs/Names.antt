@@ -4,8 +4,8 @@ use base.Stored.{Gv, gnil}
 use Rattle.lq_predicate.specs.Query.{Query, And, no_more}
 use Rattle.lq_server_slots.specs.declared.identity.FirstClose.{FirstClose}
 use Rattle.lq_server_slots.specs.declared.identity.FirstClose.TheVariants.{Never}
-use Rattle.lq_server_slots.specs.declared.identity.Told.{Told}
-use Rattle.lq_server_slots.specs.declared.identity.Told.TheVariants.{Live}
+use Rattle.lq_server_slots.specs.declared.identity.LastReport.{LastReport}
+use Rattle.lq_server_slots.specs.declared.identity.LastReport.TheVariants.{Live}
 
 -- The query, and whether one message reports a node that changed its place within the result; the
 -- number of changes at the opening; the number of places of the port, the most messages that are
@@ -18,7 +18,7 @@ pub record Identity : Type 0 where
   pub places : ℕ
   pub backlog : ℕ
   pub asks : ℕ
-  pub told : Told
+  pub last_report : LastReport
   pub first_close : FirstClose
   pub port : Gv
 
@@ -32,7 +32,7 @@ no_identity =
       places = 0;
       backlog = 0;
       asks = 0;
-      told = Live 0 0;
+      last_report = Live 0 0;
       first_close = Never;
       port = gnil;
     }

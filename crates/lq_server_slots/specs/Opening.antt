@@ -14,7 +14,7 @@ use Rattle.lq_board.specs.Token.{BoardName}
 use Rattle.lq_port.specs.End.{End}
 use Rattle.lq_server_slots.specs.declared.identity.Identity.{Identity}
 use Rattle.lq_server_slots.specs.declared.identity.FirstClose.TheVariants.{Never}
-use Rattle.lq_server_slots.specs.declared.identity.Told.TheVariants.{Live}
+use Rattle.lq_server_slots.specs.declared.identity.LastReport.TheVariants.{Live}
 use Rattle.lq_server_slots.specs.declared.delivery.Delivery.{Delivery}
 use Rattle.lq_server_slots.specs.declared.delivery.Opening.{Opening}
 use Rattle.lq_server_slots.specs.declared.subscription.Subscription.{Subscription}
@@ -51,7 +51,7 @@ pub record IsNewSubscription (s : Subscription) (r : ReadingHold) (book : Book) 
   pub opened : s.sub.held.opened ≡ length book.changes
   pub backlog_is : s.sub.held.backlog ≡ backlog
   pub places : s.places ≡ port
-  pub told : s.told.value ≡ Live (length book.changes) 0
+  pub last_report : s.last_report.value ≡ Live (length book.changes) 0
   pub first_close : s.first_close ≡ Never
   pub end : r.port ≡ s.input
   pub floor : floor_of r.port.floor ≡ book
@@ -66,7 +66,7 @@ pub record IsOpenedName (t : Identity) (o : Opened) (backlog : ℕ) : Type 0 whe
   pub asks : o.seat.asks ≡ t.asks
   pub few : t.asks < 1000000000000
   pub backlog_is : t.backlog ≡ backlog
-  pub told : t.told ≡ Live t.opened 0
+  pub last_report : t.last_report ≡ Live t.opened 0
   pub first_close : t.first_close ≡ Never
 
 -- A subscription that was just opened over this book: nothing was read, and the result is the
@@ -132,7 +132,7 @@ no_identity = record {
   backlog =
       0;
   asks = 0;
-  told = Live 0 0;
+  last_report = Live 0 0;
   first_close = Never;
   port = gnil;
 }

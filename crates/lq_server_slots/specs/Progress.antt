@@ -11,7 +11,7 @@ use Rattle.lq_server_slots.specs.Rule.{MayFollow}
 use Rattle.lq_server_slots.specs.Marking.{hung_mark}
 use Rattle.lq_server_slots.specs.Identity.{identity_of}
 use Rattle.lq_server_slots.specs.Reading.{ReadingHold}
-use Rattle.lq_server_slots.specs.Standing.{IsConsistentAt, IsDrained, told_by}
+use Rattle.lq_server_slots.specs.Standing.{IsConsistentAt, IsDrained, report_of}
 use Rattle.lq_server_slots.specs.declared.sync.Progress.{Progress}
 
 -- What a sync shows of a subscription; s is the subscription under the lock, once its port is
@@ -31,7 +31,7 @@ pub record ShowsProgress (s : Subscription) (seat0 seat1 : SeatToken Identity) (
   pub identity : seat0.name ≡ Some (identity_of s)
   pub name : seat1.name
       ≡ Some (record (identity_of s) {
-        told = told_by x.change (length e.port.taken) s.sub.held.mark;
+        last_report = report_of x.change (length e.port.taken) s.sub.held.mark;
       })
   pub seat : seat1 ≡ record seat0 { book = seat1.book; name = seat1.name }
   pub later : Extends seat1.book seat0.book

@@ -16,7 +16,7 @@ use Rattle.lq_server_slots.specs.declared.identity.Identity.{Identity}
 use Rattle.lq_server_slots.specs.declared.subscription.Subscription.{Subscription}
 use Rattle.lq_server_slots.specs.Rule.{messages_in}
 use Rattle.lq_server_slots.specs.Marking.{held_committed, held_noticed, held_closed}
-use Rattle.lq_server_slots.specs.Standing.{IsConsistentAt, IsReady}
+use Rattle.lq_server_slots.specs.Standing.{IsConsistentAt, HasPrepared}
 use Rattle.lq_server_slots.specs.declared.slots.ServerSlots.{ServerSlots}
 use Rattle.lq_server_slots.specs.Slots.{AreConsistent, slot_in}
 
@@ -94,7 +94,7 @@ with_mark u o = record u { end = mark_ending o }
 -- change, a notice and a close do to the end of the subscription of the world that it stands for.
 pub record ActsAreShown (s : Subscription) (book : Book) (asked : Bool) (taken : ℕ)
     : Type 0 where
-  pub change : (c : Change) → IsReady s.sub (state_of book) c
+  pub change : (c : Change) → HasPrepared s.sub (state_of book) c
       → after_change book c (shown_subscription asked taken s)
       ≡ with_mark (shown_subscription asked taken s) (held_committed s.sub).mark
   pub notice : (noticing book (shown_subscription asked taken s)).1

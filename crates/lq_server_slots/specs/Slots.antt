@@ -12,7 +12,7 @@ use Rattle.lq_server_slots.specs.declared.identity.Identity.{Identity}
 use Rattle.lq_server_slots.specs.declared.subscription.Subscription.{Subscription}
 use Rattle.lq_server_slots.specs.Marking.{hung_mark}
 use Rattle.lq_server_slots.specs.Identity.{identity_of}
-use Rattle.lq_server_slots.specs.Standing.{IsConsistentAt, IsFilled, IsReady, IsSeen, CannotPut}
+use Rattle.lq_server_slots.specs.Standing.{IsConsistentAt, IsFilled, HasPrepared, IsSeen, CannotPut}
 use Rattle.lq_server_slots.specs.declared.slots.ServerSlots.{ServerSlots}
 use Rattle.std.specs.Option.{option_flatten}
 
@@ -136,13 +136,13 @@ pub record IsSlotMet (old new : KeeperToken Identity) (s t : SeatToken Identity)
   pub out : (slot_at old.slots s.slot).out ≡ true
 
 -- the messages of a change are prepared for the slot
-abbrev pub IsReadyAt : Option Subscription → State → Change → Type 0
-IsReadyAt None s c = Unit {0}
-IsReadyAt (Some slot) s c = IsReady slot.sub s c
+abbrev pub HasPreparedAt : Option Subscription → State → Change → Type 0
+HasPreparedAt None s c = Unit {0}
+HasPreparedAt (Some slot) s c = HasPrepared slot.sub s c
 
 -- the messages of a change are prepared for all slots
-abbrev pub AllReady : List (Option Subscription) → State → Change → Type 0
-AllReady slots s c = (i : ℕ) → i < 64 → IsReadyAt (slot_in slots i) s c
+abbrev pub AllPrepared : List (Option Subscription) → State → Change → Type 0
+AllPrepared slots s c = (i : ℕ) → i < 64 → HasPreparedAt (slot_in slots i) s c
 
 -- a book without its last change
 abbrev pub before_of : Book → Book

@@ -13,8 +13,8 @@ use Rattle.lq_desk_sub.specs.Held.{Held, Prepared}
 use Rattle.lq_port.specs.End.{End, all_put, IsSamePort, AreBeside}
 use Rattle.lq_server_slots.specs.declared.identity.FirstClose.{FirstClose}
 use Rattle.lq_server_slots.specs.declared.identity.FirstClose.TheVariants.{Never, At, Late}
-use Rattle.lq_server_slots.specs.declared.identity.Told.{Told}
-use Rattle.lq_server_slots.specs.declared.identity.Told.TheVariants.{Live, Ended}
+use Rattle.lq_server_slots.specs.declared.identity.LastReport.{LastReport}
+use Rattle.lq_server_slots.specs.declared.identity.LastReport.TheVariants.{Live, Ended}
 use Rattle.lq_server_slots.specs.declared.delivery.Delivery.{Delivery}
 use Rattle.lq_server_slots.specs.declared.delivery.Opening.{Opening}
 use Rattle.lq_server_slots.specs.declared.subscription.Subscription.{Subscription}
@@ -43,18 +43,18 @@ FirstCloseFits (At n) o = IsSomeAnd o (λ k. (k.cause ≡ Closed) × (k.change �
 FirstCloseFits Late o = IsSomeAnd o (λ k. k.cause ≢ Closed)
 
 -- what a reader is told after this many changes, where it has taken this many parcels
-abbrev pub told_by : ℕ → ℕ → Option Mark → Told
-told_by n seen None = Live n seen
-told_by n seen (Some k) = Ended k
+abbrev pub report_of : ℕ → ℕ → Option Mark → LastReport
+report_of n seen None = Live n seen
+report_of n seen (Some k) = Ended k
 
 -- how many parcels had been taken when it was told, while the subscription was live
-abbrev pub seen_of : Told → ℕ
+abbrev pub seen_of : LastReport → ℕ
 seen_of (Live n seen) = seen
 seen_of (Ended k) = 0
 
 -- What was told stays true over n changes: a mark is the same, and where none was told, one comes
 -- for no change before.
-abbrev pub StaysTrue : Told → Option Mark → ℕ → Type 0
+abbrev pub StaysTrue : LastReport → Option Mark → ℕ → Type 0
 StaysTrue (Live m seen) mark n = m ≤ upto mark n
 StaysTrue (Ended k) mark n = mark ≡ Some k
 
@@ -77,7 +77,7 @@ pub record IsOverrun
 -- its updates over that book, up to its mark or else to the end. A mark is put last and has its
 -- cause.
 pub record Stands
-    (h : Held) (e : End Delivery Opening) (places : ℕ) (told : Told) (answer : FirstClose)
+    (h : Held) (e : End Delivery Opening) (places : ℕ) (last_report : LastReport) (answer : FirstClose)
     (book : Book)
     : Type 0 where
   pub query : query_of e.floor ≡ h.query
@@ -95,27 +95,27 @@ pub record Stands
   pub mark : IfSome h.mark (λ k. (k.seq ≡ h.sent + 1) × (k.change ≤ length book.changes))
   pub out : mark_in (all_put e) ≡ moved_mark h.mark_out h.mark
   pub done : h.mark_out ≡ true → (h.messages ≡ []) × IsSome h.mark
-  pub still : StaysTrue told h.mark (length book.changes)
+  pub still : StaysTrue last_report h.mark (length book.changes)
   pub first_close : FirstCloseFits answer h.mark
   pub overrun :
       IfSome h.mark
       (λ k. k.cause ≡ Overrun
-      → IsOverrun h.query h.moved h.opened places h.backlog (seen_of told) book k.change)
+      → IsOverrun h.query h.moved h.opened places h.backlog (seen_of last_report) book k.change)
 
 -- and for a subscription under the lock
 abbrev pub IsConsistentAt : Subscription → Book → Type 0
-IsConsistentAt s book = Stands s.sub.held s.input s.places s.told.value s.first_close book
+IsConsistentAt s book = Stands s.sub.held s.input s.places s.last_report.value s.first_close book
 
 -- messages are held only where as many as the port has places were put, beside those that had been
 -- taken when the reader was last told
 abbrev pub IsFilled : Subscription → Type 0
 IsFilled s =
     0 < length s.sub.held.messages
-    → s.places + seen_of s.told.value ≤ length (messages_in (all_put s.input))
+    → s.places + seen_of s.last_report.value ≤ length (messages_in (all_put s.input))
 
 -- what had been taken when the reader was last told is known to be taken
 abbrev pub IsSeen : Subscription → Type 0
-IsSeen s = seen_of s.told.value ≤ length s.input.taken
+IsSeen s = seen_of s.last_report.value ≤ length s.input.taken
 
 -- what never changes of a subscription, and its mark and count
 pub record SameHeld (h t : Held) : Type 0 where
@@ -132,7 +132,7 @@ pub record SameButPuts (s t : Subscription) : Type 0 where
   pub held : SameHeld s.sub.held t.sub.held
   pub places : t.places ≡ s.places
   pub asks : t.asks ≡ s.asks
-  pub told : t.told ≡ s.told
+  pub last_report : t.last_report ≡ s.last_report
   pub first_close : t.first_close ≡ s.first_close
   pub given_same : messages_given t.sub.held t.input ≡ messages_given s.sub.held s.input
 
@@ -165,8 +165,8 @@ abbrev pub IsDrained : Subscription → ℕ → Type 0
 IsDrained s waiting = IsOut s.sub.held ⊎ (s.places ≤ waiting)
 
 -- the messages of a change are prepared, if the subscription is live
-abbrev pub IsReady : Prepared → State → Change → Type 0
-IsReady p s c =
+abbrev pub HasPrepared : Prepared → State → Change → Type 0
+HasPrepared p s c =
     p.held.mark ≡ None
     → (p.ready ≡ step_of p.held.query p.held.moved s c (p.held.sent + 1))
     × (p.before ≡ s.number)
@@ -180,4 +180,4 @@ pub record SameButHeld (s t : Subscription) : Type 0 where
   pub backlog : t.sub.held.backlog ≡ s.sub.held.backlog
   pub places : t.places ≡ s.places
   pub asks : t.asks ≡ s.asks
-  pub told : t.told ≡ s.told
+  pub last_report : t.last_report ≡ s.last_report

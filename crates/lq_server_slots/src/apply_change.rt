@@ -6,9 +6,9 @@ ghost use Rattle.lq_board.specs.Book.{IsFullBook};
 ghost use Rattle.lq_board.specs.Slot.{slot_at};
 ghost use Rattle.lq_server_slots.specs.Applied.{IsApplied};
 ghost use Rattle.lq_server_slots.specs.Changing.{IsChangeMade, IsPrepared};
-ghost use Rattle.lq_server_slots.specs.Slots.{AreConsistent, IsConsistentWith, AllReady, IsNoticed, IsServed, SlotsAre, KeepsCounts};
+ghost use Rattle.lq_server_slots.specs.Slots.{AreConsistent, IsConsistentWith, AllPrepared, IsNoticed, IsServed, SlotsAre, KeepsCounts};
 
-use crate::change_passes::{commit_all, ready_all};
+use crate::change_passes::{commit_all, prepare_all};
 use crate::identity::Identity;
 use crate::server_base::Named;
 use crate::server_state::ServerState;
@@ -82,7 +82,7 @@ fn add(
     ensures made { IsChangeMade change.now result volume.old volume.new
         slots.old.keeper.book slots.new.keeper.book seat.old seat.new }
     ensures lawful { OnOk result (refused volume.old change.now ≡ None) }
-    ensures ready { OnOk result (AllReady slots.new.subscriptions
+    ensures prepared { OnOk result (AllPrepared slots.new.subscriptions
         (state_of slots.old.keeper.book) change.now) }
     ensures noticed { OnOk result
         (SlotsAre IsNoticed slots.new.subscriptions slots.new.keeper.slots) }
@@ -131,5 +131,5 @@ fn prepare_taken(
     ensures { IsPrepared volume.now change.now result slots.old slots.new }
 {
     let planned = volume.plan(change)?;
-    ready_all(board, slots, &planned)
+    prepare_all(board, slots, &planned)
 }

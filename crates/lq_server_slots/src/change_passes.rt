@@ -3,12 +3,12 @@ ghost use Rattle.std.specs.Prelude.{◌≡◌, None};
 ghost use Rattle.lq_volume.specs.Book.{state_of};
 ghost use Rattle.lq_volume.specs.Change.{refused};
 ghost use Rattle.lq_server_slots.specs.Changing.{IsPrepared};
-ghost use Rattle.lq_server_slots.specs.Slots.{AreConsistent, IsConsistentWith, AllReady, before_of, IsGrown, IsNoticed, IsServed, SlotsAre};
+ghost use Rattle.lq_server_slots.specs.Slots.{AreConsistent, IsConsistentWith, AllPrepared, before_of, IsGrown, IsNoticed, IsServed, SlotsAre};
 
 use crate::fill_port::fill;
 use crate::identity::Identity;
 use crate::slots::{ServerSlots, notice_all};
-use crate::subscription::{Subscription, commit, ready};
+use crate::subscription::{Subscription, commit, prepare_messages};
 use lq_board::{Board, Keeper};
 use lq_desk_sub::{SlotIndex, Visit};
 use lq_value::Refusal;
@@ -32,14 +32,14 @@ impl<'a, 'b> Visit<Subscription, bool> for Prepare<'a, 'b> {
 
     fn visit(&self, full: &mut bool, _slot: SlotIndex, item: &mut Subscription) {
         if !*full {
-            *full = ready(item, self.planned).is_err();
+            *full = prepare_messages(item, self.planned).is_err();
         }
     }
 }
 
 /// Ends each subscription whose reader asked, and prepares the messages of a change for the live
 /// ones.
-pub(crate) fn ready_all(
+pub(crate) fn prepare_all(
     board: &Board<Identity>,
     slots: &mut ServerSlots,
     planned: &Planned<'_>,
@@ -91,7 +91,7 @@ impl<'a, R: Wait> Visit<Subscription, ()> for Commit<'a, R> {
 /// Commits the change that was just added in each subscription, and fills each port.
 pub(crate) fn commit_all<R: Wait>(rt: &R, slots: &mut ServerSlots, change: &Change)
     requires grown { IsGrown slots.old.keeper.book change.now }
-    requires ready { AllReady slots.old.subscriptions
+    requires prepared { AllPrepared slots.old.subscriptions
         (state_of (before_of slots.old.keeper.book)) change.now }
     requires holding { AreConsistent slots.old (before_of slots.old.keeper.book) }
     requires noticed { SlotsAre IsNoticed slots.old.subscriptions slots.old.keeper.slots }

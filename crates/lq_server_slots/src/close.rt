@@ -11,7 +11,7 @@ use crate::server_base::Named;
 use crate::server_state::ServerState;
 use crate::slots::{ServerSlots, notice_slot};
 use crate::subscription::close;
-use crate::sync::{meet_slot_at, meet_under};
+use crate::sync::{refresh, refresh_slot};
 use lq_board::{Board, Seat};
 use lq_desk_sub::SlotIndex;
 use std::sync::Wait;
@@ -29,7 +29,7 @@ fn close_at(
     ensures closed { IsClosed slots.old.keeper.book seat.old seat.new result }
     ensures keeps { KeepsSlots slots.old slots.new }
 {
-    let number = meet_slot_at(board, slots, seat);
+    let number = refresh(board, slots, seat);
     let Some(index) = SlotIndex::of(seat.slot()) else {
         unreachable!()
     };
@@ -39,7 +39,7 @@ fn close_at(
     let keeper = &mut slots.keeper;
     notice_slot(board, keeper, taken, index, number);
     let closed = close(taken, number);
-    meet_under(board, keeper, seat, taken);
+    refresh_slot(board, keeper, seat, taken);
     closed
 }
 

@@ -15,7 +15,7 @@ pub enum FirstClose {
 
 /// What its reader was last told of a subscription, by its opening or a sync.
 #[derive(Clone, Copy)]
-pub enum Told {
+pub enum LastReport {
     /// It was live after this many changes. This many parcels had been taken from its port then.
     Live { change: u64, seen: u64 },
     /// It had ended with this mark.

@@ -29,7 +29,7 @@ mod sync;
 mod take_parcel;
 
 pub use delivery::Delivery;
-pub use identity::{Identity, Told};
+pub use identity::{Identity, LastReport};
 pub use laws::{
     acts_show_worlds, books_extend_on, books_extend_themselves, slots_show_worlds, states_stay,
 };

@@ -15,7 +15,7 @@ ghost use Rattle.lq_server_slots.specs.Opening.{IsNewSubscription, IsOpened, IsO
 
 use crate::delivery::{Delivery, Opening};
 use crate::ghost_copy::GhostCopy;
-use crate::identity::{FirstClose, Identity, Told};
+use crate::identity::{FirstClose, Identity, LastReport};
 use crate::laws::new_subscriptions_stand;
 use crate::reading::Reading;
 use crate::server_base::Named;
@@ -73,7 +73,7 @@ fn begin(
         input,
         places: options.port,
         asks: 0,
-        told: GhostCopy::of(&Told::Live {
+        last_report: GhostCopy::of(&LastReport::Live {
             change: at,
             seen: 0,
         }),

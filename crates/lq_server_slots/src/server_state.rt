@@ -13,7 +13,7 @@ ghost use Rattle.lq_server_slots.specs.Own.{StaysOwn};
 use crate::identity::Identity;
 use crate::server_base::Named;
 use crate::slots::ServerSlots;
-use crate::sync::meet_slot_at;
+use crate::sync::refresh;
 use lq_board::{Board, Keeper, Seat};
 use lq_value::{Entry, Refusal};
 use lq_volume::Volume;
@@ -167,7 +167,7 @@ impl<N: Named> ServerState<N> {
         if seat.slot() == 0 {
             return board.meet(&mut self.slots.keeper, seat);
         }
-        meet_slot_at(board, &mut self.slots, seat)
+        refresh(board, &mut self.slots, seat)
     }
 
     /// As `meet` for the seat of a slot. Another stays as it is.

@@ -4,12 +4,12 @@ ghost use Rattle.lq_value.specs.Refusal.{FailsOnlyForMemory};
 ghost use Rattle.lq_volume.specs.Book.{Book, grown, state_of};
 ghost use Rattle.lq_volume.specs.Change.{IsLawful};
 ghost use Rattle.lq_board.specs.Book.{IsFullBook};
-ghost use Rattle.lq_server_slots.specs.Standing.{IsConsistentAt, IsFilled, IsReady, SameButHeld, FirstCloseFits};
+ghost use Rattle.lq_server_slots.specs.Standing.{IsConsistentAt, IsFilled, HasPrepared, SameButHeld, FirstCloseFits};
 ghost use Rattle.lq_server_slots.specs.Marking.{hung_mark, after_close, held_committed, held_noticed, held_closed};
 
 use crate::delivery::Delivery;
 use crate::ghost_copy::GhostCopy;
-use crate::identity::{FirstClose, Told};
+use crate::identity::{FirstClose, LastReport};
 use lq_desk_sub::Sub;
 use lq_port::PortIn;
 use lq_update::{Cause, steps_are_few};
@@ -27,7 +27,7 @@ pub struct Subscription {
     /// How often its slot's seats had asked at the opening.
     pub asks: u64,
     /// What its reader was last told. Contracts alone read it.
-    pub told: GhostCopy<Told>,
+    pub last_report: GhostCopy<LastReport>,
     /// The answer of its first close.
     pub first_close: FirstClose,
 }
@@ -39,7 +39,7 @@ impl Drop for Subscription {
             input: _,
             places: _,
             asks: _,
-            told: _,
+            last_report: _,
             first_close: _,
         } = self;
     }
@@ -48,13 +48,13 @@ impl Drop for Subscription {
 /// Prepares the messages of a lawful change that isn't made yet, where the subscription is live.
 ///
 /// Its held messages and its mark stay. Refused: `NoMemory`.
-pub fn ready(slot: &mut Subscription, planned: &Planned<'_>) -> Result<(), Refusal>
+pub fn prepare_messages(slot: &mut Subscription, planned: &Planned<'_>) -> Result<(), Refusal>
     requires few { slot.old.sub.held.sent < 2 ^ 63 }
     ensures refused { FailsOnlyForMemory result }
     ensures held { slot.new.sub.held ≡ slot.old.sub.held }
     ensures others { SameButHeld slot.old slot.new }
     ensures first_close { slot.new.first_close ≡ slot.old.first_close }
-    ensures ready { OnOk result (IsReady slot.new.sub planned.now.before planned.now.change) }
+    ensures prepared { OnOk result (HasPrepared slot.new.sub planned.now.before planned.now.change) }
 {
     if !slot.sub.is_live() {
         return Ok(());
@@ -63,7 +63,7 @@ pub fn ready(slot: &mut Subscription, planned: &Planned<'_>) -> Result<(), Refus
     Ok(())
 }
 
-/// Holds the messages that `ready` prepared for this change, or ends with an overrun where they are
+/// Holds the messages that were prepared for this change, or ends with an overrun where they are
 /// too many.
 ///
 /// A subscription that stood over the book before then stands over the book with the change. One
@@ -72,7 +72,7 @@ pub fn commit(slot: &mut Subscription, change: &Change)
     requires few { slot.old.sub.held.sent < 2 ^ 63 }
     requires filled { IsFilled slot.old }
     ensures stands { (book : Book) → IsConsistentAt slot.old book
-        → IsReady slot.old.sub (state_of book) change.now
+        → HasPrepared slot.old.sub (state_of book) change.now
         → IsLawful (state_of book) change.now
         → IsFullBook (grown book (change.now ∷ []))
         → IsConsistentAt slot.new (grown book (change.now ∷ [])) }

@@ -1,7 +1,7 @@
 //! A reader's sync under the lock, and how a slot's seat meets the keeper.
 ghost use Rattle.std.specs.Prelude.{◌≡◌, ◌+◌, ◌<◌, ℕ, length, IsSome, IsSomeAnd, Some};
 ghost use Rattle.lq_server_slots.specs.Identity.{identity_of};
-ghost use Rattle.lq_server_slots.specs.Standing.{told_by};
+ghost use Rattle.lq_server_slots.specs.Standing.{report_of};
 ghost use Rattle.lq_server_slots.specs.declared.subscription.Subscription.{Subscription as SubscriptionOf};
 ghost use Rattle.lq_server_slots.specs.declared.identity.Identity.{Identity as IdentityOf};
 ghost use Rattle.lq_server_slots.specs.Slots.{AreConsistent, KeepsSlots, IsSlotMet, SameButKnown, slot_in};
@@ -10,7 +10,7 @@ ghost use Rattle.lq_server_slots.specs.Progress.{ShowsProgress};
 
 use crate::fill_port::drain;
 use crate::ghost_copy::GhostCopy;
-use crate::identity::{Identity, Told};
+use crate::identity::{Identity, LastReport};
 use crate::reading::Reading;
 use crate::server_base::Named;
 use crate::server_state::ServerState;
@@ -34,7 +34,7 @@ pub struct Progress {
 
 // The number of changes in the keeper's book, which a slot's seat then knows. The seat gets a name
 // given for contracts alone, which is this subscription's.
-pub(crate) fn meet_under(
+pub(crate) fn refresh_slot(
     board: &Board<Identity>,
     keeper: &mut Keeper<Identity>,
     seat: &mut Seat<Identity>,
@@ -53,9 +53,9 @@ pub(crate) fn meet_under(
     board.meet_slot(keeper, seat)
 }
 
-// As `meet_under`, for the subscription in the seat's slot, which is taken. The seat keeps its
+// As `refresh_slot`, for the subscription in the seat's slot, which is taken. The seat keeps its
 // name.
-pub(crate) fn meet_slot_at(
+pub(crate) fn refresh(
     board: &Board<Identity>,
     slots: &mut ServerSlots,
     seat: &mut Seat<Identity>,
@@ -77,12 +77,12 @@ pub(crate) fn meet_slot_at(
 
 // What a sync answers its reader after this many changes, where this many parcels were taken: that
 // the subscription is live, or how it ended.
-fn told_after(change: u64, seen: u64, mark: Option<Mark>) -> Told
-    ensures { result ≡ told_by change seen mark }
+fn report_after(change: u64, seen: u64, mark: Option<Mark>) -> LastReport
+    ensures { result ≡ report_of change seen mark }
 {
     match mark {
-        None => Told::Live { change, seen },
-        Some(mark) => Told::Ended(mark),
+        None => LastReport::Live { change, seen },
+        Some(mark) => LastReport::Ended(mark),
     }
 }
 
@@ -103,7 +103,7 @@ fn sync_at<R: Wait>(
     ensures progress { (s : SubscriptionOf)
         × ShowsProgress s seat.old seat.new reading.old reading.new result }
 {
-    let number = meet_slot_at(board, slots, seat);
+    let number = refresh(board, slots, seat);
     let Some(index) = SlotIndex::of(seat.slot()) else {
         unreachable!()
     };
@@ -114,8 +114,8 @@ fn sync_at<R: Wait>(
     notice_slot(board, keeper, taken, index, number);
     let waiting = drain(rt, keeper, taken, reading);
     let mark = taken.sub.mark();
-    taken.told = GhostCopy::of(&told_after(number, reading.taken(), mark));
-    meet_under(board, keeper, seat, taken);
+    taken.last_report = GhostCopy::of(&report_after(number, reading.taken(), mark));
+    refresh_slot(board, keeper, seat, taken);
     Progress {
         change: number,
         waiting,

@@ -1,4 +1,4 @@
-use Rattle.lq_server_slots.specs.Slots.{IsNoticed, IsReadyAt, SlotIs}
+use Rattle.lq_server_slots.specs.Slots.{IsNoticed, HasPreparedAt, SlotIs}
 use Rattle.std.proofs.Common.{arith, rules, ◌+◌}
 use Rattle.lq_server_slots.proofs.TakenLemmas.{outside_taken}
 use Rattle.lq_board.specs.Slot.{slot_at}
@@ -13,7 +13,7 @@ returns-then-is_empty c =
     let taken = c.taken.ensures.taken in
     record {
       lawful = c.in_ok-check.ensures.ok;
-      ready = λ i low. outside_taken (λ o. IsReadyAt o c.args.volume.now c.args.change.now) _ items
+      prepared = λ i low. outside_taken (λ o. HasPreparedAt o c.args.volume.now c.args.change.now) _ items
           i taken (none i) tt;
       noticed = λ i low. outside_taken
           (λ o. SlotIs IsNoticed o (slot_at slots.keeper.slots (i + 1))) _ items i taken (none i)

@@ -1,5 +1,5 @@
 use Rattle.lq_server_slots.proofs.change_passes.commit_all.Given.{Over}
-use Rattle.lq_server_slots.specs.Slots.{AreConsistent, IsReadyAt, IsServed, SlotsAre, before_of}
+use Rattle.lq_server_slots.specs.Slots.{AreConsistent, HasPreparedAt, IsServed, SlotsAre, before_of}
 use Rattle.std.proofs.Common.{Option, Some, ap, arith, subst}
 use Rattle.lq_server_slots.specs.declared.subscription.Subscription.{Subscription}
 use Rattle.lq_server_slots.proofs.TakenLemmas.{all_served, noticed_at}
@@ -17,9 +17,9 @@ visit-requires g c = record {
       record {
         grown = r.grown;
         stood = noticed_at slots (before_of slots.keeper.book) i x r.holding r.noticed found;
-        ready = subst (λ (o : Option Subscription).
-            IsReadyAt o (state_of (before_of slots.keeper.book)) c.args.change.now)
-            (ap option_flatten found) (r.ready i (omega (arith, low, r.holding.wide)));
+        prepared = subst (λ (o : Option Subscription).
+            HasPreparedAt o (state_of (before_of slots.keeper.book)) c.args.change.now)
+            (ap option_flatten found) (r.prepared i (omega (arith, low, r.holding.wide)));
       };
 }
 

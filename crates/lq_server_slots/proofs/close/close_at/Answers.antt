@@ -5,13 +5,13 @@ use Rattle.lq_server_slots.proofs.close.close_at.Goals as goal
 
 pub notice_slot-requires-clause-taken : goal.notice_slot-requires-clause-taken
 notice_slot-requires-clause-taken c =
-    let mid = c.meet_slot_at-number.new.slots in
-    taken_at mid mid.keeper.book c.in-Some.index.index _ c.meet_slot_at-number.ensures.holding
+    let mid = c.refresh-number.new.slots in
+    taken_at mid mid.keeper.book c.in-Some.index.index _ c.refresh-number.ensures.holding
     c.in-Some.index.within c.in-Some-get_mut.ensures.value
 
 pub returns-clause-closed : goal.returns-clause-closed
 returns-clause-closed c =
-    let m = c.meet_slot_at-number in
+    let m = c.refresh-number in
     let at = c.in-Some.ensures ∙ c.slot.ensures.value in
     let name = seat_named m.new.slots c.in-Some.index.index c.in-Some-get_mut.taken.now
     c.args.seat.now m.new.seat _ m.ensures.holding c.in-Some.index.within
@@ -22,11 +22,11 @@ returns-clause-closed c =
 
 pub returns-clause-keeps : goal.returns-clause-keeps
 returns-clause-keeps c =
-    let m = c.meet_slot_at-number in
+    let m = c.refresh-number in
     let at = c.in-Some.ensures ∙ c.slot.ensures.value in
     let n = c.notice_slot.ensures in
     let f = c.close-closed.ensures in
-    let u = c.meet_under in
+    let u = c.refresh_slot in
     let taken = rw at at n.taken in
     let book = c.notice_slot.new.keeper.book in
     slots_kept-taken c.args.slots.now m.new.slots u.new.keeper c.in-Some.index.index

@@ -17,7 +17,7 @@ returns-clause-holding c =
       input = c.args.slot.input;
       places = c.args.slot.places;
       asks = c.asks-asks.result;
-      told = c.args.slot.told;
+      last_report = c.args.slot.last_report;
       first_close = c.args.slot.first_close;
     } in
     let keeper = c.asks-asks.ensures.keeper in

@@ -9,13 +9,13 @@ use Rattle.lq_server_slots.proofs.sync.sync_at.Goals as goal
 
 pub notice_slot-requires-clause-taken : goal.notice_slot-requires-clause-taken
 notice_slot-requires-clause-taken g c =
-    let mid = c.meet_slot_at-number.new.slots in
-    taken_at mid mid.keeper.book c.in-Some.index.index _ c.meet_slot_at-number.ensures.holding
+    let mid = c.refresh-number.new.slots in
+    taken_at mid mid.keeper.book c.in-Some.index.index _ c.refresh-number.ensures.holding
     c.in-Some.index.within c.in-Some-get_mut.ensures.value
 
 pub drain-waiting-requires-clause-port : goal.drain-waiting-requires-clause-port
 drain-waiting-requires-clause-port g c =
-    let m = c.meet_slot_at-number in
+    let m = c.refresh-number in
     let x = c.in-Some-get_mut.taken.now in
     let name = seat_named m.new.slots c.in-Some.index.index x c.args.seat.now m.new.seat _
     m.ensures.holding c.in-Some.index.within c.in-Some-get_mut.ensures.value m.ensures.met
@@ -25,11 +25,11 @@ drain-waiting-requires-clause-port g c =
 
 pub returns-clause-keeps : goal.returns-clause-keeps
 returns-clause-keeps g c =
-    let m = c.meet_slot_at-number in
+    let m = c.refresh-number in
     let at = c.in-Some.ensures ∙ c.slot.ensures.value in
     let n = c.notice_slot.ensures in
     let d = c.drain-waiting in
-    let u = c.meet_under in
+    let u = c.refresh_slot in
     slots_kept-taken c.args.slots.now m.new.slots u.new.keeper c.in-Some.index.index
     c.in-Some-get_mut.taken.now _
     (kept_known c.args.slots.now m.new.slots m.ensures.same m.ensures.holding)
@@ -46,12 +46,12 @@ returns-clause-keeps g c =
 
 pub returns-clause-seat : goal.returns-clause-seat
 returns-clause-seat g c =
-    ap (λ (s : SeatToken Identity). s.book) c.meet_under.ensures.seat
-    ∙ c.notice_slot.ensures.keeper.book ∙ c.meet_slot_at-number.ensures.met.keeper.book
+    ap (λ (s : SeatToken Identity). s.book) c.refresh_slot.ensures.seat
+    ∙ c.notice_slot.ensures.keeper.book ∙ c.refresh-number.ensures.met.keeper.book
 
 pub returns-clause-progress : goal.returns-clause-progress
 returns-clause-progress g c =
-    let m = c.meet_slot_at-number in
+    let m = c.refresh-number in
     let at = c.in-Some.ensures ∙ c.slot.ensures.value in
     let name = seat_named m.new.slots c.in-Some.index.index c.in-Some-get_mut.taken.now
     c.args.seat.now m.new.seat _ m.ensures.holding c.in-Some.index.within

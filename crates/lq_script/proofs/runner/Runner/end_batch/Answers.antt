@@ -8,14 +8,14 @@ returns-then-is_empty-clause-carried g c = carries_none _ _
 
 pub returns-then-is_err-clause-carried : goal.returns-then-is_err-clause-carried
 returns-then-is_err-clause-carried g c =
-    carries_kept _ _ c.read-told.ensures.seat refl
-    (when_err c.read-told.result (sym c.is_err.ensures.value ∙ c.if-is_err.true)
-    c.read-told.ensures.err)
+    carries_kept _ _ c.read-appended.ensures.seat refl
+    (when_err c.read-appended.result (sym c.is_err.ensures.value ∙ c.if-is_err.true)
+    c.read-appended.ensures.err)
 
 pub returns-clause-carried : goal.returns-clause-carried
 returns-clause-carried g c =
-    carries_reads c.write_replies.result _ _ c.read-told.new.out.items
-    c.read-told.ensures.seat
-    (when_ok c.read-told.result (sym c.is_err.ensures.value ∙ c.if-is_err.false)
-    c.read-told.ensures.ok)
+    carries_reads c.write_replies.result _ _ c.read-appended.new.out.items
+    c.read-appended.ensures.seat
+    (when_ok c.read-appended.result (sym c.is_err.ensures.value ∙ c.if-is_err.false)
+    c.read-appended.ensures.ok)
     c.write_replies.ensures.put

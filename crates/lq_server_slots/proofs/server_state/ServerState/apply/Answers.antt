@@ -15,8 +15,8 @@ commit_all-requires-clause-grown g c =
     grown_is c.self.inside.slots.keeper.book c.add.new.slots.keeper.book c.args.change.now a.made.ok
     (rw i.1 at a.lawful) a.full
 
-pub commit_all-requires-clause-ready : goal.commit_all-requires-clause-ready
-commit_all-requires-clause-ready g c = search (rules, arith, before_is)
+pub commit_all-requires-clause-prepared : goal.commit_all-requires-clause-prepared
+commit_all-requires-clause-prepared g c = search (rules, arith, before_is)
 
 pub commit_all-requires-clause-holding : goal.commit_all-requires-clause-holding
 commit_all-requires-clause-holding g c =

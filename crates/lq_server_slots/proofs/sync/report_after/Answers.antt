@@ -1,5 +1,5 @@
 use Rattle.std.proofs.Common.{refl}
-use Rattle.lq_server_slots.proofs.sync.told_after.Goals as goal
+use Rattle.lq_server_slots.proofs.sync.report_after.Goals as goal
 
 pub returns-in-None : goal.returns-in-None
 returns-in-None c = rw c.in-None.is refl

@@ -2,7 +2,7 @@ use Rattle.lq_server_slots.proofs.TakenLemmas.{all_prepared, noticed_at}
 use Rattle.std.proofs.Common.{refl, arith, rules}
 use Rattle.lq_server_slots.proofs.CommitLemmas.{few_sent}
 use Rattle.lq_server_slots.proofs.TableLemmas.{slots_kept-on}
-use Rattle.lq_server_slots.proofs.change_passes.ready_all.Goals as goal
+use Rattle.lq_server_slots.proofs.change_passes.prepare_all.Goals as goal
 
 pub notice_all-requires-clause-number : goal.notice_all-requires-clause-number
 notice_all-requires-clause-number c =
@@ -27,7 +27,7 @@ returns-then-full c =
     c.visit.ensures.visits in
     record {
       lawful = tt;
-      ready = tt;
+      prepared = tt;
       noticed = tt;
       keeps = slots_kept-on c.args.slots.now c.notice_all.new.slots c.visit.new.self n.keeps p.0;
       rises = n.rises;
@@ -42,7 +42,7 @@ returns c =
     c.visit.ensures.visits in
     record {
       lawful = c.requires.lawful;
-      ready = p.2 c.if-full.false;
+      prepared = p.2 c.if-full.false;
       noticed = p.1;
       keeps = slots_kept-on c.args.slots.now c.notice_all.new.slots c.visit.new.self n.keeps p.0;
       rises = n.rises;

@@ -1,7 +1,7 @@
 use Rattle.lq_server_slots.specs.Slots.{AreConsistent, IsSlotMet, slot_in}
 use Rattle.std.proofs.Common.{IsSome, arith, sym, ℕ, ◌+◌, ◌∙◌, ◌≡◌}
 use Rattle.lq_server_slots.proofs.SyncLemmas.{slot_met_same, slots_met}
-use Rattle.lq_server_slots.proofs.sync.meet_slot_at.Goals as goal
+use Rattle.lq_server_slots.proofs.sync.refresh.Goals as goal
 
 -- the seat met the keeper
 met : (c : goal.After-meet_slot)
