@@ -114,10 +114,12 @@ pub without_memory : {R W F : Type 0} (words : List (List ℕ)) (status : ℕ) (
     (writer : W) (faults faults' : F) (left written : Option (List ℕ))
     (failed failed' stalled flushed : Bool) (reported : WriterLog) → status ≡ 1
     → failed ≡ false → stalled ≡ false → TellsLine (transcript_of reader reader writer writer faults
-    faults' (log_of_reader left left failed) (log_of_writer written written failed' stalled flushed) reported)
+    faults' (log_of_reader left left failed) (log_of_writer written written failed' stalled
+    flushed) reported)
     (fault_line Memory)
     → IsOutcome words status (transcript_of reader reader writer writer faults faults'
-    (log_of_reader left left failed) (log_of_writer written written failed' stalled flushed) reported)
+    (log_of_reader left left failed) (log_of_writer written written failed' stalled flushed)
+    reported)
 without_memory words status reader writer faults faults' left written failed failed' stalled flushed
     reported one works moves line = record {
       at_most = omega arith;

@@ -37,7 +37,8 @@ transcript_of reader reader' writer writer' faults faults' read wrote reported =
 
 -- a line went to standard error
 abbrev pub TellsLine : {R W F : Type 0} → Transcript R W F → List ℕ → Type 0
-TellsLine t line = WritesOrFails line t.reported.written t.reported.written' t.reported.failed t.reported.stalled
+TellsLine t line = WritesOrFails line t.reported.written t.reported.written' t.reported.failed
+    t.reported.stalled
 
 -- a fault went there, and the streams are as this fault says
 pub record TellsFault {R W F : Type 0} (t : Transcript R W F) : Type 0 where

@@ -40,10 +40,12 @@ name_of_own : (r : ReaderHold) (t : Identity) (e : End Delivery Opening) → IsO
 name_of_own r t e own name port = grind arith
 
 -- a reader stays own, whatever its seat's name says of what was last reported and of a close
-pub own_renamed : (r : ReaderHold) (seat : SeatToken Identity) (reading : ReadingHold) (last_report : LastReport)
+pub own_renamed : (r : ReaderHold) (seat : SeatToken Identity) (reading : ReadingHold)
+    (last_report : LastReport)
     (first_close : FirstClose) → IsOwn r → IsSamePort r.reading.port reading.port
     → seat ≡ record r.seat { book = seat.book; name = seat.name }
-    → seat.name ≡ Some (record (name_or r.seat.name) { last_report = last_report; first_close = first_close })
+    → seat.name ≡ Some (record (name_or r.seat.name)
+    { last_report = last_report; first_close = first_close })
     → IsOwn (record r { reading = reading; seat = seat })
 own_renamed r seat reading last_report first_close own port same name = grind arith
 
@@ -275,7 +277,8 @@ module _ (s : Subscription) (old : ReaderHold) (seat : SeatToken Identity) (read
         received_stays = received_same;
         seat = lv.seat;
         name = name;
-        still = at_name (λ t. StaysTrue t.last_report h.mark (length seat.book.changes)) lv.stands.still;
+        still = at_name (λ t. StaysTrue t.last_report h.mark (length seat.book.changes))
+            lv.stands.still;
         later = lv.later;
         knows = knows;
         lawful = lv.stands.full;
@@ -305,6 +308,7 @@ module _ (s : Subscription) (old : ReaderHold) (seat : SeatToken Identity) (read
             at_name (λ t. FirstCloseFits t.first_close h.mark) lv.stands.first_close;
         overrun = at_name (λ t. IfSome h.mark (λ k.
             k.cause ≡ Overrun
-            → IsOverrun t.query t.moved t.opened t.places t.backlog (seen_of t.last_report) seat.book
+            → IsOverrun t.query t.moved t.opened t.places t.backlog (seen_of t.last_report)
+            seat.book
             k.change)) lv.stands.overrun;
       })

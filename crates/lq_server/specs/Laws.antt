@@ -23,7 +23,8 @@ WaitingReadsAnswer =
 -- the subscription with this name has overrun over this book
 pub record HasOverrun (t : Identity) (book : Book) : Type 0 where
   pub change : ℕ
-  pub overrun : IsOverrun t.query t.moved t.opened t.places t.backlog (seen_of t.last_report) book change
+  pub overrun : IsOverrun t.query t.moved t.opened t.places t.backlog (seen_of t.last_report) book
+      change
 
 -- A first close is refused only where the reader asked for the end, or where its subscription has
 -- overrun.

@@ -50,106 +50,109 @@ over_longer q mv o places backlog seen book book' e full p le over =
     grind arith
 
 module _ (h : Held) (e : End Delivery Opening) (places : ℕ) (last_report : LastReport)
-    (first_close : FirstClose) (book : Book) (s : Stands h e places last_report first_close book) where
-  -- an ended one stands over each longer book
-  pub longer_marked : (book' : Book) (k : Mark) → Extends book' book → IsFullBook book'
-      → h.mark ≡ Some k → Stands h e places last_report first_close book'
-  longer_marked book' k p full mark =
-      let fits = rw mark at s.mark in
-      let opened = rw mark at s.opened in
-      let long = extends_length book book' p in
-      let later = extends_trans (known_by e.floor (all_put e)) book book' s.later p in
-      let same =
-      updates-same h.query h.moved book book' h.opened k.change s.full.first p opened fits.1 in
-      let over : k.cause ≡ Overrun
-      → IsOverrun h.query h.moved h.opened places h.backlog (seen_of last_report) book' k.change =
-      λ c. over_longer h.query h.moved h.opened places h.backlog (seen_of last_report) book book' k.change
-      s.full p opened ((rw mark at s.overrun) c) in
-      grind arith
-
-  module _ (live : h.mark ≡ None) where
-    -- what was given is all updates of the book so far
-    old_is : messages_given h e ≡ updates h.query h.moved book h.opened (length book.changes)
-    old_is = rw live at s.list
-
-    -- the opening is within the book
-    opened_is : h.opened ≤ length book.changes
-    opened_is = rw live at s.opened
-
-    -- it ends by an overrun, in a book that goes on from this one
-    overran : (book' : Book) → Extends book' book → IsFullBook book'
-        → IsOverrun h.query h.moved h.opened places h.backlog (seen_of last_report) book'
-        (length book.changes)
-        → Stands (ended_by h Overrun (length book.changes)) e places last_report first_close book'
-    overran book' p full over =
+    (first_close : FirstClose) (book : Book) (s : Stands h e places last_report first_close book)
+  where
+    -- an ended one stands over each longer book
+    pub longer_marked : (book' : Book) (k : Mark) → Extends book' book → IsFullBook book'
+        → h.mark ≡ Some k → Stands h e places last_report first_close book'
+    longer_marked book' k p full mark =
+        let fits = rw mark at s.mark in
+        let opened = rw mark at s.opened in
         let long = extends_length book book' p in
         let later = extends_trans (known_by e.floor (all_put e)) book book' s.later p in
         let same =
-        updates-same h.query h.moved book book' h.opened (length book.changes) s.full.first p
-        opened_is (omega arith) in
-        let old = old_is in
-        let opened = opened_is in
+        updates-same h.query h.moved book book' h.opened k.change s.full.first p opened fits.1 in
+        let over : k.cause ≡ Overrun
+        → IsOverrun h.query h.moved h.opened places h.backlog (seen_of last_report) book' k.change =
+        λ c. over_longer h.query h.moved h.opened places h.backlog (seen_of last_report) book book'
+        k.change
+        s.full p opened ((rw mark at s.overrun) c) in
         grind arith
 
-    module _ (c : Change) (full' : IsFullBook (grown book (c ∷ [])))
-        (three : length (step_of h.query h.moved (state_of book) c (h.sent + 1)) ≤ 3) where
-      -- the updates of the change
-      abbrev more : List Message
-      more = step_of h.query h.moved (state_of book) c (h.sent + 1)
+    module _ (live : h.mark ≡ None) where
+      -- what was given is all updates of the book so far
+      old_is : messages_given h e ≡ updates h.query h.moved book h.opened (length book.changes)
+      old_is = rw live at s.list
 
-      -- the book with the change
-      abbrev book' : Book
-      book' = grown book (c ∷ [])
+      -- the opening is within the book
+      opened_is : h.opened ≤ length book.changes
+      opened_is = rw live at s.opened
 
-      -- the book is longer by the change
-      long : length book'.changes ≡ length book.changes + 1
-      long = length-append book.changes (c ∷ [])
-
-      -- the updates of the longer book are what was given and those of the change
-      now : updates h.query h.moved book' h.opened (length book.changes + 1)
-          ≡ messages_given h e ++ more
-      now =
-          rw (updates-add h.query h.moved book c h.opened s.full.first opened_is, ← old_is, s.sent)
-
-      -- with the change's updates held, the subscription stands over the longer book
-      goes_on : length h.messages + length more ≤ h.backlog
-          → Stands (with_messages h more) e places last_report first_close book'
-      goes_on room =
-          let later =
-          extends_trans (known_by e.floor (all_put e)) book book' s.later (c ∷ [], refl) in
-          let all : messages_given (with_messages h more) e ≡ messages_given h e ++ more =
-          sym (append_assoc (messages_in (all_put e)) h.messages more) in
-          let count = length-append (messages_given h e) more in
-          let held = length-append h.messages more in
-          let one = long in
-          let list = now in
+      -- it ends by an overrun, in a book that goes on from this one
+      overran : (book' : Book) → Extends book' book → IsFullBook book'
+          → IsOverrun h.query h.moved h.opened places h.backlog (seen_of last_report) book'
+          (length book.changes)
+          → Stands (ended_by h Overrun (length book.changes)) e places last_report first_close book'
+      overran book' p full over =
+          let long = extends_length book book' p in
+          let later = extends_trans (known_by e.floor (all_put e)) book book' s.later p in
+          let same =
+          updates-same h.query h.moved book book' h.opened (length book.changes) s.full.first p
+          opened_is (omega arith) in
+          let old = old_is in
           let opened = opened_is in
           grind arith
 
-      module _ (filled : 0 < length h.messages
-          → places + seen_of last_report ≤ length (messages_in (all_put e))) where
-        -- more updates than the backlog takes are an overrun
-        over_is : 0 < length more → h.backlog < length h.messages + length more
-            → IsOverrun h.query h.moved h.opened places h.backlog (seen_of last_report) book'
-            (length book.changes)
-        over_is some many =
-            let front =
-            updates-same h.query h.moved book book' h.opened (length book.changes) s.full.first
-            (c ∷ [], refl) opened_is (omega arith) ∙ sym old_is in
-            let count = length-append (messages_in (all_put e)) h.messages in
-            let after = length-append (messages_given h e) more in
+      module _ (c : Change) (full' : IsFullBook (grown book (c ∷ [])))
+          (three : length (step_of h.query h.moved (state_of book) c (h.sent + 1)) ≤ 3) where
+        -- the updates of the change
+        abbrev more : List Message
+        more = step_of h.query h.moved (state_of book) c (h.sent + 1)
+
+        -- the book with the change
+        abbrev book' : Book
+        book' = grown book (c ∷ [])
+
+        -- the book is longer by the change
+        long : length book'.changes ≡ length book.changes + 1
+        long = length-append book.changes (c ∷ [])
+
+        -- the updates of the longer book are what was given and those of the change
+        now : updates h.query h.moved book' h.opened (length book.changes + 1)
+            ≡ messages_given h e ++ more
+        now =
+            rw (updates-add h.query h.moved book c h.opened s.full.first opened_is, ← old_is, s.sent)
+
+        -- with the change's updates held, the subscription stands over the longer book
+        goes_on : length h.messages + length more ≤ h.backlog
+            → Stands (with_messages h more) e places last_report first_close book'
+        goes_on room =
+            let later =
+            extends_trans (known_by e.floor (all_put e)) book book' s.later (c ∷ [], refl) in
+            let all : messages_given (with_messages h more) e ≡ messages_given h e ++ more =
+            sym (append_assoc (messages_in (all_put e)) h.messages more) in
+            let count = length-append (messages_given h e) more in
+            let held = length-append h.messages more in
             let one = long in
             let list = now in
+            let opened = opened_is in
             grind arith
 
-        -- the subscription stands after the change, by whether it overruns
-        pub by_test : (b : Bool) → overruns h more ≡ b
-            → Stands (after_messages_by h more (length book.changes) b) e places last_report first_close
-            book'
-        by_test true test =
-            let t = overrun_test h more test in
-            overran book' (c ∷ [], refl) full' (over_is t.0 t.1)
-        by_test false test = goes_on (room_left h more test s.bounded)
+        module _ (filled : 0 < length h.messages
+            → places + seen_of last_report ≤ length (messages_in (all_put e))) where
+          -- more updates than the backlog takes are an overrun
+          over_is : 0 < length more → h.backlog < length h.messages + length more
+              → IsOverrun h.query h.moved h.opened places h.backlog (seen_of last_report) book'
+              (length book.changes)
+          over_is some many =
+              let front =
+              updates-same h.query h.moved book book' h.opened (length book.changes) s.full.first
+              (c ∷ [], refl) opened_is (omega arith) ∙ sym old_is in
+              let count = length-append (messages_in (all_put e)) h.messages in
+              let after = length-append (messages_given h e) more in
+              let one = long in
+              let list = now in
+              grind arith
+
+          -- the subscription stands after the change, by whether it overruns
+          pub by_test : (b : Bool) → overruns h more ≡ b
+              → Stands (after_messages_by h more (length book.changes) b) e places last_report
+              first_close
+              book'
+          by_test true test =
+              let t = overrun_test h more test in
+              overran book' (c ∷ [], refl) full' (over_is t.0 t.1)
+          by_test false test = goes_on (room_left h more test s.bounded)
 
 -- a new one
 pub stands_new : (q : Query) (mv : Bool) (backlog : ℕ) (e : End Delivery Opening) (places : ℕ)
@@ -173,18 +176,21 @@ pub none_there : (o : Option Mark) → is_none o ≡ true → o ≡ None
 none_there o e = grind arith
 
 -- the messages of a change are made
-pub prepared_of : (s : State) (c : Change) (p q : Prepared) → q ≡ prepared_for s c p → HasPrepared q s c
+pub prepared_of : (s : State) (c : Change) (p q : Prepared) → q ≡ prepared_for s c p → HasPrepared
+    q s c
 prepared_of s c p q e = rw e (λ _. (refl, refl))
 
 -- a commit makes it stand over the book with the change
-pub committed_stands : (p q : Prepared) (e : End Delivery Opening) (places : ℕ) (last_report : LastReport)
+pub committed_stands : (p q : Prepared) (e : End Delivery Opening) (places : ℕ)
+    (last_report : LastReport)
     (first_close : FirstClose) (book : Book) (c : Change) → p.held.mark ≡ None
     → q ≡ committed p → StepsAreFew
     → (0 < length p.held.messages → places + seen_of last_report ≤ length (messages_in (all_put e)))
     → Stands p.held e places last_report first_close book → HasPrepared p (state_of book) c
     → IsLawful (state_of book) c → IsFullBook (grown book (c ∷ []))
     → Stands q.held e places last_report first_close (grown book (c ∷ []))
-committed_stands p q e places last_report first_close book c live is few filled s prepared lawful full =
+committed_stands p q e places last_report first_close book c live is few filled s prepared lawful
+    full =
     let r = prepared live in
     subst (λ (h : Held). Stands h e places last_report first_close (grown book (c ∷ [])))
     (sym (ap (λ (z : Prepared). z.held) is
@@ -195,6 +201,7 @@ committed_stands p q e places last_report first_close book c live is few filled 
 
 -- a subscription stands on once its reader is told
 pub told_now : (h : Held) (e : End Delivery Opening) (places : ℕ) (last_report : LastReport)
-    (first_close : FirstClose) (book : Book) (seen : ℕ) → Stands h e places last_report first_close book
+    (first_close : FirstClose) (book : Book) (seen : ℕ) → Stands h e places last_report first_close
+    book
     → Stands h e places (report_of (length book.changes) seen h.mark) first_close book
 told_now h e places last_report first_close book seen s = grind arith

@@ -46,7 +46,8 @@ pub begun_new : NewSubscriptionsStand → (s : Subscription) (r : ReadingHold) (
     → floor_of g ≡ book → s.input.taken ≡ [] → s.input.ahead ≡ [] → IsFullBook book
     → r.port ≡ s.input → r.hand ≡ None → r.result ≡ opened_at at (result_of q (state_of book))
     → IsNewSubscription s r book q mv port backlog
-begun_new stand s r book q mv port backlog at g held number places last_report first_close ports opening_at
+begun_new stand s r book q mv port backlog at g held number places last_report first_close ports
+    opening_at
     query moved opened floor taken ahead full end hand result =
     let stands : IsConsistentAt s book =
     rw (held, last_report, first_close, number)
@@ -161,7 +162,8 @@ module _ {T U : Type 0} (f : T → ℕ) (g : U → ℕ) (slots : ServerSlots) (l
           table = a.table;
           free = tt;
           lowest = tt;
-          refused = same_refused T U (size_refusal port backlog) e (Err e) (Err e) refl refl a.refused;
+          refused = same_refused T U (size_refusal port backlog) e (Err e) (Err e) refl refl
+              a.refused;
           others = a.others;
         }
 

@@ -48,69 +48,70 @@ next_is : (h : Held) (p : Parcel) → next_parcel h ≡ Some p
 next_is h p next = grind arith
 
 module _ (h : Held) (d : End Delivery Opening) (places : ℕ) (last_report : LastReport)
-    (first_close : FirstClose) (book : Book) (s : Stands h d places last_report first_close book) where
-  -- the mark's change is within the book
-  upto_within : upto h.mark (length book.changes) ≤ length book.changes
-  upto_within = grind arith
+    (first_close : FirstClose) (book : Book) (s : Stands h d places last_report first_close book)
+  where
+    -- the mark's change is within the book
+    upto_within : upto h.mark (length book.changes) ≤ length book.changes
+    upto_within = grind arith
 
-  -- the first message held is the next update of the book
-  tells_update : (m : Message) → h.messages ≡ m ∷ drop 1 h.messages
-      → Tells d.floor (messages_in (all_put d)) book (Update m)
-  tells_update m held =
-      rw (s.query, s.moves, s.opening)
-      (prefix_trans _ _ _ (drop 1 h.messages, rw append_assoc (rw held at s.list))
-      (updates-front h.query h.moved book h.opened (upto h.mark (length book.changes))
-      (length book.changes) upto_within))
+    -- the first message held is the next update of the book
+    tells_update : (m : Message) → h.messages ≡ m ∷ drop 1 h.messages
+        → Tells d.floor (messages_in (all_put d)) book (Update m)
+    tells_update m held =
+        rw (s.query, s.moves, s.opening)
+        (prefix_trans _ _ _ (drop 1 h.messages, rw append_assoc (rw held at s.list))
+        (updates-front h.query h.moved book h.opened (upto h.mark (length book.changes))
+        (length book.changes) upto_within))
 
-  -- a mark that is held, with no message before it, is the mark of what was put
-  tells_mark : (k : Mark) → h.messages ≡ [] → h.mark ≡ Some k
-      → IsMark d.floor (messages_in (all_put d)) book k
-  tells_mark k none some =
-      let all = rw (none, append-nil, some) at s.list in
-      let mark = rw some at s.mark in
-      record {
-        all = rw (s.query, s.moves, s.opening) all;
-        seq = grind (arith, append-nil);
-        opened = grind arith;
-        within = mark.1;
-      }
+    -- a mark that is held, with no message before it, is the mark of what was put
+    tells_mark : (k : Mark) → h.messages ≡ [] → h.mark ≡ Some k
+        → IsMark d.floor (messages_in (all_put d)) book k
+    tells_mark k none some =
+        let all = rw (none, append-nil, some) at s.list in
+        let mark = rw some at s.mark in
+        record {
+          all = rw (s.query, s.moves, s.opening) all;
+          seq = grind (arith, append-nil);
+          opened = grind arith;
+          within = mark.1;
+        }
 
-  -- while a parcel is next, no mark was put
-  unput : (p : Parcel) → next_parcel h ≡ Some p → mark_in (all_put d) ≡ None
-  unput p next = grind arith
+    -- while a parcel is next, no mark was put
+    unput : (p : Parcel) → next_parcel h ≡ Some p → mark_in (all_put d) ≡ None
+    unput p next = grind arith
 
-  -- the next parcel is the one that the book tells
-  tells : (p : Parcel) → next_parcel h ≡ Some p → Tells d.floor (messages_in (all_put d)) book p
-  tells p next =
-      ⊎_elim (λ u. rw u.1 (tells_update u.0 u.2)) (λ f. rw f.1 (tells_mark f.0 f.2 f.3))
-      (next_is h p next)
+    -- the next parcel is the one that the book tells
+    tells : (p : Parcel) → next_parcel h ≡ Some p → Tells d.floor (messages_in (all_put d)) book p
+    tells p next =
+        ⊎_elim (λ u. rw u.1 (tells_update u.0 u.2)) (λ f. rw f.1 (tells_mark f.0 f.2 f.3))
+        (next_is h p next)
 
-  -- the next parcel may be put
-  pub may_put : (p : Parcel) (x : Delivery) → next_parcel h ≡ Some p → x.what ≡ p → book_of x ≡ book
-      → MayFollow (all_put d) d.floor x
-  may_put p x next is at =
-      let open_yet = unput p next in let open_next = tells p next in grind arith
+    -- the next parcel may be put
+    pub may_put : (p : Parcel) (x : Delivery) → next_parcel h ≡ Some p → x.what ≡ p → book_of x ≡ book
+        → MayFollow (all_put d) d.floor x
+    may_put p x next is at =
+        let open_yet = unput p next in let open_next = tells p next in grind arith
 
-  module _ (e : End Delivery Opening) (p : Parcel) (x : Delivery) (next : next_parcel h ≡ Some p)
-      (is : x.what ≡ p) (at : book_of x ≡ book) (port : IsSamePort d e) (gains : Gains d x e) where
-    -- the parcel is the last of all that was put
-    all_then : all_put e ≡ all_put d ++ x ∷ []
-    all_then = rw (gains.0, gains.1, append_assoc)
+    module _ (e : End Delivery Opening) (p : Parcel) (x : Delivery) (next : next_parcel h ≡ Some p)
+        (is : x.what ≡ p) (at : book_of x ≡ book) (port : IsSamePort d e) (gains : Gains d x e) where
+      -- the parcel is the last of all that was put
+      all_then : all_put e ≡ all_put d ++ x ∷ []
+      all_then = rw (gains.0, gains.1, append_assoc)
 
-    -- what was given stays: one parcel more is put, one less is held
-    given_then : messages_given (without_parcel h (Some p)) e ≡ messages_given h d
-    given_then =
-        rw (all_then, messages_in-snoc, is, append_assoc, parcel_then h p next)
+      -- what was given stays: one parcel more is put, one less is held
+      given_then : messages_given (without_parcel h (Some p)) e ≡ messages_given h d
+      given_then =
+          rw (all_then, messages_in-snoc, is, append_assoc, parcel_then h p next)
 
-    -- a parcel was put, and the list of what is put and held stays
-    put_stands : Stands (without_parcel h (Some p)) e places last_report first_close book
-    put_stands =
-        let later : Extends book (known_by e.floor (all_put e)) =
-        rw (all_then, last_book-snoc, at) (extends_self book) in
-        let out : mark_in (all_put e) ≡ mark_or p None =
-        rw (all_then, mark_in-append (all_put d) (x ∷ []) (unput p next), is) in
-        let given = given_then in
-        grind arith
+      -- a parcel was put, and the list of what is put and held stays
+      put_stands : Stands (without_parcel h (Some p)) e places last_report first_close book
+      put_stands =
+          let later : Extends book (known_by e.floor (all_put e)) =
+          rw (all_then, last_book-snoc, at) (extends_self book) in
+          let out : mark_in (all_put e) ≡ mark_or p None =
+          rw (all_then, mark_in-append (all_put d) (x ∷ []) (unput p next), is) in
+          let given = given_then in
+          grind arith
 
 -- what a put of a parcel leaves of a subscription
 pub record IsPut (s t : Subscription) (book : Book) : Type 0 where
@@ -129,12 +130,14 @@ put_ok s sub e p x book stands next rest is at port gains =
     let held = rw next at rest in
     let same = same_held h p in
     let given =
-    given_then h s.input s.places s.last_report.value s.first_close book stands e p x next is at port
+    given_then h s.input s.places s.last_report.value s.first_close book stands e p x next is at
+    port
     gains in
     let left = left_then h p next in
     record {
       stands = rw held
-          (put_stands h s.input s.places s.last_report.value s.first_close book stands e p x next is at
+          (put_stands h s.input s.places s.last_report.value s.first_close book stands e p x next
+          is at
           port gains);
       alike = grind arith;
       less = rw held left;
@@ -199,7 +202,8 @@ module _ (s t : Subscription) (c d e input : End Delivery Opening) (book : Book)
   looks =
       let all : all_put input ≡ all_put t.input = rw (ends.input.0, ends.input.1) ends.put in
       let stands : IsConsistentAt (record t { input = input }) book =
-      same_put t.sub.held t.input input t.places t.last_report.value t.first_close book ends.ports.1 all
+      same_put t.sub.held t.input input t.places t.last_report.value t.first_close book
+      ends.ports.1 all
       at.stands in
       let later = prefix_trans c.ahead d.ahead e.ahead at.known ends.known in
       grind arith

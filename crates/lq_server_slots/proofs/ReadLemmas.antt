@@ -295,7 +295,8 @@ marked_result law follow r told shown now None is = tt
 marked_result law follow r told shown now (Some k) is =
     let f = r.port.floor in
     let full = told.legal_list.full in
-    let fits : IsMark f (messages_in r.port.taken) (known_book r) k = rw is at told.legal_list.mark in
+    let fits : IsMark f (messages_in r.port.taken) (known_book r) k = rw is at told.legal_list.mark
+    in
     let bare : r.hand ≡ None = told.no_hand (rw is) in
     let got : messages_in r.port.taken ≡ received r = told.all ∙ rw (bare, append-nil) in
     let zero : (known_book r).start.number ≡ 0 = full.first in

@@ -126,7 +126,8 @@ passed_on asked taken s book full stands =
       left = rw (
         held,
         marks s.sub.held.mark_out s book refl stands
-            (length (updates_due book (shown_subscription asked taken s))) (ap (length {A = Message}) due),
+            (length (updates_due book (shown_subscription asked taken s)))
+            (ap (length {A = Message}) due),
       );
     }
 

@@ -80,11 +80,18 @@ keeps_then old mid new k j a b e =
     }
 
 -- a taken slot stands on once its port is filled and its reader told, and its seat has its new name
-pub taken_shown : (s m : Subscription) (last_report : GhostCopy LastReport) (p q : KnownSlot Identity)
+pub taken_shown : (s m : Subscription) (last_report : GhostCopy LastReport)
+    (p q : KnownSlot Identity)
     (n : ℕ) (book : Book) (d e : ReadingHold) (waiting : ℕ) → IsTakenSlot s p book
     → SideBySide s m d.port e.port book waiting → IsDrained m waiting
-    → last_report.value ≡ report_of (length book.changes) (length e.port.taken) m.sub.held.mark → p.asks ≤ n
-    → q ≡ record { out = true; asks = n; name = Some (identity_of (record m { last_report = last_report })) }
+    → last_report.value ≡ report_of (length book.changes) (length e.port.taken) m.sub.held.mark →
+    p.asks ≤ n
+    → q ≡ record {
+      out = true;
+      asks = n;
+      name = Some
+          (identity_of (record m { last_report = last_report }));
+    }
     → IsTakenSlot (record m { last_report = last_report }) q book
 taken_shown s m last_report p q n book d e waiting taken between drained is le known =
     let u : Subscription = record m { last_report = last_report } in

@@ -77,7 +77,8 @@ pub record IsOverrun
 -- its updates over that book, up to its mark or else to the end. A mark is put last and has its
 -- cause.
 pub record Stands
-    (h : Held) (e : End Delivery Opening) (places : ℕ) (last_report : LastReport) (answer : FirstClose)
+    (h : Held) (e : End Delivery Opening) (places : ℕ) (last_report : LastReport)
+    (answer : FirstClose)
     (book : Book)
     : Type 0 where
   pub query : query_of e.floor ≡ h.query

@@ -13,7 +13,8 @@ returns-then-is_empty c =
     let taken = c.taken.ensures.taken in
     record {
       lawful = c.in_ok-check.ensures.ok;
-      prepared = λ i low. outside_taken (λ o. HasPreparedAt o c.args.volume.now c.args.change.now) _ items
+      prepared = λ i low. outside_taken (λ o. HasPreparedAt o c.args.volume.now c.args.change.now)
+          _ items
           i taken (none i) tt;
       noticed = λ i low. outside_taken
           (λ o. SlotIs IsNoticed o (slot_at slots.keeper.slots (i + 1))) _ items i taken (none i)

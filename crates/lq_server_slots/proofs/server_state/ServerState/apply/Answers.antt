@@ -49,7 +49,8 @@ returns-in-Err-clause-applied g c =
     (Err c.in-Err.refusal)) book
     (applied_err c.args.change.now c.self.inside.volume c.add.new.volume
     c.self.inside.slots.keeper.book c.add.new.slots.keeper.book c.args.seat.now c.meet_slot.new.seat
-    c.self.invariant.1 m.seat m.later c.in-Err.refusal c.add.new.seat c.meet.new.seat c.in-Err.ensures.made e.seat
+    c.self.invariant.1 m.seat m.later c.in-Err.refusal c.add.new.seat c.meet.new.seat
+    c.in-Err.ensures.made e.seat
     e.later)
 
 pub invariant_of-self : goal.invariant_of-self
