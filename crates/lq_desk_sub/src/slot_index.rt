@@ -21,7 +21,7 @@ impl SlotIndex {
     }
 
     /// The slot with this index.
-    pub fn at(index: usize) -> SlotIndex
+    pub(crate) fn at(index: usize) -> SlotIndex
         requires { index < 64 }
         ensures { result.index ≡ index }
     {
