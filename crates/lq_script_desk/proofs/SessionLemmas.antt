@@ -1,30 +1,23 @@
 -- The history of a session: each turn goes on from it.
-use Rattle.std.proofs.Common.{◌≡◌, ◌⊎◌, ℕ, zero, suc, ◌+◌, List, [], ◌∷◌, ◌++◌, length, refl, ap, ◌∙◌, sym, subst, arith, append_assoc, length-append, inl, inr, Bool, true, Option, Some, None, Result, Ok, Err, OnOk}
-use Rattle.lq_value.specs.declared.entry.Entry.{Entry}
+use Rattle.std.proofs.Common.{◌≡◌, ◌⊎◌, ℕ, List, [], ◌∷◌, ◌++◌, length, refl, ap, sym, subst, arith, append_assoc, length-append, inl, inr, Option, None, Result, Ok, Err, OnOk}
 use Rattle.lq_volume.specs.State.{empty_state}
-use Rattle.lq_update.specs.declared.message.Message.{Message}
-use Rattle.lq_update.specs.declared.parcel.Parcel.{Parcel}
-use Rattle.lq_update.specs.declared.parcel.Parcel.TheVariants.{Update, Fin}
-use Rattle.lq_update.specs.Fold.{Folding, folding_after_all, opened_at}
 use Rattle.lq_update.specs.Laws.{FoldingsFollow, RebuildsTakeAll}
 use Rattle.lq_desk_world.specs.World.{World, Subscribed}
 use Rattle.lq_desk_world.specs.declared.event.Event.{Event}
-use Rattle.lq_desk_world.specs.declared.event.Event.TheVariants.{Change, Open, Put, Take, Notice, Close}
-use Rattle.lq_desk_world.specs.Events.{Answer, Opened, next}
+use Rattle.lq_desk_world.specs.Events.{Answer, next}
 use Rattle.lq_desk_world.specs.Runs.{Run, Step}
-use Rattle.lq_desk_world.specs.Turns.{at_each, one_notice, places_at, ports_of, put_events, turn_of}
-use Rattle.lq_desk_world.specs.Headline.{parcels_in, reads_of, updates_among, updates_in}
+use Rattle.lq_desk_world.specs.Turns.{ports_of, turn_of}
 use Rattle.lq_desk_world.specs.Laws.{RunsTellReaders}
 use Rattle.lq_script_desk.specs.Answered.{slot_named}
-use Rattle.lq_script_desk.specs.Folds.{Folds, after_message, fold_at, is_folded, with_fold}
-use Rattle.lq_script_desk.specs.History.{IsFoldOf, StaysTaken}
 use Rattle.lq_script_desk.specs.Script.{script_session, script_world}
 use Rattle.lq_script_desk.specs.Session.{Session}
 use Rattle.lq_script_desk.specs.SessionHistory.{HistoryGoesOn, IsHistory, SessionsTell}
-use Rattle.lq_script_desk.specs.Turned.{Follow, Turned, folded_slot}
-use Rattle.lq_script_desk.proofs.EventLemmas.{Does, IsQuiet, does, finishes, leaves, opens, reads}
-use Rattle.lq_script_desk.proofs.FoldLemmas.{Begins, GoesOn, NoneRefused, begun, first-volume, fold-set, kept_after, none-first, none-refused, one-more}
+use Rattle.lq_script_desk.specs.Turned.{Follow, Turned}
+use Rattle.lq_script_desk.proofs.EventLemmas.{Does, does, leaves}
+use Rattle.lq_script_desk.proofs.FoldLemmas.{NoneRefused, begun, first-volume, fold-set, none-first, none-refused}
 use Rattle.lq_script_desk.proofs.HistoryLemmas.{turn-event}
+use Rattle.lq_script_desk.proofs.TurnLemmas.{AreAdded, added-reads, after-own, goes-before, turn-added}
+use Rattle.lq_script_desk.proofs.GoesOnLemmas.{goes-on}
 
 -- ---- runs
 
@@ -56,223 +49,6 @@ step-does : (u x : World) (e : Event) (a : Answer) → Step u e a x
 step-does u x e a (inl (is, to)) =
     ((next u e).slots, subst (λ (b : Answer). Does u e b (next u e).slots) (sym is) (does u e))
 step-does u x e a (inr (may, none, to)) = (u.slots, rw none (leaves tt refl))
-
--- ---- what a turn adds to its event
-
--- notices and puts alone
-abbrev AreAdded : List Event → Type 0
-AreAdded [] = Unit {0}
-AreAdded (Notice k ∷ events) = AreAdded events
-AreAdded (Put k ∷ events) = AreAdded events
-AreAdded (e ∷ events) = ⊥
-
--- such events and others
-added-append : (xs ys : List Event) → AreAdded xs → AreAdded ys → AreAdded (xs ++ ys)
-added-append [] ys all more = more
-added-append (Notice k ∷ xs) ys all more = added-append xs ys all more
-added-append (Put k ∷ xs) ys all more = added-append xs ys all more
-added-append (e ∷ xs) ys all more = absurd all
-
-puts-added : (k n : ℕ) → AreAdded (put_events k n)
-puts-added k zero = tt
-puts-added k (suc n) = puts-added k n
-
--- what is added at each taken slot
-each-added : (events : ℕ → ℕ → List Event) → ((k port : ℕ) → AreAdded (events k port)) → (n : ℕ)
-    (ports : List (Option ℕ)) → AreAdded (at_each events n ports)
-each-added events added n [] = tt
-each-added events added n (None ∷ ports) = each-added events added (n + 1) ports
-each-added events added n (Some port ∷ ports) =
-    added-append (events n port) (at_each events (n + 1) ports) (added n port)
-    (each-added events added (n + 1) ports)
-
--- a turn adds notices and puts alone
-turn-added : (ports : List (Option ℕ)) (e : Event)
-    → AreAdded (turn_of ports e).before × AreAdded (turn_of ports e).after
-turn-added ports (Change c) =
-    (each-added one_notice (λ k port. tt) 1 ports, each-added put_events puts-added 1 ports)
-turn-added ports (Take k) = (puts-added k (places_at ports k), tt)
-turn-added ports (Close k) = (tt, puts-added k (places_at ports k))
-turn-added ports e = (tt, tt)
-
--- they free no slot and read nothing
-added-reads : (slot : ℕ) (events : List Event) (answers : List Answer) → AreAdded events
-    → StaysTaken slot events answers × (updates_in (reads_of slot events answers) ≡ [])
-added-reads slot [] answers all = (tt, refl)
-added-reads slot (e ∷ events) [] all = (tt, refl)
-added-reads slot (Notice k ∷ events) (a ∷ answers) all =
-    let rest = added-reads slot events answers all in ((refl, rest.0), rest.1)
-added-reads slot (Put k ∷ events) (a ∷ answers) all =
-    let rest = added-reads slot events answers all in ((refl, rest.0), rest.1)
-added-reads slot (e ∷ events) (a ∷ answers) all = absurd all
-
--- a fold that goes on from folds goes on from them by such events before
-goes-before : (slot : ℕ) (folds : Folds) (more events : List Event) (mores answers : List Answer)
-    (f : Folding) → AreAdded more → length mores ≡ length more
-    → GoesOn slot folds events answers f
-    → GoesOn slot folds (more ++ events) (mores ++ answers) f
-goes-before slot folds [] events [] answers f all same g = g
-goes-before slot folds [] events (a ∷ mores) answers f all same g = absurd (omega (arith, same))
-goes-before slot folds (e ∷ more) events [] answers f all same g = absurd (omega (arith, same))
-goes-before slot folds (Notice k ∷ more) events (a ∷ mores) answers f all same g =
-    let rest = goes-before slot folds more events mores answers f all (omega (arith, same)) g in
-    (rest.0, rest.1, (refl, rest.2), rest.3)
-goes-before slot folds (Put k ∷ more) events (a ∷ mores) answers f all same g =
-    let rest = goes-before slot folds more events mores answers f all (omega (arith, same)) g in
-    (rest.0, rest.1, (refl, rest.2), rest.3)
-goes-before slot folds (e ∷ more) events (a ∷ mores) answers f all same g = absurd all
-
--- ---- a turn's own event
-
--- an answer that leaves the folds takes no memory for one
-quiet-unfolded : (a : Answer) → IsQuiet a → is_folded a ≡ true → ⊥
-quiet-unfolded a quiet folded = grind arith
-
-module _ (slot : ℕ) (folds : Folds) (events : List Event) (answers : List Answer) (f : Folding)
-    (taken : StaysTaken slot events answers)
-    (unread : updates_in (reads_of slot events answers) ≡ []) where
-  -- where a result went for want of memory, any other fold was there before
-  went : {w : World} {e : Event} {a : Answer} {slots : List (Option Subscribed)}
-      → Does w e a slots → is_folded a ≡ true
-      → fold_at (with_fold folds (folded_slot (slot_named e) a) None) slot ≡ Some f
-      → GoesOn slot folds (e ∷ events) (a ∷ answers) f
-  went (leaves {e} {a} quiet same) folded had = absurd (quiet-unfolded a quiet folded)
-  went (opens {q} {port} {backlog} {moved} {at} {first} s) folded had =
-      elim (fold-set folds _ slot None f had) [
-        | inl own ↦ absurd (let no : ⊥ = cc in no)
-        | inr other ↦ (f, other.1, (refl, taken), rw unread refl)
-      ]
-  went (reads {k} {m} same) folded had =
-      elim (fold-set folds k slot None f had) [
-        | inl own ↦ absurd (let no : ⊥ = cc in no)
-        | inr other ↦ (f, other.1, (refl, taken), rw (other.0, unread) refl)
-      ]
-  went (finishes {k} some) folded had = absurd (let no : ⊥ = cc in no)
-
-  -- a fold after an event was there before it, or the event opened the slot
-  after-own : {w : World} {e : Event} {a : Answer} {slots : List (Option Subscribed)}
-      → Does w e a slots → (new : Folds) → Follow (slot_named e) a folds new
-      → fold_at new slot ≡ Some f
-      → GoesOn slot folds (e ∷ events) (a ∷ answers) f ⊎ Begins slot e a events answers f
-  after-own d new (inl same) had =
-      one-more d slot folds events answers f (f, rw same at had, taken, rw unread refl)
-  after-own d new (inr (folded, same)) had = inl (went d folded (rw same at had))
-
--- ---- a fold goes on
-
--- a slot that stays taken, and then again
-taken-append : (slot : ℕ) (events more : List Event) (answers mores : List Answer)
-    → length events ≡ length answers → StaysTaken slot events answers → StaysTaken slot more mores
-    → StaysTaken slot (events ++ more) (answers ++ mores)
-taken-append slot [] more [] mores same taken still = still
-taken-append slot [] more (a ∷ answers) mores same taken still = absurd (omega (arith, same))
-taken-append slot (e ∷ events) more [] mores same taken still = absurd (omega (arith, same))
-taken-append slot (e ∷ events) more (a ∷ answers) mores same taken still =
-    (taken.0, taken-append slot events more answers mores (omega (arith, same)) taken.1 still)
-
--- its reads are those of both
-reads-append : (slot : ℕ) (events more : List Event) (answers mores : List Answer)
-    → length events ≡ length answers → StaysTaken slot events answers
-    → reads_of slot (events ++ more) (answers ++ mores)
-    ≡ reads_of slot events answers ++ reads_of slot more mores
-reads-append slot [] more [] mores same taken = refl
-reads-append slot [] more (a ∷ answers) mores same taken = absurd (omega (arith, same))
-reads-append slot (e ∷ events) more [] mores same taken = absurd (omega (arith, same))
-reads-append slot (e ∷ events) more (a ∷ answers) mores same taken =
-    rw (
-      taken.0,
-      reads-append slot events more answers mores (omega (arith, same)) taken.1,
-      append_assoc,
-    )
-
--- the updates among parcels, and in reads, and others
-among-append : (xs ys : List Parcel)
-    → updates_among (xs ++ ys) ≡ updates_among xs ++ updates_among ys
-among-append [] ys = refl
-among-append (Update m ∷ xs) ys = ap (λ ms. m ∷ ms) (among-append xs ys)
-among-append (Fin mark ∷ xs) ys = among-append xs ys
-
-parcels-append : (xs ys : List Answer) → parcels_in (xs ++ ys) ≡ parcels_in xs ++ parcels_in ys
-parcels-append [] ys = refl
-parcels-append (a ∷ xs) ys = rw (parcels-append xs ys, append_assoc)
-
-updates-append : (xs ys : List Answer) → updates_in (xs ++ ys) ≡ updates_in xs ++ updates_in ys
-updates-append xs ys =
-    ap updates_among (parcels-append xs ys) ∙ among-append (parcels_in xs) (parcels_in ys)
-
--- a fold after messages and others
-kept-append : (f : Folding) (xs ys : List Message)
-    → kept_after f (xs ++ ys) ≡ kept_after (kept_after f xs) ys
-kept-append f [] ys = refl
-kept-append f (m ∷ xs) ys = kept-append (after_message m f) xs ys
-
--- folds with the same fields are the same
-same-fold : (f g : Folding) → f.seq ≡ g.seq → f.change ≡ g.change → f.settled ≡ g.settled
-    → f.entries ≡ g.entries → f ≡ g
-same-fold f g a b c d = of a b c d
-  where
-    made : ℕ → ℕ → Bool → List Entry → Folding
-    made seq change settled entries =
-        record { seq = seq; change = change; settled = settled; entries = entries }
-
-    of : {s t c d : ℕ} {x y : Bool} {p q : List Entry} → s ≡ t → c ≡ d → x ≡ y → p ≡ q
-        → made s c x p ≡ made t d y q
-    of a b c d = rw (a, b, c, d) refl
-
--- a slot's result is what its fold keeps after the updates that were read
-fold-kept : FoldingsFollow → (slot : ℕ) (events : List Event) (answers : List Answer)
-    → NoneRefused slot events answers → (f : Folding) (i : IsFoldOf slot events answers f)
-    → f ≡ kept_after (opened_at i.at i.first) (updates_in (reads_of slot i.after i.afters))
-fold-kept follow slot events answers none f i =
-    let ms = updates_in (reads_of slot i.after i.afters) in
-    let all = none i.before i.after i.befores i.afters i.query i.port i.backlog i.moved i.at i.first
-    i.opening i.opened i.place in
-    let says = follow (opened_at i.at i.first) ms in
-    same-fold f (folding_after_all (opened_at i.at i.first) ms) (i.seq ∙ sym all.1)
-    (i.change ∙ sym says.1) (i.settled ∙ sym says.2) (i.entries ∙ sym says.0)
-    ∙ sym all.0
-
--- a fold that goes on from a slot's result is the slot's result after both
-goes-on : FoldingsFollow → (slot : ℕ) (events more : List Event) (answers mores : List Answer)
-    → length events ≡ length answers → NoneRefused slot events answers
-    → NoneRefused slot (events ++ more) (answers ++ mores) → (old f : Folding)
-    → IsFoldOf slot events answers old → StaysTaken slot more mores
-    → f ≡ kept_after old (updates_in (reads_of slot more mores))
-    → IsFoldOf slot (events ++ more) (answers ++ mores) f
-goes-on follow slot events more answers mores count none nones old f i taken is =
-    let start = opened_at i.at i.first in
-    let same : length i.after ≡ length i.afters = omega (
-      arith,
-      count,
-      i.place,
-      ap length i.opening,
-      ap length i.opened,
-      length-append i.before (Open i.query i.port i.backlog i.moved ∷ i.after),
-      length-append i.befores (Opened slot i.at i.first ∷ i.afters),
-    ) in
-    let updates = ap updates_in (reads-append slot i.after more i.afters mores same i.taken)
-    ∙ updates-append (reads_of slot i.after i.afters) (reads_of slot more mores) in
-    begun follow slot (events ++ more) (answers ++ mores) nones i.before (i.after ++ more) i.befores
-    (i.afters ++ mores) (Open i.query i.port i.backlog i.moved) (Opened slot i.at i.first) f i.place
-    (ap (λ l. l ++ more) i.opening ∙ append_assoc i.before _ more)
-    (ap (λ l. l ++ mores) i.opened ∙ append_assoc i.befores _ mores)
-    (record {
-      query = i.query;
-      port = i.port;
-      backlog = i.backlog;
-      moved = i.moved;
-      at = i.at;
-      first = i.first;
-      event_is = refl;
-      answer_is = refl;
-      taken = taken-append slot i.after more i.afters mores same i.taken taken;
-      fold = is
-          ∙ (ap (λ g. kept_after g (updates_in (reads_of slot more mores)))
-          (fold-kept follow slot events answers none old i)
-          ∙ (sym (kept-append start (updates_in (reads_of slot i.after i.afters))
-          (updates_in (reads_of slot more mores)))
-          ∙ ap (kept_after start) (sym updates)));
-    })
 
 -- ---- sessions
 
