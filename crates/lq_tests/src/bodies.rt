@@ -89,7 +89,7 @@ fn compare(
 {
     let planned = volume.plan(change)?;
     let fast = step_planned(alloc, predicate, &planned, 7, moved)?;
-    let plain = plain::step(alloc, predicate, volume, change, 7, moved)?;
+    let plain = plain_step::step(alloc, predicate, volume, change, 7, moved)?;
     if !are_same(&fast, &plain) || !is_foreseen(predicate, &planned, &plain) {
         return Err(Fail::from("the bodies differ"));
     }
