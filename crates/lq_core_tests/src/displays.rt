@@ -6,8 +6,8 @@ use std::alloc::{AllocError, Global};
 use std::fmt::Display;
 use std::test::Fail;
 
-// a refusal, its code and its display text
-const REFUSALS: [(Refusal, u64, &str); 27] = [
+/// A refusal, its code and its display text.
+pub const REFUSALS: [(Refusal, u64, &str); 27] = [
     (Refusal::BadName, 1, "BadName"),
     (Refusal::NoNode, 2, "NoNode"),
     (Refusal::NotFolder, 3, "NotFolder"),
@@ -22,7 +22,7 @@ const REFUSALS: [(Refusal, u64, &str); 27] = [
     (Refusal::TooLong, 12, "TooLong"),
     (Refusal::Exhausted, 13, "Exhausted"),
     (Refusal::NoMemory, 15, "NoMemory"),
-    (Refusal::BadQuery { place: 7 }, 20, "BadQuery at 7"),
+    (Refusal::BadQuery { place: 12 }, 20, "BadQuery at 12"),
     (Refusal::BadPort, 21, "BadPort"),
     (Refusal::BadBacklog, 22, "BadBacklog"),
     (Refusal::NoSlot, 23, "NoSlot"),
@@ -46,11 +46,6 @@ const FAULTS: [(RunFault, &str); 5] = [
     (RunFault::Thread, "no thread"),
 ];
 
-// Whether a refusal has this code and this name.
-fn is_refusal(refusal: &Refusal, code: u64, name: &str) -> bool {
-    refusal.code() == code && refusal.name() == name
-}
-
 // Whether this text is shown.
 fn is_shown<D: Display>(alloc: Global, shown: &D, text: &str) -> Result<bool, AllocError> {
     Ok(format!(in alloc; "{shown}")?.as_str() == text)
@@ -59,8 +54,8 @@ fn is_shown<D: Display>(alloc: Global, shown: &D, text: &str) -> Result<bool, Al
 #[test]
 fn refusals_have_codes_and_names(_rt: HostRuntime) -> Result<(), Fail> {
     for (refusal, code, text) in &REFUSALS {
-        let name = text.strip_suffix(" at 7").unwrap_or(text);
-        if !is_refusal(refusal, *code, name) {
+        let name = text.strip_suffix(" at 12").unwrap_or(text);
+        if refusal.code() != *code || refusal.name() != name {
             return Err(Fail::from(*text));
         }
     }

@@ -3,6 +3,7 @@
 ghost use Rattle.std.specs.Prelude.{◌<◌, length};
 ghost use Rattle.lq_script_request.specs.Fields.{AreLastMembers};
 
+use crate::patterns::next;
 use lq_script_request::{Fields, Key, Scratch, request_in};
 use lq_value::Refusal;
 use std::alloc::{AllocError, Global};
@@ -90,15 +91,14 @@ const KEYS: [&str; 6] = [
 ];
 
 // values; some are of no plain line, and some are none
-const VALUES: [&str; 40] = [
-    "0",
-    "7",
-    "-7",
-    "00",
-    "-0",
-    "-",
-    "-01",
-    "1-",
+const VALUES: [&str; 25] = [
+    "0", "7", "-7", "00", "-0", "-", "-01", "1-", "0.0", "1.0", "1e2", "1e309", "true", "false",
+    "tru", "truee", "falsE", "null", "\"\"", "\"a\"", "\"\t\"", "\"a", "\"a\"b", "[]", "\"\r\"",
+];
+
+// longer ones
+const LONG_VALUES: [&str; 15] = [
+    "\"é€𝄞\"",
     "123456789012345678",
     "-123456789012345678",
     "999999999999999999",
@@ -107,28 +107,10 @@ const VALUES: [&str; 40] = [
     "-1000000000000000000",
     "1234567890123456789",
     "9223372036854775808",
-    "0.0",
-    "1.0",
-    "1e2",
-    "1e309",
-    "true",
-    "false",
-    "tru",
-    "truee",
-    "falsE",
-    "null",
-    "\"\"",
-    "\"a\"",
-    "\"é€𝄞\"",
     "\"\\\"\"",
     "\"\\u00e9\"",
-    "\"\t\"",
-    "\"a",
-    "\"a\"b",
-    "[]",
     "{\"size\":1}",
     "\"\0\"",
-    "\"\r\"",
     "\"\u{7f}\"",
     "\"\u{1f}\"",
 ];
@@ -190,9 +172,7 @@ fn a_text_is_read_as_serde_json_reads_it(rt: HostRuntime) -> Result<(), Fail> {
     }
     let mut drawn: u64 = 1;
     for _ in 0..4_000 {
-        drawn = drawn
-            .wrapping_mul(6_364_136_223_846_793_005)
-            .wrapping_add(1_442_695_040_888_963_407);
+        drawn = next(drawn);
         let text = drawn_text(rt.alloc(), drawn)?;
         if !is_read_alike(rt.alloc(), &text) {
             return Err(Fail::from(text));
@@ -205,9 +185,7 @@ fn a_text_is_read_as_serde_json_reads_it(rt: HostRuntime) -> Result<(), Fail> {
 fn one_of(drawn: &mut u64, texts: &[&'static str]) -> &'static str
     requires { 0 < length texts.now }
 {
-    *drawn = drawn
-        .wrapping_mul(6_364_136_223_846_793_005)
-        .wrapping_add(1_442_695_040_888_963_407);
+    *drawn = next(*drawn);
     texts[(*drawn >> 33) as usize % texts.len()]
 }
 
@@ -218,7 +196,11 @@ fn push_member(line: &mut String, drawn: &mut u64) -> Result<(), AllocError> {
     line.push_str(one_of(drawn, &SPACES))?;
     line.push_str(":")?;
     line.push_str(one_of(drawn, &SPACES))?;
-    line.push_str(one_of(drawn, &VALUES))?;
+    line.push_str(if *drawn >> 63 == 0 {
+        one_of(drawn, &VALUES)
+    } else {
+        one_of(drawn, &LONG_VALUES)
+    })?;
     line.push_str(one_of(drawn, &SPACES))
 }
 
@@ -260,31 +242,22 @@ fn a_plain_line_of_the_most_bytes_is_read_alike(rt: HostRuntime) -> Result<(), F
     Ok(())
 }
 
-// Whether a line is refused with this.
-fn is_refused(alloc: Global, line: &[u8], refusal: Refusal) -> bool {
-    let mut scratch = Scratch::new(alloc);
-    request_in(alloc, &mut scratch, line).err() == Some(refusal)
-}
+// lines, and why they are refused: with a byte that is no UTF-8 in a line that would be plain, in
+// one with an escape, and in one that is no JSON; and the last without that byte
+const REFUSED: [(&[u8], Refusal); 4] = [
+    (b"{\"do\":\"find\",\"name\":\"\xff\"}", Refusal::NotUtf8),
+    (b"{\"do\":\"find\",\"name\":\"\\n\xff\"}", Refusal::NotUtf8),
+    (b"{\"do\":\"find\",\xc3}", Refusal::NotUtf8),
+    (b"{\"do\":\"find\",}", Refusal::NotJson),
+];
 
 #[test]
 fn a_byte_that_is_no_utf8_comes_before_all_else(rt: HostRuntime) -> Result<(), Fail> {
-    let alloc = rt.alloc();
-    // in a line that would be plain, in one with an escape, and in one that is no JSON
-    assert!(rt;
-        is_refused(
-            alloc,
-            b"{\"do\":\"find\",\"name\":\"\xff\"}",
-            Refusal::NotUtf8
-        )
-    );
-    assert!(rt;
-        is_refused(
-            alloc,
-            b"{\"do\":\"find\",\"name\":\"\\n\xff\"}",
-            Refusal::NotUtf8
-        )
-    );
-    assert!(rt; is_refused(alloc, b"{\"do\":\"find\",\xc3}", Refusal::NotUtf8));
-    assert!(rt; is_refused(alloc, b"{\"do\":\"find\",}", Refusal::NotJson));
+    for (line, refusal) in &REFUSED {
+        let mut scratch = Scratch::new(rt.alloc());
+        if request_in(rt.alloc(), &mut scratch, line).err() != Some(*refusal) {
+            return Err(Fail::from(refusal.name()));
+        }
+    }
     Ok(())
 }

@@ -25,6 +25,8 @@ mod predicates;
 #[cfg(test)]
 mod replies;
 #[cfg(test)]
+mod slot_tables;
+#[cfg(test)]
 mod subs;
 #[cfg(test)]
 mod watches;

@@ -127,6 +127,10 @@ type Run = (
     u64,
 );
 
+const READ: Result<(), RunFault> = Err(RunFault::Read);
+
+const WRITE: Result<(), RunFault> = Err(RunFault::Write);
+
 const RUNS: [Run; 10] = [
     ("", 9, false, 99, 99, Ok(()), "", 99),
     ("\r\n\n", 9, false, 99, 99, Ok(()), "", 99),
@@ -143,40 +147,13 @@ const RUNS: [Run; 10] = [
     ),
     // the last line is answered after the last read
     ("ab\ncd\r", 2, false, 1, 99, Ok(()), "ab\ncd\n", 3_03_06_99),
-    (
-        "ab\ncd",
-        4,
-        true,
-        99,
-        99,
-        Err(RunFault::Read),
-        "ab\n",
-        3_03_03_99,
-    ),
-    ("", 4, true, 99, 99, Err(RunFault::Read), "", 99),
-    (
-        "ab\ncd\n",
-        99,
-        false,
-        99,
-        5,
-        Err(RunFault::Write),
-        "ab\ncd",
-        5,
-    ),
-    (
-        "ab\ncd\n",
-        1,
-        true,
-        99,
-        5,
-        Err(RunFault::Write),
-        "ab\ncd",
-        3_03_03_05,
-    ),
-    ("ab\n", 99, false, 0, 99, Err(RunFault::Write), "", 0),
+    ("ab\ncd", 4, true, 99, 99, READ, "ab\n", 3_03_03_99),
+    ("", 4, true, 99, 99, READ, "", 99),
+    ("ab\ncd\n", 99, false, 99, 5, WRITE, "ab\ncd", 5),
+    ("ab\ncd\n", 1, true, 99, 5, WRITE, "ab\ncd", 3_03_03_05),
+    ("ab\n", 99, false, 0, 99, WRITE, "", 0),
     // all is taken, and the flush fails
-    ("ab\n", 9, false, 99, 3, Err(RunFault::Write), "ab\n", 3_03),
+    ("ab\n", 9, false, 99, 3, WRITE, "ab\n", 3_03),
 ];
 
 /// Whether a run answers and writes what its row says, by these calls.

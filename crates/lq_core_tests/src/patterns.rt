@@ -88,8 +88,8 @@ const ASCII_TEXTS: [&str; 16] = [
     "a", "a", "a", "a", "a", "ab", "aa", "a", "ac", "b", "a", "d", "aa", "a", "x", "ab",
 ];
 
-// The next of a row of drawn numbers.
-fn next(drawn: u64) -> u64 {
+/// The next of a row of drawn numbers.
+pub fn next(drawn: u64) -> u64 {
     drawn
         .wrapping_mul(6_364_136_223_846_793_005)
         .wrapping_add(1_442_695_040_888_963_407)

@@ -1,4 +1,5 @@
 //! Each kind of response by pieces, as the plain way writes it.
+use crate::displays::REFUSALS;
 use crate::plain_reply::put_plainly;
 use lq_desk::{Read, Reply};
 use lq_script_desk::{Response, put_event_reply, put_reply};
@@ -11,42 +12,12 @@ use std::test::Fail;
 // A quote, a backslash, control characters with a short escape and without, and more bytes.
 const NAME: &str = "a\"b\\c\u{1}\t\n\u{1f}\u{7f}é€𝄞";
 
-const REFUSALS: [Refusal; 27] = [
-    Refusal::BadName,
-    Refusal::NoNode,
-    Refusal::NotFolder,
-    Refusal::NoEntry,
-    Refusal::Exists,
-    Refusal::WouldLoop,
-    Refusal::NotEmpty,
-    Refusal::KindClash,
-    Refusal::IsFolder,
-    Refusal::NoAttr,
-    Refusal::Reserved,
-    Refusal::TooLong,
-    Refusal::Exhausted,
-    Refusal::NoMemory,
-    Refusal::BadQuery { place: 12 },
-    Refusal::BadPort,
-    Refusal::BadBacklog,
-    Refusal::NoSlot,
-    Refusal::NoSeat,
-    Refusal::NotOpen,
-    Refusal::StillOpen,
-    Refusal::LongLine,
-    Refusal::NotUtf8,
-    Refusal::NotJson,
-    Refusal::BadLine,
-    Refusal::OutOfStep,
-    Refusal::Mismatch,
-];
-
 // folder, name, node
 const ENTRIES: [(u64, &str, u64); 3] = [(1, NAME, 2), (u64::MAX, "plain", 30), (2, "\n", 4)];
 
-fn entries(alloc: Global) -> Result<Vec<Entry>, Refusal> {
+fn entries(alloc: Global, rows: &[(u64, &str, u64)]) -> Result<Vec<Entry>, Refusal> {
     let mut entries = Vec::new(alloc);
-    for (dir, name, node) in &ENTRIES {
+    for (dir, name, node) in rows {
         let name = Name::read(alloc, name)?;
         entries.push(Entry {
             dir: *dir,
@@ -132,14 +103,11 @@ fn test_replies(alloc: Global) -> Result<(), Fail> {
     let opened = Reply::Opened {
         slot: 1,
         at: 13,
-        result: entries(alloc)?,
+        result: entries(alloc, &ENTRIES)?,
     };
     test_reply(alloc, "opened", opened)?;
-    test_reply(
-        alloc,
-        "changed",
-        Reply::Changed(Applied { change: 1, node: 2 }),
-    )?;
+    let applied = Applied { change: 1, node: 2 };
+    test_reply(alloc, "changed", Reply::Changed(applied))?;
     test_reply(alloc, "shut", Reply::Shut(14))?;
     test_reply(alloc, "asked", Reply::Asked)?;
     test_reply(alloc, "finished", Reply::Finished)?;
@@ -147,25 +115,14 @@ fn test_replies(alloc: Global) -> Result<(), Fail> {
     test_reply(alloc, "noticed", Reply::Noticed(false))
 }
 
-fn push_attr(
-    alloc: Global,
-    attrs: &mut Vec<(AttrName, Value)>,
-    name: &str,
-    value: Value,
-) -> Result<(), Refusal> {
-    let name = AttrName::read(alloc, name)?;
-    attrs.push((name, value))?;
-    Ok(())
-}
-
 // An attribute of each type.
 fn attrs(alloc: Global) -> Result<Vec<(AttrName, Value)>, Refusal> {
     let mut attrs = Vec::new(alloc);
-    push_attr(alloc, &mut attrs, NAME, Value::text(alloc, NAME)?)?;
-    push_attr(alloc, &mut attrs, "b", Value::Int32(i32::MIN))?;
-    push_attr(alloc, &mut attrs, "c", Value::Int64(i64::MIN))?;
-    push_attr(alloc, &mut attrs, "d", Value::UInt32(u32::MAX))?;
-    push_attr(alloc, &mut attrs, "e", Value::UInt64(u64::MAX))?;
+    attrs.push((AttrName::read(alloc, NAME)?, Value::text(alloc, NAME)?))?;
+    attrs.push((AttrName::read(alloc, "b")?, Value::Int32(i32::MIN)))?;
+    attrs.push((AttrName::read(alloc, "c")?, Value::Int64(i64::MIN)))?;
+    attrs.push((AttrName::read(alloc, "d")?, Value::UInt32(u32::MAX)))?;
+    attrs.push((AttrName::read(alloc, "e")?, Value::UInt64(u64::MAX)))?;
     Ok(attrs)
 }
 
@@ -187,30 +144,16 @@ fn test_listed(
     test(alloc, row, Response::Listed { node: 16, listing })
 }
 
-// Some entries and none, fetched and rebuilt.
-fn test_results(alloc: Global) -> Result<(), Fail> {
-    let fetched = Response::Fetched {
-        at: 18,
-        result: entries(alloc)?,
-    };
-    test(alloc, "fetched", fetched)?;
-    let none = Response::Fetched {
-        at: 0,
-        result: Vec::new(alloc),
-    };
-    test(alloc, "none fetched", none)?;
+// These entries, fetched and rebuilt.
+fn test_results(alloc: Global, at: u64, rows: &[(u64, &str, u64)]) -> Result<(), Fail> {
+    let result = entries(alloc, rows)?;
+    test(alloc, "fetched", Response::Fetched { at, result })?;
     let rebuilt = Response::Rebuilt {
-        change: 19,
-        result: entries(alloc)?,
-        settled: true,
+        change: at,
+        result: entries(alloc, rows)?,
+        settled: at > 0,
     };
-    test(alloc, "rebuilt", rebuilt)?;
-    let none = Response::Rebuilt {
-        change: 0,
-        result: Vec::new(alloc),
-        settled: false,
-    };
-    test(alloc, "none rebuilt", none)
+    test(alloc, "rebuilt", rebuilt)
 }
 
 #[test]
@@ -221,8 +164,9 @@ fn pieces_are_the_text_of_the_value(rt: HostRuntime) -> Result<(), Fail> {
     test(alloc, "found", Response::Found { node: 17 })?;
     test_listed(alloc, "file", Kind::File, -1, attrs(alloc)?)?;
     test_listed(alloc, "folder", Kind::Folder, 0, Vec::new(alloc))?;
-    test_results(alloc)?;
-    for refusal in &REFUSALS {
+    test_results(alloc, 19, &ENTRIES)?;
+    test_results(alloc, 0, &[])?;
+    for (refusal, _, _) in &REFUSALS {
         test_reply(alloc, refusal.name(), Reply::Refused(*refusal))?;
         test(alloc, refusal.name(), Response::Refused(*refusal))?;
     }

@@ -1,5 +1,6 @@
 //! A watch leaves out the subscriptions that a change can't concern: no clause says how many.
-use lq_desk_sub::{SlotIndex, Sub, Watch};
+use crate::slot_tables::slot;
+use lq_desk_sub::{Sub, Watch};
 use lq_predicate::read;
 use lq_value::{AttrName, Kind, Name, Refusal, Value};
 use lq_volume::Change;
@@ -59,11 +60,6 @@ fn shown(alloc: Global, watch: &Watch) -> Result<[u64; 7], Refusal> {
         words[number] = watch.slots_for(&change(alloc, number)?).word();
     }
     Ok(words)
-}
-
-// A slot by its number.
-fn slot(number: u64) -> Result<SlotIndex, Refusal> {
-    SlotIndex::of(number).ok_or(Refusal::NotOpen)
 }
 
 // To whom they are shown if slot 4 looks at a status and slot 6 at sizes, and then if both look at
