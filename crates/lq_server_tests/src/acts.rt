@@ -27,6 +27,8 @@ pub enum Act {
     OpenMoved(&'static str, u64, u64),
     /// An opening that is drawn.
     OpenDrawn,
+    /// From here on the seat of the reader makes the calls of a seat, and not the thread's own.
+    ByReader,
     /// Right after an opening: what its reader reads is kept, and compared in the end.
     Keep,
     /// A query, and the entries that it has to find.
@@ -35,10 +37,12 @@ pub enum Act {
     /// A node and a name that it has to have.
     Listing(u64, &'static str),
     Latest,
-    /// A seat is taken, meets the thread's own, and is dropped.
+    /// A seat is taken and meets the thread's own. It is kept, and the one before it dropped.
     Seat,
-    /// A seat is taken and given back.
+    /// The seat that is kept is given back.
     GiveBack,
+    /// As many fetches as another thread takes to come to a read that waits.
+    Linger,
     Slot,
     /// Of the reader: the number of changes at its opening.
     Opened,
@@ -87,7 +91,7 @@ pub enum Expected {
     /// The same of a subscription that ended, and its mark: seq, change, cause.
     Marked(u64, u64, u64, u64, u64, Cause),
     Done,
-    /// As `OutOfStep`, which no server answers, where there is no reader.
+    /// As `OutOfStep`, which no server answers, where there is no reader or no seat is kept.
     Refused(Refusal),
 }
 

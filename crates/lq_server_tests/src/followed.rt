@@ -1,5 +1,6 @@
 //! Runs lq_model's server with a reader beside it, and compares what both leave.
 use crate::acts::{Row, are_entries, files};
+use crate::reference::LIMIT;
 use crate::scenario::base;
 use lq_model::{Followed, follow};
 use lq_predicate::read;
@@ -27,7 +28,7 @@ fn is_right(followed: &Followed) -> bool {
 #[test]
 fn a_query_is_followed(rt: HostRuntime) -> Result<(), Fail> {
     let alloc = rt.alloc();
-    let base = base(alloc)?;
+    let base = base(alloc, LIMIT)?;
     let predicate = read(alloc, "name='a*'")?;
     let changes = files(alloc, &["a1", "b", "a2"])?;
     let followed = follow::<Brand, _>(&rt, base, &predicate, &changes, 2)?;

@@ -3,11 +3,12 @@
 //! A `Scenario` is tables of calls (`Act`), each with the expected answer (`Expected`). `stage`
 //! plays it at a new server, and `Done::is_right` compares what was accepted and read with a plain
 //! reference, which takes the difference of two whole results. Begin with `acts`, then `scenario`,
-//! `party`, `reader_log` and `reference`; the tests are in `scenarios`, `seats`, `waits`,
-//! `followed` and `repeated_calls`, and the tables of `scenarios` in `one_thread`, `more_threads`
-//! and `fills`.
+//! `party`, `acted`, `reader_log` and `reference`; the tests are in `scenarios`, `seats`, `waits`,
+//! `followed` and `repeated_calls`, and the tables in `one_thread`, `more_threads` and `fills`.
 #![tactic(auto)]
 
+#[cfg(test)]
+mod acted;
 #[cfg(test)]
 mod acts;
 #[cfg(test)]

@@ -1,79 +1,80 @@
 //! The scenarios of one thread, by their tables.
-use crate::acts::{Act, Expected, Table};
+use crate::acts::Act::*;
+use crate::acts::Expected::*;
+use crate::acts::Table::*;
+use crate::acts::{Call, Table};
 use crate::more_threads::WINDOW_ENDED;
-use crate::scenario::Scenario;
+use crate::scenario::{Scenario, alone};
 use lq_update::Cause;
 use lq_value::Refusal;
 
 /// Each call with memory; each of the six changes; a query with moved messages and one without; and
 /// what a volume refuses.
-pub static EACH: Scenario = Scenario {
-    name: "each call answers",
-    threads: &[&[Table::Once(&[
-        (Act::Latest, Expected::Number(0)),
-        (Act::Find("a"), Expected::Refused(Refusal::NoEntry)),
-        (Act::Listing(2, "a"), Expected::Refused(Refusal::NoNode)),
-        (Act::Create("a"), Expected::Changed(1, 2)),
-        (Act::Create("a"), Expected::Refused(Refusal::Exists)),
-        (Act::Open("name=*", 4, 16), Expected::Number(1)),
-        (Act::Slot, Expected::Number(1)),
-        (Act::Opened, Expected::Number(1)),
-        (Act::Result(&[("a", 2)]), Expected::Is(true)),
-        (Act::LastChange, Expected::Number(1)),
-        (Act::SetAttr(2, 7), Expected::Changed(2, 2)),
-        (Act::Fetch("x=7", &[("a", 2)]), Expected::Number(2)),
-        (Act::RemoveAttr(2), Expected::Changed(3, 2)),
-        (Act::Write(2, 9), Expected::Changed(4, 2)),
-        (Act::Fetch("size=9", &[("a", 2)]), Expected::Number(4)),
-        (Act::Find("a"), Expected::Number(2)),
-        (Act::Listing(2, "a"), Expected::Is(true)),
-        (Act::Read, Expected::Empty),
-        (Act::Move(2, "b"), Expected::Changed(5, 2)),
-        (Act::Read, Expected::Update(1, 5, 2)),
-        (Act::Settled, Expected::Is(false)),
-        (Act::Read, Expected::Update(2, 5, 2)),
-        (Act::Settled, Expected::Is(true)),
-        (Act::LastChange, Expected::Number(5)),
-        (Act::Result(&[("b", 2)]), Expected::Is(true)),
-        (Act::Remove(2), Expected::Changed(6, 2)),
-        (Act::Pump, Expected::Done),
-        (Act::ReadWaiting, Expected::Update(3, 6, 2)),
-        (Act::Sync, Expected::Live(6, 0, 0)),
-        (Act::Latest, Expected::Number(6)),
-        (Act::ReaderLatest, Expected::Number(6)),
-        (Act::Meet, Expected::Number(6)),
-        (Act::Seat, Expected::Number(6)),
-        (Act::GiveBack, Expected::Done),
-        (Act::Close, Expected::Number(6)),
-        (Act::Read, Expected::End(4, 6, Cause::Closed)),
-        (Act::ReadWaiting, Expected::Ended),
-        (Act::Finish, Expected::Done),
-        (Act::OpenMoved("name=*", 4, 16), Expected::Number(1)),
-        (Act::Create("c"), Expected::Changed(7, 3)),
-        (Act::Move(3, "d"), Expected::Changed(8, 3)),
-        (Act::Read, Expected::Update(1, 7, 3)),
-        (Act::Read, Expected::Update(2, 8, 3)),
-        (Act::HangUp, Expected::Done),
-        (Act::HangUp, Expected::Done),
-        (Act::ReadWaiting, Expected::End(3, 8, Cause::HungUp)),
-        (Act::Result(&[("d", 3)]), Expected::Is(true)),
-        (Act::Finish, Expected::Done),
-    ])]],
-};
+pub static EACH: Scenario = alone!(
+    "each call answers",
+    (Latest, Number(0)),
+    (Find("a"), Refused(Refusal::NoEntry)),
+    (Listing(2, "a"), Refused(Refusal::NoNode)),
+    (Create("a"), Changed(1, 2)),
+    (Create("a"), Refused(Refusal::Exists)),
+    (Open("name=*", 4, 16), Number(1)),
+    (Slot, Number(1)),
+    (Opened, Number(1)),
+    (Result(&[("a", 2)]), Is(true)),
+    (LastChange, Number(1)),
+    (SetAttr(2, 7), Changed(2, 2)),
+    (Fetch("x=7", &[("a", 2)]), Number(2)),
+    (RemoveAttr(2), Changed(3, 2)),
+    (Write(2, 9), Changed(4, 2)),
+    (Fetch("size=9", &[("a", 2)]), Number(4)),
+    (Find("a"), Number(2)),
+    (Listing(2, "a"), Is(true)),
+    (Read, Empty),
+    (Move(2, "b"), Changed(5, 2)),
+    (Read, Update(1, 5, 2)),
+    (Settled, Is(false)),
+    (Read, Update(2, 5, 2)),
+    (Settled, Is(true)),
+    (LastChange, Number(5)),
+    (Result(&[("b", 2)]), Is(true)),
+    (Remove(2), Changed(6, 2)),
+    (Pump, Done),
+    (ReadWaiting, Update(3, 6, 2)),
+    (Sync, Live(6, 0, 0)),
+    (Latest, Number(6)),
+    (ReaderLatest, Number(6)),
+    (Meet, Number(6)),
+    (Seat, Number(6)),
+    (GiveBack, Done),
+    (Close, Number(6)),
+    (Read, End(4, 6, Cause::Closed)),
+    (ReadWaiting, Ended),
+    (Finish, Done),
+    (OpenMoved("name=*", 4, 16), Number(1)),
+    (Create("c"), Changed(7, 3)),
+    (Move(3, "d"), Changed(8, 3)),
+    (Read, Update(1, 7, 3)),
+    (Read, Update(2, 8, 3)),
+    (HangUp, Done),
+    (HangUp, Done),
+    (ReadWaiting, End(3, 8, Cause::HungUp)),
+    (Result(&[("d", 3)]), Is(true)),
+    (Finish, Done),
+);
 
 /// The changes and the reads of `more_threads::WINDOW` in turn.
-const WINDOW_READ: Table = Table::Once(&[
-    (Act::Open("name=*", 2, 10), Expected::Number(1)),
-    (Act::Create("a"), Expected::Changed(1, 2)),
-    (Act::ReadWaiting, Expected::Update(1, 1, 2)),
-    (Act::Create("b"), Expected::Changed(2, 3)),
-    (Act::ReadWaiting, Expected::Update(2, 2, 3)),
-    (Act::Create("c"), Expected::Changed(3, 4)),
-    (Act::ReadWaiting, Expected::Update(3, 3, 4)),
-    (Act::Create("d"), Expected::Changed(4, 5)),
-    (Act::ReadWaiting, Expected::Update(4, 4, 5)),
-    (Act::Create("e"), Expected::Changed(5, 6)),
-    (Act::ReadWaiting, Expected::Update(5, 5, 6)),
+const WINDOW_READ: Table = Once(&[
+    (Open("name=*", 2, 10), Number(1)),
+    (Create("a"), Changed(1, 2)),
+    (ReadWaiting, Update(1, 1, 2)),
+    (Create("b"), Changed(2, 3)),
+    (ReadWaiting, Update(2, 2, 3)),
+    (Create("c"), Changed(3, 4)),
+    (ReadWaiting, Update(3, 3, 4)),
+    (Create("d"), Changed(4, 5)),
+    (ReadWaiting, Update(4, 4, 5)),
+    (Create("e"), Changed(5, 6)),
+    (ReadWaiting, Update(5, 5, 6)),
 ]);
 
 pub static WINDOW_ALONE: Scenario = Scenario {
@@ -82,148 +83,148 @@ pub static WINDOW_ALONE: Scenario = Scenario {
 };
 
 /// A volume that takes two changes takes two openings.
-pub static TWO_OPENINGS: Scenario = Scenario {
-    name: "openings have the limit of changes",
-    threads: &[&[Table::Once(&[
-        (Act::Open("name=*", 1, 1), Expected::Number(1)),
-        (Act::Open("name=*", 1, 1), Expected::Number(2)),
-        (
-            Act::Open("name=*", 1, 1),
-            Expected::Refused(Refusal::Exhausted),
-        ),
-    ])]],
-};
+pub static TWO_OPENINGS: Scenario = alone!(
+    "openings have the limit of changes",
+    (Open("name=*", 1, 1), Number(1)),
+    (Open("name=*", 1, 1), Number(2)),
+    (Open("name=*", 1, 1), Refused(Refusal::Exhausted),),
+);
 
 /// The first slot is used again after a reader that hung up.
-pub static SLOT_AFTER_HANG_UP: Scenario = Scenario {
-    name: "a slot is used after a hang-up",
-    threads: &[&[Table::Once(&[
-        (Act::Open("name=*", 4, 8), Expected::Number(1)),
-        (Act::HangUp, Expected::Done),
-        (Act::Create("a"), Expected::Changed(1, 2)),
-        (Act::Read, Expected::End(1, 0, Cause::HungUp)),
-        (Act::Finish, Expected::Done),
-        (Act::Open("name=*", 4, 8), Expected::Number(1)),
-        (Act::Opened, Expected::Number(1)),
-        (Act::Create("b"), Expected::Changed(2, 3)),
-        (Act::Read, Expected::Update(1, 2, 3)),
-        (Act::Sync, Expected::Live(2, 0, 0)),
-        (Act::Read, Expected::Empty),
-    ])]],
-};
+pub static SLOT_AFTER_HANG_UP: Scenario = alone!(
+    "a slot is used after a hang-up",
+    (Open("name=*", 4, 8), Number(1)),
+    (HangUp, Done),
+    (Create("a"), Changed(1, 2)),
+    (Read, End(1, 0, Cause::HungUp)),
+    (Finish, Done),
+    (Open("name=*", 4, 8), Number(1)),
+    (Opened, Number(1)),
+    (Create("b"), Changed(2, 3)),
+    (Read, Update(1, 2, 3)),
+    (Sync, Live(2, 0, 0)),
+    (Read, Empty),
+);
 
 /// The first slot is used again after a reader that was closed and then hung up.
-pub static SLOT_AFTER_CLOSE: Scenario = Scenario {
-    name: "a slot is used after a close",
-    threads: &[&[Table::Once(&[
-        (Act::Open("name=*", 4, 8), Expected::Number(1)),
-        (Act::Close, Expected::Number(0)),
-        (Act::HangUp, Expected::Done),
-        (Act::Read, Expected::End(1, 0, Cause::Closed)),
-        (Act::Finish, Expected::Done),
-        (Act::Open("name=*", 4, 8), Expected::Number(1)),
-        (Act::Opened, Expected::Number(0)),
-        (Act::Create("a"), Expected::Changed(1, 2)),
-        (Act::Read, Expected::Update(1, 1, 2)),
-        (Act::Sync, Expected::Live(1, 0, 0)),
-        (Act::Read, Expected::Empty),
-    ])]],
-};
+pub static SLOT_AFTER_CLOSE: Scenario = alone!(
+    "a slot is used after a close",
+    (Open("name=*", 4, 8), Number(1)),
+    (Close, Number(0)),
+    (HangUp, Done),
+    (Read, End(1, 0, Cause::Closed)),
+    (Finish, Done),
+    (Open("name=*", 4, 8), Number(1)),
+    (Opened, Number(0)),
+    (Create("a"), Changed(1, 2)),
+    (Read, Update(1, 1, 2)),
+    (Sync, Live(1, 0, 0)),
+    (Read, Empty),
+);
 
 /// A dropped reader leaves its slot taken, another is closed once, a live one isn't finished.
-pub static READERS_DROPPED: Scenario = Scenario {
-    name: "readers are dropped",
-    threads: &[&[Table::Once(&[
-        (Act::Open("name=*", 1, 1), Expected::Number(1)),
-        (Act::Create("a"), Expected::Changed(1, 2)),
-        (Act::Create("b"), Expected::Changed(2, 3)),
-        (Act::Create("c"), Expected::Changed(3, 4)),
-        (Act::Open("name=*", 1, 1), Expected::Number(2)),
-        (Act::Opened, Expected::Number(3)),
-        (Act::Close, Expected::Number(3)),
-        (Act::Close, Expected::Refused(Refusal::NotOpen)),
-        (Act::Read, Expected::End(1, 3, Cause::Closed)),
-        (Act::Finish, Expected::Done),
-        (Act::Open("name=*", 1, 1), Expected::Number(2)),
-        (Act::Finish, Expected::Refused(Refusal::StillOpen)),
-        (Act::Sync, Expected::Live(3, 0, 0)),
-        (Act::Read, Expected::Empty),
-    ])]],
-};
+pub static READERS_DROPPED: Scenario = alone!(
+    "readers are dropped",
+    (Open("name=*", 1, 1), Number(1)),
+    (Create("a"), Changed(1, 2)),
+    (Create("b"), Changed(2, 3)),
+    (Create("c"), Changed(3, 4)),
+    (Open("name=*", 1, 1), Number(2)),
+    (Opened, Number(3)),
+    (Close, Number(3)),
+    (Close, Refused(Refusal::NotOpen)),
+    (Read, End(1, 3, Cause::Closed)),
+    (Finish, Done),
+    (Open("name=*", 1, 1), Number(2)),
+    (Finish, Refused(Refusal::StillOpen)),
+    (Sync, Live(3, 0, 0)),
+    (Read, Empty),
+);
+
+/// The reader's seat makes each call on the volume, and opens a second reader.
+pub static CALLS_BY_READER: Scenario = alone!(
+    "a reader's seat serves each call",
+    (Open("name=*", 4, 8), Number(1)),
+    (ByReader, Done),
+    (Create("a"), Changed(1, 2)),
+    (Fetch("name=*", &[("a", 2)]), Number(1)),
+    (Find("a"), Number(2)),
+    (Listing(2, "a"), Is(true)),
+    (Open("name=*", 4, 8), Number(2)),
+    (Slot, Number(2)),
+    (Opened, Number(1)),
+);
+
+/// A reader reads the change that its own seat made, and then its mark: it hung up, its seat's next
+/// change is refused, and its close comes too late.
+pub static CHANGE_BY_READER: Scenario = alone!(
+    "a reader's seat changes what it reads",
+    (Open("name=*", 1, 8), Number(1)),
+    (ByReader, Done),
+    (Create("a"), Changed(1, 2)),
+    (Read, Update(1, 1, 2)),
+    (HangUp, Done),
+    (Create("a"), Refused(Refusal::Exists)),
+    (Read, End(2, 1, Cause::HungUp)),
+    (Close, Refused(Refusal::NotOpen)),
+    (Finish, Done),
+);
 
 /// Openings with a bad port, a bad backlog or both: the port is refused first.
-const NUMBERS: Table = Table::Once(&[
-    (
-        Act::Open("size>0", 0, 1),
-        Expected::Refused(Refusal::BadPort),
-    ),
-    (
-        Act::Open("size>0", 1025, 65537),
-        Expected::Refused(Refusal::BadPort),
-    ),
-    (
-        Act::Open("size>0", 1, 65537),
-        Expected::Refused(Refusal::BadBacklog),
-    ),
-    (
-        Act::Open("size>0", 0, 65537),
-        Expected::Refused(Refusal::BadPort),
-    ),
+const NUMBERS: Table = Once(&[
+    (Open("size>0", 0, 1), Refused(Refusal::BadPort)),
+    (Open("size>0", 1025, 65537), Refused(Refusal::BadPort)),
+    (Open("size>0", 1, 65537), Refused(Refusal::BadBacklog)),
+    (Open("size>0", 0, 65537), Refused(Refusal::BadPort)),
 ]);
 
 /// Openings that end. With the 64 that stay they are as many as the volume takes changes.
-const ENDED: Table = Table::Times(
-    1936,
-    &[
-        (Act::Open("size>0", 1, 1), Expected::Number(1)),
-        (Act::Close, Expected::Number(0)),
-        (Act::Read, Expected::End(1, 0, Cause::Closed)),
-        (Act::Finish, Expected::Done),
-    ],
-);
+const ENDED: &[Call] = &[
+    (Open("size>0", 1, 1), Number(1)),
+    (Close, Number(0)),
+    (Read, End(1, 0, Cause::Closed)),
+    (Finish, Done),
+];
 
-const STAYING: Table = Table::Times(64, &[(Act::Open("size>0", 1024, 65536), Expected::Any)]);
+const STAYING: Table = Times(64, &[(Open("size>0", 1024, 65536), Any)]);
 
-const FULL: Table = Table::Once(&[
-    (Act::Slot, Expected::Number(64)),
-    (
-        Act::Open("size>0", 1, 1),
-        Expected::Refused(Refusal::NoSlot),
-    ),
+const FULL: Table = Once(&[
+    (Slot, Number(64)),
+    (Open("size>0", 1, 1), Refused(Refusal::NoSlot)),
 ]);
 
 /// One slot is free again.
-const OPENINGS_RUN_OUT: Table = Table::Once(&[
-    (Act::Close, Expected::Number(0)),
-    (Act::Read, Expected::End(1, 0, Cause::Closed)),
-    (Act::Finish, Expected::Done),
-    (
-        Act::Open("size>0", 1, 1),
-        Expected::Refused(Refusal::Exhausted),
-    ),
+const FREED: Table = Once(&[
+    (Close, Number(0)),
+    (Read, End(1, 0, Cause::Closed)),
+    (Finish, Done),
+    (Open("size>0", 1, 1), Refused(Refusal::Exhausted)),
 ]);
 
 pub static SLOTS: Scenario = Scenario {
     name: "slots and openings run out",
-    threads: &[&[NUMBERS, ENDED, STAYING, FULL, NUMBERS, OPENINGS_RUN_OUT]],
+    threads: &[&[NUMBERS, Times(1936, ENDED), STAYING, FULL, NUMBERS, FREED]],
 };
 
 /// Calls that hold the lock, after which no more seats are out than before.
-const SEATS_USED: Table = Table::Once(&[
-    (Act::Open("size>0", 1, 1), Expected::Number(1)),
-    (Act::Sync, Expected::Live(0, 0, 0)),
-    (Act::Meet, Expected::Number(0)),
+const SEATS_USED: Table = Once(&[
+    (Open("size>0", 1, 1), Number(1)),
+    (Sync, Live(0, 0, 0)),
+    (Meet, Number(0)),
 ]);
 
-/// Seats that are dropped. With the thread's own, and one that retires the server, they are all.
-const SEATS_DROPPED: Table = Table::Times(13, &[(Act::Seat, Expected::Number(0))]);
+/// Seats that stay out. With the thread's own, and one that retires the server, they are 15.
+const SEATS_DROPPED: Table = Times(13, &[(Seat, Number(0))]);
 
-const SEATS_RUN_OUT: Table = Table::Once(&[
-    (Act::GiveBack, Expected::Done),
-    (Act::GiveBack, Expected::Done),
-    (Act::Seat, Expected::Number(0)),
-    (Act::Seat, Expected::Refused(Refusal::NoSeat)),
-    (Act::GiveBack, Expected::Refused(Refusal::NoSeat)),
+/// One more is given, and each time that one comes back.
+const SEATS_RUN_OUT: Table = Once(&[
+    (Seat, Number(0)),
+    (Seat, Refused(Refusal::NoSeat)),
+    (GiveBack, Done),
+    (Seat, Number(0)),
+    (GiveBack, Done),
+    (Seat, Number(0)),
+    (Seat, Refused(Refusal::NoSeat)),
 ]);
 
 pub static SEATS: Scenario = Scenario {

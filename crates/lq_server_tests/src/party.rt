@@ -1,49 +1,40 @@
 //! One thread of a scenario: its tokens, and the calls that it makes beside other threads.
 ghost use Rattle.std.specs.Prelude.{◌≡◌, true};
 
-use crate::acts::{Act, Answer, Expected, Row, Table, are_entries, change, opening};
-use crate::random_changes::{DrawnOpening, Draws};
+use crate::acted::Acted;
+use crate::acts::{Act, Answer, Expected, Table, opening};
+use crate::random_changes::DrawnOpening;
 use crate::reader_log::ReaderLog;
-use crate::reference::{Log, Taken};
-use lq_predicate::read;
 use lq_server::{Named, Seat, Server};
-use lq_value::{Name, Refusal};
-use lq_volume::Change;
+use lq_value::Refusal;
 use std::alloc::Global;
 use std::marker::Model;
 use std::sync::Wait;
 
-/// The changes that were accepted, what the kept readers have read, and the row whose answer isn't
-/// the expected one, counted from 0.
-#[derive(Drop)]
-pub struct Acted {
-    pub taken: Vec<Taken>,
-    pub logs: Vec<Log>,
-    pub stop: Option<usize>,
-}
-
-/// A seat of N's server that may make changes, the reader that was opened last, the draws, a table
-/// for each turn to come, how often a call that is answered `NoMemory` is made, and what was done.
+/// A seat of N's server that may make changes, the seat that was taken last, the reader that was
+/// opened last, and whether its seat makes the calls; a table for each turn to come, how often a
+/// call that is answered `NoMemory` is made, and what was done.
 #[derive(Drop)]
 pub struct Party<N: Named> {
-    alloc: Global,
     seat: Seat,
+    other: Option<Seat>,
     reader: Option<ReaderLog<N>>,
-    draws: Draws,
+    is_by_reader: bool,
     tables: &'static [Table],
     tries: usize,
     acted: Acted,
 }
 
 impl<N: Named> Model for Party<N> {
-    ghost use Rattle.std.specs.Prelude.{◌≡◌, true};
+    ghost use Rattle.std.specs.Prelude.{◌≡◌, IfSome, true};
     ghost use Rattle.lq_board.specs.Token.{BoardName};
 
     ghost Value = { BoardName };
 
     ghost view = { λ p. p.seat.board };
 
-    ghost invariant = { λ p. (p.seat.board ≡ N.board) × (p.seat.author.signs ≡ true) };
+    ghost invariant = { λ p. (p.seat.board ≡ N.board) × (p.seat.author.signs ≡ true)
+        × IfSome p.other (λ s. (s.board ≡ N.board) × (s.slot ≡ 0)) × (N.board.free ≡ true) };
 }
 
 impl<N: Named> Party<N> {
@@ -60,21 +51,13 @@ impl<N: Named> Party<N> {
     {
         let seat = server.seat(rt)?;
         Ok(Party {
-            alloc,
             seat,
+            other: None,
             reader: None,
-            draws: Draws {
-                state,
-                newest: 1,
-                made: 0,
-            },
+            is_by_reader: false,
             tables,
             tries,
-            acted: Acted {
-                taken: Vec::new(alloc),
-                logs: Vec::new(alloc),
-                stop: None,
-            },
+            acted: Acted::new(alloc, state),
         })
     }
 
@@ -118,13 +101,20 @@ impl<N: Named> Party<N> {
     }
 
     fn answer<R: Wait>(&mut self, rt: &R, server: &Server<N>, act: &Act) -> Answer {
-        if let Some(change) = change(self.alloc, &mut self.draws, act)? {
-            return self.apply(rt, server, change);
+        if let Some(answer) = self.call(rt, server, act)? {
+            return Ok(answer);
         }
-        if let Some(opening) = opening(&mut self.draws, act) {
+        if let Some(opening) = opening(&mut self.acted.draws, act) {
             return self.open(rt, server, opening);
         }
         match act {
+            Act::ByReader => {
+                self.is_by_reader = true;
+                Ok(Expected::Done)
+            }
+            Act::Linger => self.linger(rt, server),
+            Act::Seat => self.take_seat(rt, server),
+            Act::GiveBack => self.give_back(rt, server),
             Act::Finish => self.finish(rt, server),
             Act::ReadDrawn => self.read_drawn(rt, server),
             Act::ReadOut => self.read_out(rt, server),
@@ -132,18 +122,47 @@ impl<N: Named> Party<N> {
         }
     }
 
-    /// Applies a change, and keeps it if it is accepted.
-    fn apply<R: Wait>(&mut self, rt: &R, server: &Server<N>, change: Change) -> Answer {
-        self.acted.taken.reserve(1)?;
-        let accepted = server.apply(rt, &mut self.seat, &change)?;
-        self.draws.newest = self.draws.newest.max(accepted.node);
-        self.acted.taken.push(Taken { accepted, change })?;
-        self.draws.made = self.acted.taken.len() as u64;
-        Ok(Expected::Changed(accepted.change, accepted.node))
+    fn call<R: Wait>(
+        &mut self,
+        rt: &R,
+        server: &Server<N>,
+        act: &Act,
+    ) -> Result<Option<Expected>, Refusal> {
+        match &mut self.reader {
+            Some(reader) if self.is_by_reader => reader.call(rt, server, &mut self.acted, act),
+            _ => self.acted.call(rt, server, &mut self.seat, act),
+        }
+    }
+
+    /// Fetches so often that another thread waits by then.
+    fn linger<R: Wait>(&mut self, rt: &R, server: &Server<N>) -> Answer {
+        for _ in 0..20_000 {
+            self.call(rt, server, &Act::Fetch("name=*", &[]))?;
+        }
+        Ok(Expected::Done)
+    }
+
+    fn take_seat<R: Wait>(&mut self, rt: &R, server: &Server<N>) -> Answer {
+        let mut other = server.seat(rt)?;
+        let number = server.meet(rt, &mut self.seat, &mut other);
+        self.other = Some(other);
+        Ok(Expected::Number(number))
+    }
+
+    fn give_back<R: Wait>(&mut self, rt: &R, server: &Server<N>) -> Answer {
+        let Some(other) = self.other.take() else {
+            return Err(Refusal::OutOfStep);
+        };
+        server.give_back(rt, other);
+        Ok(Expected::Done)
     }
 
     fn open<R: Wait>(&mut self, rt: &R, server: &Server<N>, opening: DrawnOpening) -> Answer {
-        let reader = ReaderLog::open(rt, self.alloc, server, &mut self.seat, opening)?;
+        let alloc = self.acted.alloc;
+        let reader = match &mut self.reader {
+            Some(reader) if self.is_by_reader => reader.open_another(rt, server, opening)?,
+            _ => ReaderLog::open(rt, alloc, server, &mut self.seat, opening)?,
+        };
         let slot = reader.slot();
         self.reader = Some(reader);
         Ok(Expected::Number(slot))
@@ -169,8 +188,8 @@ impl<N: Named> Party<N> {
 
     /// A drawn number of reads, some of them after a pump.
     fn read_drawn<R: Wait>(&mut self, rt: &R, server: &Server<N>) -> Answer {
-        for _ in 0..self.draws.below(200) {
-            if self.draws.below(4) == 0 {
+        for _ in 0..self.acted.draws.below(200) {
+            if self.acted.draws.below(4) == 0 {
                 self.ask(rt, server, &Act::Pump)?;
             }
             self.ask(rt, server, &Act::Read)?;
@@ -190,50 +209,14 @@ impl<N: Named> Party<N> {
         Ok(Expected::Done)
     }
 
-    /// Asks what an act asks by the seat, or of the reader.
+    /// Asks what an act asks of the reader.
     fn ask<R: Wait>(&mut self, rt: &R, server: &Server<N>, act: &Act) -> Answer {
-        Ok(match act {
-            Act::Fetch(query, rows) => self.fetch(rt, server, query, rows)?,
-            Act::Find(name) => {
-                let name = Name::read(self.alloc, name)?;
-                Expected::Number(server.find(rt, &mut self.seat, 1, &name)?)
-            }
-            Act::Listing(node, name) => {
-                let listing = server.listing(rt, &mut self.seat, *node)?;
-                Expected::Is(listing.dir == 1 && listing.name.as_str() == *name)
-            }
-            Act::Latest => Expected::Number(server.latest(&mut self.seat)),
-            Act::Seat => {
-                let mut other = server.seat(rt)?;
-                Expected::Number(server.meet(rt, &mut self.seat, &mut other))
-            }
-            Act::GiveBack => {
-                let other = server.seat(rt)?;
-                server.give_back(rt, other);
-                Expected::Done
-            }
-            _ => return self.ask_reader(rt, server, act),
-        })
-    }
-
-    fn ask_reader<R: Wait>(&mut self, rt: &R, server: &Server<N>, act: &Act) -> Answer {
         match &mut self.reader {
             Some(reader) => match act {
                 Act::Meet => Ok(Expected::Number(reader.meet(rt, server, &mut self.seat))),
                 _ => reader.ask(rt, server, act),
             },
             None => Err(Refusal::OutOfStep),
-        }
-    }
-
-    // The number of changes, if a query finds just these rows.
-    fn fetch<R: Wait>(&mut self, rt: &R, server: &Server<N>, query: &str, rows: &[Row]) -> Answer {
-        let predicate = read(self.alloc, query)?;
-        let found = server.fetch(rt, &mut self.seat, &predicate)?;
-        if are_entries(&found.entries, rows) {
-            Ok(Expected::Number(found.at))
-        } else {
-            Ok(Expected::Is(false))
         }
     }
 

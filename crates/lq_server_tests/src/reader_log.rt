@@ -1,6 +1,8 @@
 //! A reader of a server in a scenario, with what it read.
-ghost use Rattle.std.specs.Prelude.{◌≡◌};
+ghost use Rattle.std.specs.Prelude.{◌≡◌, true};
+ghost use Rattle.lq_server.specs.Own.{StaysOwn};
 
+use crate::acted::Acted;
 use crate::acts::{Act, Answer, Expected, are_entries};
 use crate::random_changes::DrawnOpening;
 use crate::reference::{Log, text};
@@ -20,7 +22,7 @@ pub struct ReaderLog<N: Named> {
 }
 
 impl<N: Named> Model for ReaderLog<N> {
-    ghost use Rattle.std.specs.Prelude.{◌≡◌};
+    ghost use Rattle.std.specs.Prelude.{◌≡◌, true};
     ghost use Rattle.lq_board.specs.Token.{BoardName};
     ghost use Rattle.lq_server.specs.Own.{IsOwn};
 
@@ -28,7 +30,8 @@ impl<N: Named> Model for ReaderLog<N> {
 
     ghost view = { λ r. r.reader.seat.board };
 
-    ghost invariant = { λ r. (r.reader.seat.board ≡ N.board) × IsOwn r.reader };
+    ghost invariant = { λ r. (r.reader.seat.board ≡ N.board) × IsOwn r.reader
+        × (r.reader.seat.author.signs ≡ true) × (N.board.free ≡ true) };
 }
 
 impl<N: Named> ReaderLog<N> {
@@ -40,9 +43,10 @@ impl<N: Named> ReaderLog<N> {
         seat: &mut Seat,
         opening: DrawnOpening,
     ) -> Result<ReaderLog<N>, Refusal>
-        requires { seat.old.board ≡ N.board }
+        requires { (seat.old.board ≡ N.board) × (N.board.free ≡ true) }
         ensures board { seat.new.board ≡ seat.old.board }
         ensures author { seat.new.author ≡ seat.old.author }
+        ensures own { StaysOwn seat.old seat.new }
     {
         let DrawnOpening {
             query,
@@ -70,6 +74,27 @@ impl<N: Named> ReaderLog<N> {
             log,
             of: PhantomData,
         })
+    }
+
+    /// As `open`, by its own seat.
+    pub fn open_another<R: Wait>(
+        &mut self,
+        rt: &R,
+        server: &Server<N>,
+        opening: DrawnOpening,
+    ) -> Result<ReaderLog<N>, Refusal> {
+        ReaderLog::open(rt, self.log.alloc, server, self.reader.seat(), opening)
+    }
+
+    /// As `Acted::call`, by its own seat.
+    pub fn call<R: Wait>(
+        &mut self,
+        rt: &R,
+        server: &Server<N>,
+        acted: &mut Acted,
+        act: &Act,
+    ) -> Result<Option<Expected>, Refusal> {
+        acted.call(rt, server, self.reader.seat(), act)
     }
 
     /// The slot that it was opened in.

@@ -1,15 +1,18 @@
 //! A scenario: parties at one server, each in a thread of its own, turn by turn.
 ghost use Rattle.std.specs.Prelude.{◌≡◌, ◌≤◌, true};
 
+use crate::acted::Acted;
 use crate::acts::Table;
-use crate::party::{Acted, Party};
+use crate::party::Party;
 use crate::random_changes::QUERIES;
-use crate::reference::{LIMIT, is_left, results_of};
+use crate::reference::{is_left, results_of};
 use lq_server::{Base, Named, Retired, Server, servers_may_be_shared};
 use lq_value::Refusal;
 use lq_volume::Volume;
 use std::alloc::Global;
+use std::marker::Brand;
 use std::sync::Wait;
+use std::test::Fail;
 use std::thread::{Threads, for_each_mut};
 
 /// The tables of each thread, one for each turn; the first thread has one for every turn.
@@ -20,6 +23,15 @@ pub struct Scenario {
     pub name: &'static str,
     pub threads: &'static [&'static [Table]],
 }
+
+/// The scenario of one thread that makes these calls once.
+macro_rules! alone {
+    ($name:literal, $($call:expr),* $(,)?) => {
+        Scenario { name: $name, threads: &[&[Table::Once(&[$($call),*])]] }
+    };
+}
+
+pub(crate) use alone;
 
 /// What the callers of a server did, and what the server left when it ended.
 #[derive(Drop)]
@@ -60,13 +72,8 @@ impl Acted {
     }
 }
 
-/// A base of a server, whose volume takes 2,000 changes. Refused: `NoMemory`, met twice.
-pub fn base(alloc: Global) -> Result<Base, Refusal> {
-    base_with(alloc, LIMIT)
-}
-
 /// A base of a server, whose volume takes this many changes. Refused: `NoMemory`, met twice.
-pub fn base_with(alloc: Global, limit: u64) -> Result<Base, Refusal>
+pub fn base(alloc: Global, limit: u64) -> Result<Base, Refusal>
     requires { (1 ≤ limit) × (limit ≤ 1000000000000) }
 {
     match Base::new(alloc, Volume::new(alloc, limit)) {
@@ -98,6 +105,26 @@ pub fn stage<N: Named + Send + Sync, R: Threads + Wait + Sync>(
     Ok(Done { acted, retired })
 }
 
+/// Plays a scenario by `stage`, at a volume that takes `limit` changes. Fails also with the name of
+/// the scenario and the row that isn't answered as expected.
+pub fn play<R: Threads + Wait + Sync>(
+    rt: &R,
+    alloc: Global,
+    limit: u64,
+    tries: usize,
+    seed: usize,
+    scenario: &Scenario,
+) -> Result<Done, Fail>
+    requires { (1 ≤ limit) × (limit ≤ 1000000000000) }
+{
+    let base = base(alloc, limit)?;
+    let done = stage::<Brand, _>(rt, alloc, base, tries, seed, scenario)?;
+    match done.acted.stop {
+        Some(row) => Err(Fail::from((scenario.name, row))),
+        None => Ok(done),
+    }
+}
+
 /// Plays the turns of a scenario.
 fn act<N: Named + Send + Sync, R: Threads + Wait + Sync>(
     rt: &R,
@@ -110,10 +137,8 @@ fn act<N: Named + Send + Sync, R: Threads + Wait + Sync>(
     requires { N.board.free ≡ true }
 {
     let mut parties = gather(rt, alloc, server, tries, seed, scenario)?;
-    let Some(first) = scenario.threads.first() else {
-        return Err(Refusal::OutOfStep);
-    };
-    for _ in 0..first.len() {
+    let turns = scenario.threads.first().map_or(0, |tables| tables.len());
+    for _ in 0..turns {
         servers_may_be_shared::<N>();
         for_each_mut(
             rt,
@@ -139,10 +164,7 @@ fn gather<N: Named, R: Wait>(
 ) -> Result<Vec<Party<N>>, Refusal>
     requires { N.board.free ≡ true }
 {
-    let mut parties = match Vec::with_capacity(alloc, 4) {
-        Ok(parties) => parties,
-        Err(_) => Vec::with_capacity(alloc, 4)?,
-    };
+    let mut parties = Vec::with_capacity(alloc, 4).or_else(|_| Vec::with_capacity(alloc, 4))?;
     for (place, tables) in scenario.threads.iter().enumerate() {
         let state = (seed as u64).wrapping_mul(4) ^ place as u64;
         parties.push(Party::new(rt, alloc, server, tables, tries, state)?)?;

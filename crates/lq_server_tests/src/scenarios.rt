@@ -1,24 +1,21 @@
 //! Plays the scenarios of the tables, and the worked examples among them, at new servers.
-ghost use Rattle.std.specs.Prelude.{◌≡◌, ◌≤◌};
+ghost use Rattle.std.specs.Prelude.{◌≤◌};
 
 use crate::fills::{COUNTED, ENDS, REFUSED, ROOM};
 use crate::more_threads::{DRAWN, HANG_UP_BESIDE_CHANGES, WINDOW, WRITERS_CREATE, WRITERS_WRITE};
 use crate::one_thread::{
-    EACH, READERS_DROPPED, SEATS, SLOT_AFTER_CLOSE, SLOT_AFTER_HANG_UP, SLOTS, TWO_OPENINGS,
+    CALLS_BY_READER, CHANGE_BY_READER, EACH, READERS_DROPPED, SEATS, SLOT_AFTER_CLOSE,
+    SLOT_AFTER_HANG_UP, SLOTS, TWO_OPENINGS,
 };
 use crate::reference::LIMIT;
-use crate::scenario::{Scenario, base, base_with, stage};
-use crate::seats::run_out;
-use lq_server::{Base, Named, Server};
-use lq_value::Refusal;
+use crate::scenario::{Scenario, play};
 use std::alloc::Global;
-use std::marker::Brand;
 use std::sync::Wait;
 use std::test::Fail;
 use std::thread::Threads;
 
-/// Plays a scenario this many times, each at a server of its own, whose volume takes `limit`
-/// changes: whether it is answered as its tables say.
+/// Whether a scenario is right that is played this many times, each at a server of its own, whose
+/// volume takes `limit` changes.
 fn play_rounds<R: Threads + Wait + Sync>(
     rt: &R,
     alloc: Global,
@@ -29,12 +26,7 @@ fn play_rounds<R: Threads + Wait + Sync>(
     requires { (1 ≤ limit) × (limit ≤ 1000000000000) }
 {
     for round in 0..rounds {
-        let base = base_with(alloc, limit)?;
-        let mut done = stage::<Brand, _>(rt, alloc, base, 1, round, scenario)?;
-        if let Some(row) = done.acted.stop {
-            return Err(Fail::from((scenario.name, row)));
-        }
-        if !done.is_right(alloc)? {
+        if !play(rt, alloc, limit, 1, round, scenario)?.is_right(alloc)? {
             return Err(Fail::from(scenario.name));
         }
     }
@@ -42,7 +34,7 @@ fn play_rounds<R: Threads + Wait + Sync>(
 }
 
 /// Plays scenarios, each once.
-fn play<R: Threads + Wait + Sync>(
+fn play_each<R: Threads + Wait + Sync>(
     rt: &R,
     alloc: Global,
     scenarios: &[&Scenario],
@@ -55,17 +47,17 @@ fn play<R: Threads + Wait + Sync>(
 
 #[test]
 fn each_call_answers(rt: HostRuntime) -> Result<(), Fail> {
-    play(&rt, rt.alloc(), &[&EACH])
+    play_each(&rt, rt.alloc(), &[&EACH])
 }
 
 #[test]
 fn slots_and_openings_run_out(rt: HostRuntime) -> Result<(), Fail> {
-    play(&rt, rt.alloc(), &[&SLOTS])
+    play_each(&rt, rt.alloc(), &[&SLOTS])
 }
 
 #[test]
 fn each_call_notices_and_fills(rt: HostRuntime) -> Result<(), Fail> {
-    play(&rt, rt.alloc(), &[&REFUSED, &ROOM, &ENDS, &COUNTED])
+    play_each(&rt, rt.alloc(), &[&REFUSED, &ROOM, &ENDS, &COUNTED])
 }
 
 #[test]
@@ -75,17 +67,17 @@ fn drawn_schedules_are_answered(rt: HostRuntime) -> Result<(), Fail> {
 
 #[test]
 fn scenario_two_writers(rt: HostRuntime) -> Result<(), Fail> {
-    play(&rt, rt.alloc(), &[&WRITERS_CREATE, &WRITERS_WRITE])
+    play_each(&rt, rt.alloc(), &[&WRITERS_CREATE, &WRITERS_WRITE])
 }
 
 #[test]
 fn scenario_threaded_window(rt: HostRuntime) -> Result<(), Fail> {
-    play(&rt, rt.alloc(), &[&WINDOW])
+    play_each(&rt, rt.alloc(), &[&WINDOW])
 }
 
 #[test]
 fn scenario_slot_reuse_on_server(rt: HostRuntime) -> Result<(), Fail> {
-    play(&rt, rt.alloc(), &[&SLOT_AFTER_HANG_UP, &SLOT_AFTER_CLOSE])
+    play_each(&rt, rt.alloc(), &[&SLOT_AFTER_HANG_UP, &SLOT_AFTER_CLOSE])
 }
 
 #[test]
@@ -93,19 +85,18 @@ fn scenario_hang_up_races_changes(rt: HostRuntime) -> Result<(), Fail> {
     play_rounds(&rt, rt.alloc(), LIMIT, 20, &HANG_UP_BESIDE_CHANGES)
 }
 
-// Whether 16 seats are given, no 17th, and one more after one comes back.
-fn seats_run_out<N: Named, R: Wait>(rt: &R, base: Base) -> Result<bool, Refusal>
-    requires { (base.board ≡ N.board) × (base.volume ≡ N.start) }
-{
-    let server: Server<N> = Server::new(base);
-    let seat = server.seat(rt)?;
-    run_out(rt, &server, seat, 15)
+#[test]
+fn a_readers_seat_serves_each_call(rt: HostRuntime) -> Result<(), Fail> {
+    play_each(&rt, rt.alloc(), &[&CALLS_BY_READER])
+}
+
+#[test]
+fn a_readers_seat_changes_what_it_reads(rt: HostRuntime) -> Result<(), Fail> {
+    play_each(&rt, rt.alloc(), &[&CHANGE_BY_READER])
 }
 
 #[test]
 fn scenario_seats_and_drops(rt: HostRuntime) -> Result<(), Fail> {
-    let seats = base(rt.alloc())?;
-    assert!(rt; seats_run_out::<Brand, _>(&rt, seats)?);
-    play(&rt, rt.alloc(), &[&SEATS, &READERS_DROPPED])?;
+    play_each(&rt, rt.alloc(), &[&SEATS, &READERS_DROPPED])?;
     play_rounds(&rt, rt.alloc(), 2, 1, &TWO_OPENINGS)
 }
