@@ -82,7 +82,7 @@ fn a_full_table_has_no_free_slot(rt: HostRuntime) -> Result<(), Fail> {
     table.insert(slot(1)?, 7);
     table.insert(slot(2)?, 8);
     if let Some(item) = table.get_mut(slot(2)?) {
-        *item += 1;
+        *item = 9;
     }
     assert!(rt; table.get(slot(1)?) == Some(&7) && table.get(slot(2)?) == Some(&9));
     assert!(rt; number_of(table.lowest_free()) == 64);
