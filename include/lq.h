@@ -1,5 +1,5 @@
 /* Yazgoulm, a live query server in the manner of the Be file system, in the caller's own process.
- * Version 0.3.0.
+ * Version 0.4.0.
  *
  * A handle holds one volume, its live queries and the messages that wait for their readers. Each
  * call is one act: it starts no thread, takes no lock, waits for nothing and prints nothing. Nodes,
@@ -65,8 +65,8 @@ extern "C" {
 /* ---- versions, limits, statuses and handles ---- */
 
 /* The version of this header: a million for each major version, a thousand for each minor one. */
-#define LQ_VERSION 3000
-#define LQ_VERSION_TEXT "0.3.0"
+#define LQ_VERSION 4000
+#define LQ_VERSION_TEXT "0.4.0"
 
 /* The version of the library. */
 uint32_t lq_version(void);
@@ -271,15 +271,18 @@ lq_status lq_next(lq *handle, uint64_t result, lq_row *out);
 /* How a query is opened. A change ends the query where its messages and those that wait beside the
  * oldest are more than `backlog`, 1 to LQ_BACKLOG; 0 stands for LQ_BACKLOG. With `moved` one
  * message says that an entry of the result moved, where otherwise one says that it left and
- * another that it came. With `no_result` the handle keeps no rebuilt result for lq_result. */
+ * another that it came. With `no_result` the handle keeps no rebuilt result for lq_result. With
+ * `values` a write, or an attribute that is set or removed, has one message too, if the entry is in
+ * the result before and after it, and also where the value stays the same. */
 typedef struct lq_options {
     uint64_t backlog;
     bool moved;
     bool no_result;
+    bool values;
 } lq_options;
 
 /* The options that null stands for. */
-#define LQ_OPTIONS_INIT { 0, 0, 0 }
+#define LQ_OPTIONS_INIT { 0, 0, 0, 0 }
 
 /* An opened query: its slot, the number of changes so far, how many entries the result has, which
  * lq_take gives by rising node, and the number of that result. */
@@ -298,8 +301,16 @@ lq_status lq_query_open(lq *handle, const char *formula, size_t formula_size,
 /* What a read took: a message, or the mark that ends the query. */
 typedef enum lq_what { LQ_UPDATE = 1, LQ_END = 2 } lq_what;
 
-/* What a message says of an entry, as the opcodes of B_QUERY_UPDATE. */
-typedef enum lq_op { LQ_ENTRY_CREATED = 1, LQ_ENTRY_REMOVED = 2, LQ_ENTRY_MOVED = 3 } lq_op;
+/* What a message says of an entry, by the numbers of Be's NodeMonitor.h. It entered the result,
+ * left it, or moved in it. Or its size and last_modified were written, or an attribute of it was
+ * set or removed: these two leave the result as it is, and come with the option `values` alone. */
+typedef enum lq_op {
+    LQ_ENTRY_CREATED = 1,
+    LQ_ENTRY_REMOVED = 2,
+    LQ_ENTRY_MOVED = 3,
+    LQ_STAT_CHANGED = 4,
+    LQ_ATTR_CHANGED = 5
+} lq_op;
 
 /* Why a query ended: lq_query_close, lq_hang_up, or more messages than its backlog holds. */
 typedef enum lq_cause { LQ_CLOSED = 1, LQ_HUNG_UP = 2, LQ_OVERRUN = 3 } lq_cause;
@@ -308,8 +319,9 @@ typedef enum lq_cause { LQ_CLOSED = 1, LQ_HUNG_UP = 2, LQ_OVERRUN = 3 } lq_cause
  * query's messages, and then the mark, from 1. `change` is the change that made the message, and at
  * the mark the last one that the messages cover. `last` is true at the final message of a change.
  * `dir`, `name` and `node` are the entry's, after the change; `from_dir` and `from_name` are the
- * place that it moved from. A field that `what` and `op` give no meaning is 0, and its name is the
- * empty text. */
+ * place that it moved from, and `attr` is the name of the attribute that was set or removed. The
+ * values themselves aren't in it: lq_entry and lq_attr_named give those that are there now. A field
+ * that `what` and `op` give no meaning is 0, and its name is the empty text. */
 typedef struct lq_message {
     uint64_t seq;
     uint64_t change;
@@ -322,8 +334,10 @@ typedef struct lq_message {
     bool last;
     size_t name_size;
     size_t from_name_size;
+    size_t attr_size;
     char name[LQ_NAME_SIZE + 1];
     char from_name[LQ_NAME_SIZE + 1];
+    char attr[LQ_NAME_SIZE + 1];
 } lq_message;
 
 /* Which slots have a message or a mark to read: the bit `slot - 1` is set just where lq_read would
@@ -371,9 +385,9 @@ lq_status lq_finish(lq *handle, uint64_t slot);
 lq_status lq_drop(lq *handle, uint64_t slot);
 
 /* The result of a slot, rebuilt from its opening and the messages that were read from it. `change`
- * is that of the latest message. `settled` is true if that message was the last of its change, so
- * that this is the query's result then. `count` is how many entries lq_take gives, by rising node,
- * and `result` the number of this result. */
+ * is the number of the change that made the last of these messages. `settled` is true if that
+ * message was the final one of its change, so that this is the query's result then. `count` is how
+ * many entries lq_take gives, by rising node, and `result` the number of this result. */
 typedef struct lq_rebuilt {
     uint64_t change;
     size_t count;

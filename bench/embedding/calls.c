@@ -85,7 +85,7 @@ static double writes(int windows) {
         "{\"do\":\"read\",\"slot\":5}", "{\"do\":\"read\",\"slot\":6}",
         "{\"do\":\"read\",\"slot\":7}", "{\"do\":\"read\",\"slot\":8}"};
     char formula[32];
-    lq_options options = {16, false, false};
+    lq_options options = {16, false, false, false};
     lq_opening opening;
     int size = sprintf(formula, "size>%d", BORDER);
     must(lq_volume_open(&volume));

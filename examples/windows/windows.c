@@ -54,9 +54,9 @@ static void check(const window *it) {
 }
 
 int main(void) {
-    static window windows[WINDOWS] = {{"size>500", {0, false, true}, 0, {false}},
-                                      {"size<=500", {150, false, true}, 0, {false}},
-                                      {"name==*7.txt", {0, true, true}, 0, {false}}};
+    static window windows[WINDOWS] = {{"size>500", {0, false, true, false}, 0, {false}},
+                                      {"size<=500", {150, false, true, false}, 0, {false}},
+                                      {"name==*7.txt", {0, true, true, false}, 0, {false}}};
     must(lq_volume_open(&volume));
     for (int at = 0; at < WINDOWS; at++) show(&windows[at]);
     for (int change = 0; change < CHANGES; change++) {

@@ -54,7 +54,7 @@ with Volume() as volume:
         for window in windows:
             if window.query in ready and (window is not small or number % 250 == 249):
                 window.follow()
-            if applied.node in window.query.rows:  # a change inside a result has no message
+            if applied.node in window.query.rows:  # which has no message here, without `values`
                 window.draw([applied])
     for window in windows:
         found = {it.node: it.size for it in volume.fetch(window.query.formula)}

@@ -10,7 +10,7 @@ from ._types import (
     CAUSES, FILE, FOLDER, TYPES, Applied, Attr, Attribute, Entry, Info, Mark, Message, Op, Opcode, refusal,
 )  # fmt: skip
 
-_VERSION = 3000  # of the header whose structs stand below
+_VERSION = 4000  # of the header whose structs stand below
 _ROOM = 64  # entries that are taken at a time
 _TEXT_SIZE = 4096
 _KINDS = FILE, FOLDER
@@ -38,7 +38,7 @@ class _Row(Structure):
 
 
 class _Options(Structure):
-    _fields_ = [("backlog", c_uint64), ("moved", c_bool), ("no_result", c_bool)]
+    _fields_ = [("backlog", c_uint64), ("moved", c_bool), ("no_result", c_bool), ("values", c_bool)]
 
 
 class _Opening(Structure):
@@ -49,7 +49,8 @@ class _Message(Structure):
     _fields_ = [
         ("seq", c_uint64), ("change", c_uint64), ("dir", c_uint64), ("node", c_uint64), ("from_dir", c_uint64),
         ("what", c_uint32), ("op", c_uint32), ("cause", c_uint32), ("last", c_bool),
-        ("name_size", c_size_t), ("from_name_size", c_size_t), ("name", _Name), ("from_name", _Name),
+        ("name_size", c_size_t), ("from_name_size", c_size_t), ("attr_size", c_size_t),
+        ("name", _Name), ("from_name", _Name), ("attr", _Name),
     ]  # fmt: skip
 
 
@@ -356,11 +357,12 @@ class Handle:
             raise ValueError(f"text must have at most {_TEXT_SIZE} bytes in UTF-8, not {len(raw)}")
         return literal.raw[:size].decode("utf-8")
 
-    def open(self, formula: Any, backlog: int, moved: Any, *values: Any) -> Tuple[int, int, List[Entry]]:
+    def open(self, formula: Any, backlog: int, moved: Any, values: Any, *bound: Any) -> Tuple[int, int, List[Entry]]:
         self._own()
-        it, how, said = _Opening(), _Options(backlog, bool(moved), True), (formula, backlog, moved, *values)
+        how = _Options(backlog, bool(moved), True, bool(values))  # a Query keeps rows of its own
+        it, said = _Opening(), (formula, backlog, moved, values, *bound)
         with self.lock:
-            self._ask("open", said, formula, values[0] if values else None, byref(how), byref(it))
+            self._ask("open", said, formula, bound[0] if bound else None, byref(how), byref(it))
             try:
                 return it.slot, it.at, self._taken(it.count, it.result)
             except BaseException:
@@ -483,14 +485,18 @@ class Reader:
         raise StopIteration
 
     def _followed(self, it: Any) -> Message:
-        """The message, which is put under its node or takes the node out. Its row, if any, keeps the place it had."""
+        """The message, which is put under its node or takes the node out. A row that goes keeps the place that it had,
+        and one of a value is to look its entry up again."""
         op, node = Opcode(it.op), it.node
         is_moved = op is Opcode.B_ENTRY_MOVED
         place = (it.from_dir, _text(it.from_name, it.from_name_size)) if is_moved else (None, None)
-        message = Message(it.seq, it.change, it.last, op, it.dir, node, _text(it.name, it.name_size), *place)
+        attribute = _text(it.attr, it.attr_size) if op is Opcode.B_ATTR_CHANGED else None
+        message = Message(it.seq, it.change, it.last, op, it.dir, node, _text(it.name, it.name_size), *place, attribute)
         placed, rows = self._now_placed, self._now_rows
         if op is not Opcode.B_ENTRY_REMOVED:
             placed[node] = message
+            if op >= Opcode.B_STAT_CHANGED and node in rows:
+                rows[node]._is_old = True
         elif node in placed:
             if node in rows:
                 rows[node]._placed = placed[node]

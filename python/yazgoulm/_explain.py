@@ -45,7 +45,7 @@ EXAMPLES = """
 FIELDS = {
     "create": "name [dir] [kind] [size] [time]", "remove": "node", "move": "node name [dir] [clobber]",
     "write": "node size [time]", "set": "node attr type value", "unset": "node attr",
-    "open": "query port backlog [moved]", "read": "slot", "hang_up": "slot", "close": "slot", "finish": "slot",
+    "open": "query port backlog [moved] [values]", "read": "slot", "hang_up": "slot", "close": "slot", "finish": "slot",
     "result": "slot", "find": "name [dir]", "entry": "node", "fetch": "query",
 }  # fmt: skip
 NATURAL, WHOLE = (0, (1 << 64) - 1), (-(1 << 63), (1 << 63) - 1)
@@ -169,7 +169,7 @@ def _like(word: Any, words: Any) -> str:
 def _wrong(name: str, value: Any, type: Any) -> str:
     """What a field must be, if it isn't."""
     is_text = isinstance(value, str) and not isinstance(value, Number)
-    if name in ("clobber", "moved"):
+    if name in ("clobber", "moved", "values"):
         return "" if isinstance(value, bool) else "true or false"
     if name == "kind":
         return "" if is_text and value in ("file", "folder") else '"file" or "folder"'

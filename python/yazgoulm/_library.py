@@ -2,7 +2,7 @@
 import ctypes.util, os, subprocess
 from typing import Any, Optional, Tuple
 
-VERSION = "0.3.0"
+VERSION = "0.4.0"
 # The shared library of this minor version, which alone has the structs of this package. The other name is its link,
 # which may be of another version, and the name in a wheel.
 _NAMES = "liblq.so." + VERSION.rpartition(".")[0], "liblq.so"

@@ -1,21 +1,24 @@
-"""`yazgoulm-mail MAILDIR [FORMULA..]` prints the mail of a Maildir that matches a formula, and what comes and goes.
+"""`yazgoulm-mail MAILDIR [FORMULA..]` prints the mail of a Maildir that matches a formula, and what happens to it.
 
-    $ yazgoulm-mail Mail
-    yazgoulm-mail: follows Mail: MAIL:status==New (Ctrl-C ends)
+    $ yazgoulm-mail Mail 'size>500'
+    yazgoulm-mail: follows Mail: size>500 (Ctrl-C ends)
     = Lunch
     + Photos
+    ~ Photos (Read)
     - Lunch
 
-A line has a sign and a subject: `=` it is there at the start, `+` it has come, `-` it has left. Without a formula it
-shows the new mail. With several, each line begins with its formula and a tab. A formula can ask for:
+A line has a sign and a subject: `=` it is there at the start, `+` it has come, `-` it has left, `~` it matches as
+before, and has another status, which comes last. Without a formula it shows the new mail. With several, each line
+begins with its formula and a tab. A formula can ask for:
 
 - `MAIL:status`, `New` or `Read`; `MAIL:from` and `MAIL:subject`;
 - `size`, and `last_modified`, when the message's file was written.
 
 The flags are:
 
-- `--json` prints an object in each line, with `change` ("there", "came" or "left"), `formula`, `key` (the name of the
-  message's file without its flags), `from` and `subject`.
+- `--json` prints an object in each line, with `change` ("there", "came", "left" or "changed"), `formula`, `key` (the
+  name of the message's file without its flags), `from`, `subject` and `status`. Of one that has left these are as
+  printed before.
 - `--quiet` leaves out the line that says what is followed, which goes to standard error.
 
 The status is 2 if it can't begin, as with a formula that can't be read, whose fault is marked, or without such a
@@ -25,16 +28,16 @@ from email.errors import MessageError
 from email.header import decode_header, make_header
 from email.parser import BytesHeaderParser
 
-from . import B_ENTRY_CREATED, NotFound, Overrun, Volume, __version__
+from . import B_ATTR_CHANGED, B_ENTRY_CREATED, B_STAT_CHANGED, NotFound, Overrun, Volume, __version__
 from ._text import printable
 from .folder._inotify import events
 from .folder._terminal import ENDED, UNUSABLE, Trouble, Unread, carried_out, is_read, say, tell
 
 NAME = "yazgoulm-mail"
 SECONDS = 0.2  # between two looks at the Maildir, where the system doesn't say what happens there
-CHANGES = {"=": "there", "+": "came", "-": "left"}
+CHANGES = {"=": "there", "+": "came", "-": "left", "~": "changed"}
 EXAMPLES = """
-A line has a sign and a subject: = it is there at the start, + it has come, - it has left.
+A line has a sign and a subject: = it is there at the start, + it has come, - it has left, ~ it has another status.
 
   %(prog)s ~/Mail
   %(prog)s ~/Mail 'MAIL:from=="*<ann@*"' 'size>1000000' 'MAIL:subject=="*[Ll]unch*" && MAIL:status==New'
@@ -100,9 +103,9 @@ class Mirror:
 class Folder:
     """A live folder: the messages that match a formula, kept right by what the query sends and nothing else."""
 
-    def __init__(self, volume, formula, backlog=65_536):
+    def __init__(self, volume, formula, **options):
         self.volume, self.formula, self.rows = volume, formula, {}
-        self.query = volume.open(formula, backlog=backlog)
+        self.query = volume.open(formula, **options)
         self.change(self.query.entries, [])
 
     def change(self, created, removed):
@@ -117,13 +120,16 @@ class Folder:
         except NotFound:
             return entry.name  # removed meanwhile: a later message says so
 
+    def heard(self, message):
+        came = message.op == B_ENTRY_CREATED
+        return self.change([message], []) if came else self.change([], [message])
+
     def follow(self):
         """Applies the messages that wait. Returns what has come and gone."""
         told = []
         try:
             for message in self.query:
-                came = message.op == B_ENTRY_CREATED
-                told += self.change([message], []) if came else self.change([], [message])
+                told += self.heard(message)
         except Overrun:  # more messages than the backlog has room for: the query is opened again
             found = self.query.reopen()
             told += self.change(found.created, found.removed)
@@ -131,11 +137,34 @@ class Folder:
 
 
 class Mails(Folder):
-    """A live folder whose rows are what is printed of a message, and not its subject alone."""
+    """A live folder whose rows are what is printed of a message, with its status as it changes."""
+
+    def __init__(self, volume, formula):
+        super().__init__(volume, formula, values=True)
+
+    def heard(self, message):
+        if message.op in (B_STAT_CHANGED, B_ATTR_CHANGED):
+            return self.renew(message)
+        return super().heard(message)
+
+    def renew(self, entry):
+        """Makes a row anew by the volume. Returns it where its status is another."""
+        row = self.subject(entry)
+        if row["status"] in (None, self.rows[entry.node]["status"]):  # None: removed meanwhile
+            return []
+        self.rows[entry.node] = row
+        return [("~", row)]
+
+    def follow(self):
+        at = self.query.at
+        told = super().follow()
+        if self.query.at != at:  # it was opened again: messages of values were lost too
+            told += [it for entry in self.query.entries for it in self.renew(entry)]
+        return told
 
     def subject(self, entry):
         row = {"key": entry.name}
-        for name in "from", "subject":
+        for name in "from", "subject", "status":
             try:
                 row[name] = self.volume.attribute(entry.node, f"MAIL:{name}").value
             except NotFound:
@@ -163,15 +192,17 @@ class Events:
 
 
 def line(given, formula, sign, row):
-    """What is printed of a message that is there, has come or has left."""
+    """What is printed of a message that is there, has come, has left or has another status."""
     if given.json:
         return json.dumps({"change": CHANGES[sign], "formula": formula, **row})
     said = f"{sign} {printable(row['subject'] if row['subject'] is not None else row['key'])}"
+    if sign == "~":
+        said += f" ({row['status']})"
     return f"{printable(formula)}\t{said}" if len(given.formulas) > 1 else said
 
 
 def show(given, volume):
-    """Prints what each folder has, and then what enters and leaves it, without end."""
+    """Prints what each folder has, and then what happens to it, without end."""
     if not given.quiet:
         tell(NAME, f"follows {given.maildir}: {', '.join(given.formulas)} (Ctrl-C ends)")
     mirror, waiting = Mirror(volume, given.maildir), Events(given.maildir)
@@ -196,7 +227,7 @@ def show(given, volume):
 def parser():
     it = argparse.ArgumentParser(
         prog=NAME, usage="%(prog)s [OPTION ..] MAILDIR [FORMULA ..]",
-        description="Prints the mail of a Maildir that matches a formula, and then what comes and goes.",
+        description="Prints the mail of a Maildir that matches a formula, and then what happens to it.",
         epilog=EXAMPLES, formatter_class=argparse.RawDescriptionHelpFormatter, allow_abbrev=False,
     )  # fmt: skip
     it.add_argument("maildir", metavar="MAILDIR", nargs="?", help="a folder with the folders new and cur")

@@ -35,7 +35,7 @@ typedef struct {
     ARGUMENTS(X)
     TYPES(X)
 #undef X
-    PyObject *opcodes[4], *causes[4], *types[5];
+    PyObject *opcodes[6], *causes[4], *types[5];
 } Own;
 
 /* The numbers of the types, as `types` has them. */
@@ -46,10 +46,8 @@ static void free_own(Own *own) {
     ARGUMENTS(X)
     TYPES(X)
 #undef X
-    for (int number = 1; number < 4; number++) {
-        Py_XDECREF(own->opcodes[number]);
-        Py_XDECREF(own->causes[number]);
-    }
+    for (int number = 1; number < 6; number++) Py_XDECREF(own->opcodes[number]);
+    for (int number = 1; number < 4; number++) Py_XDECREF(own->causes[number]);
     for (int at = 0; at < 5; at++) Py_XDECREF(own->types[at]);
     PyMem_Free(own);
 }
@@ -89,11 +87,10 @@ static int fill_own(Own *own, const char *path, PyObject *arguments, PyObject *t
     if (!(own->py_##name = PyObject_GetAttrString(types, #name))) return -1;
     TYPES(X)
 #undef X
-    for (uint32_t number = 1; number < 4; number++) {
-        own->opcodes[number] = PyObject_CallFunction(own->py_Opcode, "I", number);
-        own->causes[number] = word(own->py_CAUSES, number);
-        if (!own->opcodes[number] || !own->causes[number]) return -1;
-    }
+    for (uint32_t number = 1; number < 6; number++)
+        if (!(own->opcodes[number] = PyObject_CallFunction(own->py_Opcode, "I", number))) return -1;
+    for (uint32_t number = 1; number < 4; number++)
+        if (!(own->causes[number] = word(own->py_CAUSES, number))) return -1;
     for (int at = 0; at < 5; at++)
         if (!(own->types[at] = word(own->py_TYPES, type_codes[at]))) return -1;
     return 0;
@@ -870,17 +867,18 @@ METHOD(attribute) {
 /* ---- live queries ---- */
 
 METHOD(open) {
-    TAKES(count == 4 ? 4 : 3);
+    TAKES(count == 5 ? 5 : 4);
     lq_options options = LQ_OPTIONS_INIT;
     lq_opening out;
     asked it;
     uint64_t place;
     PyObject *bound, *entries = NULL;
-    int moved = PyObject_IsTrue(args[2]);
-    if (moved < 0 || take_natural(own, "backlog", args[1], &options.backlog) ||
-        take_asked(own, args[0], count > 3 ? args[3] : Py_None, &it))
+    int moved = PyObject_IsTrue(args[2]), values = PyObject_IsTrue(args[3]);
+    if (moved < 0 || values < 0 || take_natural(own, "backlog", args[1], &options.backlog) ||
+        take_asked(own, args[0], count > 4 ? args[4] : Py_None, &it))
         return NULL;
     options.moved = moved;
+    options.values = values;
     options.no_result = true; /* a Query keeps rows of its own */
     enter(self);
     lq_status status = ask(self, &it, &options, &out, &place, &bound);
@@ -983,7 +981,8 @@ static PyObject *message(const Own *own, const lq_message *it) {
     return RECORD(own->py_Message, natural(it->seq), natural(it->change), PyBool_FromLong(it->last),
                   same(own->opcodes[it->op]), natural(it->dir), natural(it->node), text(it->name, it->name_size),
                   is_moved ? natural(it->from_dir) : same(Py_None),
-                  is_moved ? text(it->from_name, it->from_name_size) : same(Py_None));
+                  is_moved ? text(it->from_name, it->from_name_size) : same(Py_None),
+                  it->op == LQ_ATTR_CHANGED ? text(it->attr, it->attr_size) : same(Py_None));
 }
 
 /* Takes a node out of the dicts. Its row, if it has one, keeps the place that it had. */
@@ -994,6 +993,16 @@ static int leave_result(Reader *self, PyObject *node) {
     if (!row && PyErr_Occurred()) return -1;
     if (row && (PyObject_SetAttrString(row, "_placed", placed) || PyDict_DelItem(self->rows, node))) return -1;
     return PyDict_DelItem(self->placed, node);
+}
+
+/* Puts a message under its node. Where it is one of a value, the node's row, if it has one, is to look the entry up
+   again. */
+static int put_message(Reader *self, PyObject *node, PyObject *made, uint32_t op) {
+    bool is_value = op == LQ_STAT_CHANGED || op == LQ_ATTR_CHANGED;
+    PyObject *row = is_value && PyDict_GET_SIZE(self->rows) > 0 ? PyDict_GetItemWithError(self->rows, node) : NULL;
+    if (!row && PyErr_Occurred()) return -1;
+    if (row && PyObject_SetAttrString(row, "_is_old", Py_True)) return -1;
+    return PyDict_SetItem(self->placed, node, made);
 }
 
 /* The next message, under the lock. Null without an exception: none waits, or the end was read, and `mark` is there. */
@@ -1015,7 +1024,7 @@ static PyObject *read_next(Reader *self) {
     PyObject *made = message(own, &out);
     if (!made) return NULL;
     PyObject *node = PyTuple_GET_ITEM(made, NODE);
-    int failed = out.op == LQ_ENTRY_REMOVED ? leave_result(self, node) : PyDict_SetItem(self->placed, node, made);
+    int failed = out.op == LQ_ENTRY_REMOVED ? leave_result(self, node) : put_message(self, node, made, out.op);
     if (failed) Py_CLEAR(made);
     else Py_XSETREF(self->latest, same(made));
     return made;

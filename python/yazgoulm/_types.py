@@ -66,12 +66,13 @@ class _Word(enum.IntEnum):
 
 
 class Opcode(_Word):
-    """What a message says of its entry, by the numbers of BeOS: it entered the result, left it, or moved in it."""
+    """What a message says of its entry, by the numbers of BeOS. It entered the result, left it, or moved in it; or its
+    size and time were written, or an attribute of it was set or removed. The last two come with `values` alone."""
 
-    B_ENTRY_CREATED, B_ENTRY_REMOVED, B_ENTRY_MOVED = range(1, 4)
+    B_ENTRY_CREATED, B_ENTRY_REMOVED, B_ENTRY_MOVED, B_STAT_CHANGED, B_ATTR_CHANGED = range(1, 6)
 
 
-B_ENTRY_CREATED, B_ENTRY_REMOVED, B_ENTRY_MOVED = Opcode
+B_ENTRY_CREATED, B_ENTRY_REMOVED, B_ENTRY_MOVED, B_STAT_CHANGED, B_ATTR_CHANGED = Opcode
 
 
 class Cause(_Text):
@@ -153,7 +154,8 @@ class Info(NamedTuple):
 class Message(NamedTuple):
     """What one change did to one result. `last` is true for the final message of its change.
 
-    `op` is B_ENTRY_CREATED, B_ENTRY_REMOVED or B_ENTRY_MOVED; the last alone has `from_dir` and `from_name`."""
+    `op` is B_ENTRY_CREATED, B_ENTRY_REMOVED or B_ENTRY_MOVED; the last alone has `from_dir` and `from_name`. With
+    `values` it may be B_STAT_CHANGED too, or B_ATTR_CHANGED, which alone has `attribute`: the attribute's name."""
 
     seq: int
     change: int
@@ -164,6 +166,7 @@ class Message(NamedTuple):
     name: str
     from_dir: Optional[int]
     from_name: Optional[str]
+    attribute: Optional[str] = None
 
 
 class Mark(NamedTuple):

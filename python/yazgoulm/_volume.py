@@ -256,18 +256,28 @@ class Volume:
     def open(
         self,
         formula: Formula,
-        values: Optional[Iterable[Union[str, int]]] = None,
+        bound: Optional[Iterable[Union[str, int]]] = None,
         *,
         backlog: int = 65_536,
         moved: bool = False,
+        values: Union[bool, Iterable[Union[str, int]], None] = False,
         on_overrun: str = "raise",
     ) -> "Query":
-        """Opens a live query: see Query. `values` are those of the formula's `$1`, `$2` and so on: see `fetch`.
+        """Opens a live query: see Query. `bound` has the values of the formula's `$1`, `$2` and so on, as `fetch` takes
+        them.
 
         At most `backlog` messages, 1 to 65,536, wait beside the oldest. With `moved` an entry that moves within the
         result has one message for it, and not two. Where more messages come the query ends, and reading it then raises
-        Overrun; with `on_overrun="mark"` its `mark` alone says so."""
-        return Query(self, formula, values, backlog, moved, on_overrun)
+        Overrun; with `on_overrun="mark"` its `mark` alone says so.
+
+        With `values=True` each `write`, `set` and `unset` of an entry that is in the result before and after it has one
+        message too, also where the value stays the same. Before 0.4.0 `values` was the name of `bound`: a list is still
+        taken as that."""
+        if not isinstance(values, bool):
+            if bound is not None:
+                raise TypeError(f"values must be True or False beside bound, not {said(values)}")
+            bound, values = values, False
+        return Query(self, formula, bound, backlog, moved, values, on_overrun)
 
     def ready(self) -> List["Query"]:
         """The queries that have a message, or their mark, to be read."""
@@ -402,13 +412,15 @@ def _place(it: _Placed) -> Place:
 class Row:
     """An entry of a query's result, at the place that the messages read so far give it.
 
-    `info` is what it shows beside: a change inside a result has no message, so call `refresh` after making one."""
+    `info` is what it shows beside. A query with `values` has a message of each change to it, and `info` is looked up
+    again after that. Without, a change inside a result has no message, so call `refresh` after making one."""
 
-    __slots__ = "node", "_rows", "_placed", "_info"
+    __slots__ = "node", "_rows", "_placed", "_info", "_is_old"
 
     def __init__(self, rows: "Rows", node: int) -> None:
         self.node, self._rows, self._placed = node, rows, rows._placed[node]
         self._info: Optional[Info] = None
+        self._is_old = False  # whether a message that was read says that `_info` may be another now
 
     @property
     def place(self) -> Place:
@@ -423,9 +435,10 @@ class Row:
 
     @property
     def info(self) -> Optional[Info]:
-        """The entry with all that it has, as it was at the latest `refresh`, or when this was first asked for. None
-        where the entry had gone from the volume by then, as a message that waits says."""
-        if self._info is None:
+        """The entry with all that it has. It is looked up by `refresh`, when this is first asked for, and when this is
+        first asked for after a message of one of its values was read. None where the entry had gone from the volume
+        before it was ever looked up, as a message that waits says."""
+        if self._info is None or self._is_old:
             self.refresh()
         return self._info
 
@@ -437,8 +450,9 @@ class Row:
         try:
             old = self._info
             new: Info = volume._handle.entry(self.node)
-            self._info = new
+            self._info, self._is_old = new, False
         except NotFound:
+            self._is_old = False  # no node is given twice
             return False
         finally:
             lock.release()
@@ -495,11 +509,13 @@ class Rows(Mapping[int, Row]):
         with self._volume._lock:
             return [self[node] for node in self._placed]
 
-    def _begin(self, placed: Dict[int, _Placed]) -> None:
-        """Has these entries alone. Rows of those that it had stay."""
+    def _begin(self, placed: Dict[int, _Placed], are_old: bool) -> None:
+        """Has these entries alone. Rows of those that it had stay, and look them up again where they are old."""
         for node, row in self._rows.items():
             if node not in placed:
                 row._placed = self._placed[node]
+            elif are_old:
+                row._is_old = True
         self._rows = {node: row for node, row in self._rows.items() if node in placed}
         self._placed = placed
 
@@ -542,17 +558,18 @@ class Query(_Reader):  # type: ignore[misc]
         self,
         volume: Volume,
         formula: Formula,
-        values: Optional[Iterable[Union[str, int]]],
+        bound: Optional[Iterable[Union[str, int]]],
         backlog: int,
         moved: bool,
+        values: bool,
         on_overrun: str,
     ) -> None:
         if on_overrun not in ("raise", "mark"):
             raise ValueError(f'on_overrun must be "raise" or "mark", not {said(on_overrun)}')
-        self._volume, self._moved, self._on_overrun = volume, moved, on_overrun
+        self._volume, self._moved, self._values, self._on_overrun = volume, moved, values, on_overrun
         self._backlog = _arguments.whole("backlog", backlog, 1, 65_536)
         self._in_a_row = 0  # messages of an `async for` that waited for nothing
-        self.formula, *self._values = _arguments.asked(formula, values)
+        self.formula, *self._bound = _arguments.asked(formula, bound)
         self.rows = Rows(volume)
         with volume._lock:
             self._open()
@@ -561,9 +578,10 @@ class Query(_Reader):  # type: ignore[misc]
         """Opens it in a slot, under the lock."""
         volume, rows = self._volume, self.rows
         volume._free_forgotten()
-        slot, self.at, self.entries = volume._handle.open(self.formula, self._backlog, self._moved, *self._values)
+        options = self._backlog, self._moved, self._values
+        slot, self.at, self.entries = volume._handle.open(self.formula, *options, *self._bound)
         self._covered: Optional[int] = None  # the last change that is covered, if `close` has ended it
-        rows._begin({it.node: it for it in self.entries})
+        rows._begin({it.node: it for it in self.entries}, self._values)
         self._begin(volume._handle, slot, rows._placed, rows._rows)
         volume._queries[slot] = weakref.ref(self)
 
@@ -737,7 +755,8 @@ class Query(_Reader):  # type: ignore[misc]
 
     def reopen(self) -> Difference:
         """Drops the query and opens its formula again, with its rows as the new opening has them. Returns how they
-        differ from the rows before. A refusal leaves the query dropped, with the rows that it had."""
+        differ from the rows before, by their places. With `values` each row that stays looks its `info` up again. A
+        refusal leaves the query dropped, with the rows that it had."""
         volume = self._volume
         try:
             with volume._lock:

@@ -32,7 +32,7 @@ typedef struct act {
     size_t name_size, text_size;
     uint32_t kind, type;
     uint64_t backlog;
-    bool flag;
+    bool flag, values;
 } act;
 
 static inline void say(text *to, const char *plain) {
@@ -128,6 +128,7 @@ static inline void say_line(text *to, const act *it) {
         say_text(to, ",\"query\":", it->text, it->text_size);
         say_natural(to, ",\"port\":1,\"backlog\":", it->backlog ? it->backlog : LQ_BACKLOG);
         say_bool(to, ",\"moved\":", it->flag);
+        if (it->values) say_bool(to, ",\"values\":", true);
         break;
     case FIND:
         say_natural(to, ",\"dir\":", it->dir);
@@ -158,16 +159,21 @@ static inline void say_result(text *to, lq *handle, uint64_t result, size_t coun
 }
 
 static inline void say_message(text *to, const lq_message *it) {
-    static const char *const ops[] = {"", "CREATED", "REMOVED", "MOVED"}, *const causes[] = {
-                                                                              "", "closed",
-                                                                              "hung_up", "overrun"};
+    static const char *const ops[] = {"",
+                                      "B_ENTRY_CREATED",
+                                      "B_ENTRY_REMOVED",
+                                      "B_ENTRY_MOVED",
+                                      "B_STAT_CHANGED",
+                                      "B_ATTR_CHANGED"},
+                      *const causes[] = {"", "closed", "hung_up", "overrun"};
     if (it->what == LQ_END) {
         say_text(to, "{\"cause\":", causes[it->cause], strlen(causes[it->cause]));
         say_natural(to, ",\"change\":", it->change);
         say_natural(to, ",\"seq\":", it->seq);
         say(to, ",\"what\":\"END\"}");
     } else {
-        say_natural(to, "{\"change\":", it->change);
+        if (it->op == LQ_ATTR_CHANGED) say_text(to, "{\"attr\":", it->attr, it->attr_size);
+        say_natural(to, it->op == LQ_ATTR_CHANGED ? ",\"change\":" : "{\"change\":", it->change);
         say_natural(to, ",\"dir\":", it->dir);
         if (it->op == LQ_ENTRY_MOVED) {
             say_natural(to, ",\"from_dir\":", it->from_dir);
@@ -176,9 +182,8 @@ static inline void say_message(text *to, const lq_message *it) {
         say_bool(to, ",\"last\":", it->last);
         say_text(to, ",\"name\":", it->name, it->name_size);
         say_natural(to, ",\"node\":", it->node);
-        say(to, ",\"op\":\"B_ENTRY_");
-        say(to, ops[it->op]);
-        say_natural(to, "\",\"seq\":", it->seq);
+        say_text(to, ",\"op\":", ops[it->op], strlen(ops[it->op]));
+        say_natural(to, ",\"seq\":", it->seq);
         say(to, ",\"what\":\"B_QUERY_UPDATE\"}");
     }
 }
@@ -255,6 +260,7 @@ static inline lq_status by_call(lq *handle, const act *it, text *to) {
     case OPEN:
         options.backlog = it->backlog;
         options.moved = it->flag;
+        options.values = it->values;
         status = lq_query_open(handle, it->text, it->text_size, &options, &opening);
         if (status != LQ_OK) return status;
         say_natural(to, "{\"at\":", opening.at);

@@ -117,7 +117,7 @@ static lq_status open_all(lq *handle, text *to) {
 }
 
 static lq_status open_without_result(lq *handle, text *to) {
-    const lq_options options = {0, false, true};
+    const lq_options options = {0, false, true, false};
     lq_opening opening;
     lq_status status = lq_query_open(handle, TEXT("size>=0"), &options, &opening);
     if (status == LQ_OK) say_result(to, handle, opening.result, opening.count);
@@ -179,7 +179,7 @@ static lq_status fetch_pushed(lq *handle, text *to) {
 }
 
 static lq_status open_pushed(lq *handle, text *to) {
-    const lq_options options = {16, true, false};
+    const lq_options options = {16, true, false, false};
     lq_opening opening;
     lq_status status = lq_query_open_pushed(handle, &options, &opening);
     if (status == LQ_OK) say_result(to, handle, opening.result, opening.count);
@@ -221,6 +221,11 @@ static lq_status open_bound(lq *handle, text *to) {
         .word = what, .text = formula, .text_size = sizeof(formula) - 1, .backlog = most, \
         .flag = moved \
     }
+#define WITH_VALUES(formula, most) \
+    { \
+        .word = OPEN, .text = formula, .text_size = sizeof(formula) - 1, .backlog = most, \
+        .flag = true, .values = true \
+    }
 #define MOVE_TO(number, folder, text, clobber) \
     { .word = MOVE, .node = number, .dir = folder, .flag = clobber, NAME(text) }
 #define VALUE(kind, value) \
@@ -241,10 +246,13 @@ static const act acts[] = {FOLDER_AT(1, "folder"),
                            QUERY(OPEN, "name==*&&!(size<100||TAG==\"[a-c]x*\")", 64, false),
                            QUERY(OPEN, "size>100", 64, true),
                            QUERY(OPEN, "(", 64, true),
+                           WITH_VALUES("size>100", 64),
                            FILE_AT(1, "b.txt"),
                            MOVE_TO(3, 1, "another name of many bytes", false),
                            MOVE_TO(5, 1, "another name of many bytes", true),
                            OF(WRITE, 4),
+                           { .word = SET, .node = 4, .type = LQ_TYPE_INT32, NAME("a name of many bytes") },
+                           BY_NAME(UNSET, 4, 0, "a name of many bytes"),
                            TEXT_VALUE("a name of many bytes", LONG_TEXT),
                            MOVE_TO(4, 2, "c", false),
                            OF(READ, 1),
@@ -262,6 +270,14 @@ static const act acts[] = {FOLDER_AT(1, "folder"),
                            FILE_AT(1, "again"),
                            OF(READ, 2),
                            OF(READ, 1),
+                           OF(READ, 3),
+                           OF(READ, 3),
+                           OF(READ, 3),
+                           OF(READ, 3),
+                           OF(READ, 3),
+                           OF(READ, 3),
+                           OF(READ, 3),
+                           OF(RESULT, 3),
                            BY_NAME(FIND, 0, 1, LONG_NAME),
                            BY_NAME(FIND, 0, 2, "a.txt"),
                            OF(ENTRY, 5),
@@ -339,7 +355,8 @@ static size_t from_where(int script, size_t number) {
 
 /* The slot of a call that goes without its rebuilt result. */
 static uint64_t lacking(size_t number) {
-    return acts[number].word == READ ? acts[number].node : number == 3 ? 1 : number == 4 ? 2 : 1;
+    if (acts[number].word == READ) return acts[number].node;
+    return acts[number].values ? 3 : number == 4 ? 2 : 1;
 }
 
 /* Whether a call may lose the rebuilt result of its slot. */

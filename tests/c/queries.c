@@ -7,9 +7,9 @@ static char long_name[256], long_text[4097];
 static void subscriptions(void) {
     static const uint64_t free_slots[] = {0, 2, 64, 65, UINT64_MAX};
     lq it = LQ_INIT;
-    lq_options too_many = {LQ_BACKLOG + 1, false, false}, two = {2, false, false},
-               one = {1, false, false};
-    const lq_options moved = {16, true, false};
+    lq_options too_many = {LQ_BACKLOG + 1, false, false, false}, two = {2, false, false, false},
+               one = {1, false, false, false};
+    const lq_options moved = {16, true, false, false};
     lq_opening opening;
     lq_message message;
     lq_rebuilt rebuilt;
@@ -120,7 +120,7 @@ static void subscriptions(void) {
 /* Pushes make the same queries as formulas; one that doesn't fit changes nothing. */
 static void pushes(void) {
     lq it = LQ_INIT;
-    lq_options options = {9, false, false};
+    lq_options options = {9, false, false, false};
     lq_fetched fetched;
     lq_opening opening;
     lq_row row;
@@ -261,10 +261,119 @@ static void pushes(void) {
     lq_volume_close(&it);
 }
 
+/* A message of a value has the entry's place, and the name of an attribute. Only a query that asks for them gets them. */
+static void messages_of_values(void) {
+    static const uint64_t written = 3;
+    const lq_options both = {0, true, false, true}, alone = {0, false, true, true};
+    lq it = LQ_INIT;
+    lq_opening opening;
+    lq_message message;
+    lq_rebuilt rebuilt;
+    lq_row row;
+    OK(lq_volume_open(&it));
+    created(&it, 1, "in", LQ_FOLDER, 0);
+    created(&it, 2, "a", LQ_FILE, 200);
+    created(&it, 2, "b", LQ_FILE, 50);
+    OK(lq_query_open(&it, TEXT("size>100"), NULL, &opening));
+    OK(lq_query_open(&it, TEXT("size>100"), &both, &opening));
+    OK(lq_query_open(&it, TEXT("size>100"), &alone, &opening));
+    CHECK(opening.slot == 3 && opening.count == 1);
+
+    /* within the result: a write, a set, a set to the value that is there, an unset, each by the longest name too */
+    OK(lq_write(&it, 3, 300, 8, NULL));
+    OK(lq_write(&it, 3, 300, 8, NULL));
+    OK(lq_set_text(&it, 3, TEXT("status"), TEXT("New"), NULL));
+    OK(lq_set_text(&it, 3, TEXT("status"), TEXT("New"), NULL));
+    OK(lq_set_uint64(&it, 3, long_name, 255, UINT64_MAX, NULL));
+    OK(lq_unset(&it, 3, TEXT("status"), NULL));
+    CHECK(lq_ready(&it) == 6);
+    REFUSED(lq_read(&it, 1, &message), LQ_EMPTY, message);
+    for (uint64_t slot = 2; slot <= 3; slot++) {
+        for (uint64_t number = 1; number <= 6; number++) {
+            POISON(message);
+            OK(lq_read(&it, slot, &message));
+            CHECK(message.what == LQ_UPDATE && message.seq == number && message.change == written + number &&
+                  message.last && message.cause == 0);
+            CHECK(message.dir == 2 && message.node == 3 && NAMED(message, "a"));
+            CHECK(message.from_dir == 0 && message.from_name_size == 0 && message.from_name[0] == 0);
+            if (number <= 2) {
+                CHECK(message.op == LQ_STAT_CHANGED && message.attr_size == 0 && message.attr[0] == 0);
+            } else if (number == 5) {
+                CHECK(message.op == LQ_ATTR_CHANGED && message.attr_size == 255 && message.attr[255] == 0 &&
+                      memcmp(message.attr, long_name, 255) == 0);
+            } else {
+                CHECK(message.op == LQ_ATTR_CHANGED && message.attr_size == 6 &&
+                      memcmp(message.attr, "status", 7) == 0);
+            }
+        }
+        REFUSED(lq_read(&it, slot, &message), LQ_EMPTY, message);
+    }
+    /* the rebuilt result is the one before, of a later change */
+    OK(lq_result(&it, 2, &rebuilt));
+    CHECK(rebuilt.change == 9 && rebuilt.settled && rebuilt.count == 1);
+    OK(lq_next(&it, rebuilt.result, &row));
+    CHECK(row.node == 3 && row.dir == 2 && NAMED(row, "a") && row.size == 300 && row.time == 8);
+    REFUSED(lq_result(&it, 3, &rebuilt), LQ_NOT_OPEN, rebuilt);
+
+    /* outside, into it, within, out of it, outside: 10 to 14; refused changes make no message */
+    OK(lq_set_text(&it, 4, TEXT("status"), TEXT("New"), NULL));
+    OK(lq_write(&it, 4, 101, 1, NULL));
+    OK(lq_write(&it, 4, 102, 1, NULL));
+    OK(lq_write(&it, 4, 100, 1, NULL));
+    OK(lq_unset(&it, 4, TEXT("status"), NULL));
+    WANT(lq_unset(&it, 3, TEXT("status"), NULL), LQ_NO_ATTR);
+    WANT(lq_write(&it, 3, UINT64_MAX, 1, NULL), LQ_TOO_LONG);
+    /* a move within: one message with `moved`, and two without */
+    OK(lq_move(&it, 3, 1, TEXT("c"), false, NULL));
+    static const uint32_t ops[][5] = {
+        {LQ_ENTRY_CREATED, LQ_ENTRY_REMOVED, LQ_ENTRY_REMOVED, LQ_ENTRY_CREATED, 0},
+        {LQ_ENTRY_CREATED, LQ_STAT_CHANGED, LQ_ENTRY_REMOVED, LQ_ENTRY_MOVED, 0},
+        {LQ_ENTRY_CREATED, LQ_STAT_CHANGED, LQ_ENTRY_REMOVED, LQ_ENTRY_REMOVED, LQ_ENTRY_CREATED}};
+    static const uint64_t changes[][5] = {{11, 13, 15, 15, 0}, {11, 12, 13, 15, 0}, {11, 12, 13, 15, 15}};
+    for (uint64_t slot = 1; slot <= 3; slot++) {
+        for (size_t number = 0; number < 5 && ops[slot - 1][number]; number++) {
+            OK(lq_read(&it, slot, &message));
+            CHECK(message.op == ops[slot - 1][number] && message.change == changes[slot - 1][number]);
+            CHECK(message.node == (message.change == 15 ? 3 : 4) && message.attr_size == 0 && message.attr[0] == 0);
+        }
+        REFUSED(lq_read(&it, slot, &message), LQ_EMPTY, message);
+    }
+    lq_volume_close(&it);
+}
+
+/* Messages of values take room in the backlog as others do; a query by pushes, and one by values, asks for them too. */
+static void room_for_values(void) {
+    const lq_options two = {2, false, false, true};
+    lq it = LQ_INIT;
+    lq_opening opening;
+    lq_message message;
+    OK(lq_volume_open(&it));
+    created(&it, 1, "a", LQ_FILE, 200);
+    OK(lq_push_attr(&it, TEXT("size")));
+    OK(lq_push_int32(&it, 100));
+    OK(lq_push_op(&it, LQ_GT));
+    OK(lq_query_open_pushed(&it, &two, &opening));
+    OK(lq_bind_int64(&it, 100));
+    OK(lq_query_open_bound(&it, TEXT("size>$1"), &two, &opening));
+    for (uint64_t time = 0; time < 4; time++) OK(lq_write(&it, 2, 200, 1, NULL));
+    for (uint64_t slot = 1; slot <= 2; slot++) {
+        for (uint64_t number = 1; number <= 3; number++) {
+            OK(lq_read(&it, slot, &message));
+            CHECK(message.op == LQ_STAT_CHANGED && message.change == 1 + number);
+        }
+        OK(lq_read(&it, slot, &message));
+        CHECK(message.what == LQ_END && message.cause == LQ_OVERRUN && message.change == 4);
+        CHECK(message.op == 0 && message.attr_size == 0 && message.attr[0] == 0);
+    }
+    lq_volume_close(&it);
+}
+
 int main(void) {
     memset(long_name, 'n', sizeof long_name);
     memset(long_text, 't', sizeof long_text);
     subscriptions();
     pushes();
+    messages_of_values();
+    room_for_values();
     return done("queries");
 }

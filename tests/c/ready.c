@@ -1,7 +1,7 @@
 /* What a handle calls once slots can be read: after which calls, with which slots, and what may be done in it. */
 #include "check.h"
 
-enum { TURNS = 20000 };
+enum { TURNS = 30000 };
 
 /* What was told of one handle. */
 typedef struct record {
@@ -108,7 +108,7 @@ static void changes(void) {
 
 /* The end of a query is told as what is there to read: where it is asked for, closed, or comes by too many messages. */
 static void ends(void) {
-    const lq_options one = {1, false, false};
+    const lq_options one = {1, false, false, false};
     lq it = LQ_INIT;
     record told = {&it, 0, 0};
     lq_opening opening;
@@ -246,7 +246,7 @@ static void drawn(void) {
     OK(lq_on_ready(&it, note, &told));
     for (int turn = 0; turn < TURNS && failures < 9; turn++) {
         uint64_t slot = 1 + draw(5), node = 2 + draw(18), size = draw(200), act = draw(14);
-        lq_options options = {1 + draw(4), draw(2), draw(2)};
+        lq_options options = {1 + draw(4), draw(2), draw(2), draw(2)};
         uint64_t before = lq_ready(&twin);
         for (int each = 0; each < 2; each++) {
             lq *one = both[each];

@@ -75,6 +75,7 @@ static act first(int number) {
     it.text_size = query.size;
     it.backlog = 200;
     it.flag = number % 2;
+    it.values = number / 2 % 2;
     return it;
 }
 
@@ -119,6 +120,7 @@ static act drawn(void) {
     if (it.type == LQ_TYPE_UINT32) it.number = (int64_t)(uint32_t)it.number;
     it.backlog = draw(9) ? *ONE_OF(backlogs) : *ONE_OF(bad_backlogs);
     it.flag = draw(2);
+    it.values = draw(2);
     return it;
 }
 

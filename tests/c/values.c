@@ -283,7 +283,7 @@ static void refusals(void) {
     CHECK(lq_fault_place(&it) == 4096);
     want_none(&it);
     /* those of an opening come last, and none of these opened anything */
-    const lq_options too_many = {LQ_BACKLOG + 1, false, false};
+    const lq_options too_many = {LQ_BACKLOG + 1, false, false, false};
     bind(&it, 1);
     REFUSED(lq_query_open_bound(&it, TEXT("size==$2"), &too_many, &opening), LQ_NO_VALUE, opening);
     bind(&it, 1);
@@ -365,7 +365,7 @@ static void limits(void) {
 
 /* A live query with values gives what one gives whose formula has them written out, by its options too. */
 static void queries(void) {
-    const lq_options moved = {3, true, false};
+    const lq_options moved = {3, true, false, false};
     lq it = LQ_INIT;
     lq_opening bound, written;
     lq_message one, other;

@@ -25,7 +25,7 @@ static void readiness(void) {
             CHECK(created(both[each], LQ_ROOT, (char[]){(char)('A' + node), 0}, LQ_FILE, 0) == node);
     for (int turn = 0; turn < TURNS && failures < 9; turn++) {
         uint64_t slot = 1 + draw(5), node = 2 + draw(38), size = draw(200), act = draw(12);
-        lq_options options = {1 + draw(4), draw(2), draw(2)};
+        lq_options options = {1 + draw(4), draw(2), draw(2), draw(2)};
         for (int each = 0; each < 2; each++) {
             lq_opening opening;
             if (act == 0) (void)lq_query_open(both[each], TEXT("size>100"), &options, &opening);
@@ -138,7 +138,7 @@ static void the_largest_backlog(void) {
 
 static void drops(void) {
     lq it = LQ_INIT;
-    lq_options bare = {0, false, true};
+    lq_options bare = {0, false, true, false};
     lq_opening opening;
     lq_message message;
     lq_rebuilt rebuilt;

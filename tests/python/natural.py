@@ -4,8 +4,9 @@
 
 A mirror follows a disk, whose files come, grow, are renamed and go, under names of bytes. Two workers read all windows
 that are open and keep a table of each. A user opens windows, looks at them and closes them, and opens the next ones,
-while the workers read. Before a window is closed it has to show what a fetch finds: by its result, by its rows, and by
-the workers' table. The last line counts the windows; status 0 where all were right. `.ci/python` runs it."""
+while the workers read. Before a window is closed it has to show what a fetch finds: by its result, by its rows, by the
+workers' table, and where it is opened with `values` by the sizes that its rows have. The last line counts the windows;
+status 0 where all were right. `.ci/python` runs it."""
 import os, random, sys, threading, time
 
 TOP = os.path.dirname(os.path.dirname(os.path.dirname(os.path.realpath(__file__))))
@@ -50,7 +51,8 @@ class Window:
     def __init__(self, volume, draw):
         self.lock = threading.Lock()  # of the table: messages come into it in the order in which they are read
         formula, backlog, moved = draw.choice(FORMULAS), draw.choice([1, 5, 65_536]), draw.random() < 0.5
-        self.query = volume.open(formula, backlog=backlog, moved=moved)
+        self.values = draw.random() < 0.5
+        self.query = volume.open(formula, backlog=backlog, moved=moved, values=self.values)
         self.table = {it.node: Place(*it[:3]) for it in self.query.entries}
 
     def read(self):
@@ -72,6 +74,13 @@ class Window:
                     del self.table[message.node]
                 else:
                     self.table[message.node] = Place(message.dir, message.node, message.name)
+                    self.look(message.node)
+
+    def look(self, node):
+        """Has a row look its entry up, so that it is old after the next change of it."""
+        row = self.query.rows.get(node)
+        if row is not None:
+            row.info
 
 
 def main(count):
@@ -105,13 +114,15 @@ def main(count):
             window = windows.pop(draw.randrange(len(windows)))
             with mirror.pause:
                 window.read()
-                found = [Place(*it[:3]) for it in volume.fetch(window.query.formula)]
+                entries = volume.fetch(window.query.formula)
+                found = [Place(*it[:3]) for it in entries]
+                sizes = {row.node: row.info.size for row in window.query.rows.values()} if window.values else None
                 shown = [
                     window.query.result().entries,
                     sorted((row.place for row in window.query.rows.values()), key=lambda it: it.node),
                     sorted(window.table.values(), key=lambda it: it.node),
                 ]
-            if shown != [found] * 3:
+            if shown != [found] * 3 or sizes not in (None, {it.node: it.size for it in entries}):
                 wrong += 1
             window.query.drop()
             compared += 1

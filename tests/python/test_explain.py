@@ -59,6 +59,7 @@ REFUSED = [
     ('{"do":"create","name":"c","kind":1}', 33, ["kind"], '"kind" must be "file" or "folder", not 1'),
     ('{"do":"move","node":4,"name":"c","clobber":1}', 33, ["clobber"], '"clobber" must be true or false, not 1'),
     ('{"do":"open","query":"a==b","port":1,"backlog":9,"moved":"yes"}', 33, ["moved"], "must be true or false, not"),
+    ('{"do":"open","query":"a==b","port":1,"backlog":9,"values":1}', 33, ["values"], "must be true or false, not 1"),
     ('{"do":"set","node":4,"attr":"x","type":"INT","value":1}', 33, ["type"],
      '"type" must be "CSTR", "LONG", "LLNG", "ULNG", "ULLG", not "INT"'),
     ('{"do":"set","node":4,"attr":"x","type":5,"value":1}', 33, ["type"], '"type" must be "CSTR"'),

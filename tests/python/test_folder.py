@@ -609,9 +609,24 @@ class MailCommand(Commands):
         self.deliver("1", "Lunch")
         live = self.start("--json", "-q", self.folder, 'MAIL:from=="*<ann@*"')
         row = {"formula": 'MAIL:from=="*<ann@*"', "key": "1", "from": "Ann <ann@example.org>", "subject": "Lunch"}
-        self.assertEqual(json.loads(live.stdout.readline()), {"change": "there", **row})
-        os.remove(self.path("new", "1"))
-        self.assertEqual(json.loads(live.stdout.readline()), {"change": "left", **row})
+        self.assertEqual(json.loads(live.stdout.readline()), {"change": "there", **row, "status": "New"})
+        os.rename(self.path("new", "1"), self.path("cur", "1:2,S"))
+        self.assertEqual(json.loads(live.stdout.readline()), {"change": "changed", **row, "status": "Read"})
+        os.remove(self.path("cur", "1:2,S"))
+        self.assertEqual(json.loads(live.stdout.readline()), {"change": "left", **row, "status": "Read"})
+
+    def test_a_status_that_changes(self):
+        """It is told where the message stays, once; other flags aren't told."""
+        self.deliver("1", "Lunch")
+        live = self.start("-q", self.folder, "name==*")
+        self.assert_line(live, "= Lunch")
+        os.rename(self.path("new", "1"), self.path("cur", "1:2,S"))
+        self.assert_line(live, "~ Lunch (Read)")
+        os.rename(self.path("cur", "1:2,S"), self.path("cur", "1:2,RS"))
+        self.deliver("2", "Photos")
+        self.assert_line(live, "+ Photos")
+        os.rename(self.path("cur", "1:2,RS"), self.path("cur", "1:2,R"))
+        self.assert_line(live, "~ Lunch (New)")
 
     def test_what_it_cannot_use(self):
         for words, said in (

@@ -8,9 +8,9 @@ sys.path.insert(0, os.environ.get("YAZGOULM_PACKAGE") or f"{TOP}/python")
 
 import yazgoulm
 from yazgoulm import (
-    B_ENTRY_CREATED, B_ENTRY_MOVED, B_ENTRY_REMOVED, FILE, FOLDER, ROOT, Applied, Attr, Attribute, BadQuery, Cause,
-    Difference, Entry, Exists, Kind, Mark, Message, NoMemory, NotFound, Op, Opcode, Overrun, Place, Query, Refused,
-    Type, Volume, quote, to_bytes, to_name,
+    B_ATTR_CHANGED, B_ENTRY_CREATED, B_ENTRY_MOVED, B_ENTRY_REMOVED, B_STAT_CHANGED, FILE, FOLDER, ROOT, Applied, Attr,
+    Attribute, BadQuery, Cause, Difference, Entry, Exists, Kind, Mark, Message, NoMemory, NotFound, Op, Opcode, Overrun,
+    Place, Query, Refused, Type, Volume, quote, to_bytes, to_name,
 )
 
 SECONDS = 8  # the longest wait for something that has to come
@@ -82,8 +82,8 @@ class ByMethods:
     def unset(self, node, attr, **_):
         return self.volume.unset(node, attr)._asdict()
 
-    def open(self, query, port, backlog, moved=False, **_):
-        made = self.volume.open(query, backlog=backlog, moved=moved, on_overrun="mark")
+    def open(self, query, port, backlog, moved=False, values=False, **_):
+        made = self.volume.open(query, backlog=backlog, moved=moved, values=values, on_overrun="mark")
         self.queries[made.slot] = made
         return {"at": made.at, "result": self.places(made.entries), "slot": made.slot}
 
@@ -93,6 +93,8 @@ class ByMethods:
         message = query.read()
         if message is not None:
             told = {key: value for key, value in message._asdict().items() if value is not None}
+            if message.attribute is not None:
+                told["attr"] = told.pop("attribute")
             return {**told, "op": str(message.op), "what": "B_QUERY_UPDATE"}
         if had_ended or query.mark is None:
             return {"what": "ENDED" if had_ended else "EMPTY"}
@@ -382,11 +384,12 @@ class Volumes(Case):
             ((9, "x", "t", None), lambda: volume.set(9, "x", "t")),
             ((9, "x", 1, "LONG"), lambda: volume.set(9, "x", 1, "LONG")),
             ((9, "x"), lambda: volume.unset(9, "x")),
-            (("size>1", 65_536, False), lambda: volume.open("size>1")),
-            (("size>", 3, True), lambda: volume.open("size>", backlog=3, moved=True)),
-            ((pushes, 65_536, False), lambda: volume.open([*pushes])),
-            ((pushes[:2], 5, 1), lambda: volume.open(pushes[:2], backlog=5, moved=1)),
-            (((Op.GT,), 5, False), lambda: volume.open([Op.GT], backlog=5)),
+            (("size>1", 65_536, False, False), lambda: volume.open("size>1")),
+            (("size>", 3, True, False), lambda: volume.open("size>", backlog=3, moved=True)),
+            (("size>", 3, False, True), lambda: volume.open("size>", backlog=3, values=True)),
+            ((pushes, 65_536, False, False), lambda: volume.open([*pushes])),
+            ((pushes[:2], 5, 1, False), lambda: volume.open(pushes[:2], backlog=5, moved=1, values=False)),
+            (((Op.GT,), 5, False, False), lambda: volume.open([Op.GT], backlog=5)),
             (("size>",), lambda: volume.fetch("size>")),
             ((pushes[:2],), lambda: volume.fetch([*pushes[:2]])),
             (((Op.GT,),), lambda: volume.fetch([Op.GT])),
@@ -773,6 +776,121 @@ class Queries(Case):
         volume.remove(other)
         self.assertIsNone(query.rows[other].info)
 
+    def test_values(self):
+        """A change of a value has one message where the entry is in the result before and after, if that is asked for:
+        at its place, and without a look at what the value was."""
+        volume = self.volume
+        node, other = volume.create("a", size=200).node, volume.create("b", size=50).node
+        plain = volume.open("size>100")
+        queries = [volume.open("size>100", values=True, moved=moved) for moved in (False, True)]
+        self.assertEqual([it.entries for it in queries], [plain.entries] * 2)
+        volume.write(node, 300, 8)  # change 3
+        volume.write(node, 300, 8)  # nothing is another than before
+        volume.set(node, "status", "New")
+        volume.set(node, "status", "New")
+        volume.set(node, b"\xff", 2**64 - 1, "ULLG")
+        volume.unset(node, "status")
+        volume.set(other, "status", "New")  # 9, outside
+        volume.write(other, 99, 0)
+        volume.write(other, 101, 0)  # 11, into it
+        volume.write(other, 101, 0)
+        volume.write(node, 100, 0)  # 13, out of it
+        volume.set(node, "status", "New")
+        volume.move(other, ROOT, "c")  # 15
+        volume.set(other, "status", "Read")
+        self.refused(10, "NoAttr", volume.unset, other, "none")
+        self.refused(12, "TooLong", volume.write, other, 2**63, 0)
+        volume.remove(other)  # 17
+        a, b, c = (ROOT, node, "a"), (ROOT, other, "b"), (ROOT, other, "c")
+        values = [
+            (3, B_STAT_CHANGED, *a, None), (4, B_STAT_CHANGED, *a, None), (5, B_ATTR_CHANGED, *a, "status"),
+            (6, B_ATTR_CHANGED, *a, "status"), (7, B_ATTR_CHANGED, *a, "\uf7ff"), (8, B_ATTR_CHANGED, *a, "status"),
+            (12, B_STAT_CHANGED, *b, None), (16, B_ATTR_CHANGED, *c, "status"),
+        ]
+        places = [(11, B_ENTRY_CREATED, *b, None), (13, B_ENTRY_REMOVED, *a, None), (17, B_ENTRY_REMOVED, *c, None)]
+        moved = [(15, B_ENTRY_MOVED, *c, None)]
+        unmoved = [(15, B_ENTRY_REMOVED, *b, None), (15, B_ENTRY_CREATED, *c, None)]
+
+        def by_change(rows):
+            return sorted(rows, key=lambda it: it[0])
+
+        for query, wanted in (
+            (plain, by_change(places + unmoved)), (queries[0], by_change(places + unmoved + values)),
+            (queries[1], by_change(places + moved + values)),
+        ):
+            found = []
+            for message in query:
+                found.append((message.change, message.op, message.dir, message.node, message.name, message.attribute))
+                result = query.result()
+                self.assertEqual((result.change, result.settled), (message.change, message.last))
+                if message.op in (B_STAT_CHANGED, B_ATTR_CHANGED):
+                    self.assertTrue(message.last)
+                    self.assertIsNone(message.from_name)
+                    self.assertIn(Place(message.dir, message.node, message.name), result.entries)
+            self.assertEqual((found, len(query.rows)), (wanted, 0))
+
+    def test_rows_look_their_values_up_again(self):
+        """With `values` a row's `info` is right after the message of a value, and no call refreshes it."""
+        volume = self.volume
+        node, other = volume.create("a", size=1).node, volume.create("b", size=2).node
+        query = volume.open("size>=0", values=True, backlog=4)
+        row, unseen = query.rows[node], query.rows[other]
+        self.assertEqual((row.info.size, row.info.attributes), (1, {}))
+        volume.write(node, 7, 8)
+        volume.set(node, "status", "New")
+        volume.write(other, 9, 0)
+        self.assertEqual(row.info.size, 1)  # no message was read
+        self.assertEqual([(it.op, it.attribute, it.node) for it in query], [
+            (B_STAT_CHANGED, None, node), (B_ATTR_CHANGED, "status", node), (B_STAT_CHANGED, None, other)])
+        self.assertEqual((row.info.size, row.info.time, row.info.attributes), (7, 8, {"status": "New"}))
+        self.assertIs(row.info, row.info)  # it is looked up once
+        self.assertEqual((unseen.info.size, query.rows[node] is row, row.refresh()), (9, True, False))
+        volume.unset(node, "status")
+        [*query]
+        self.assertTrue(row.refresh())
+        self.assertEqual(row.info.attributes, {})
+        # an entry that has gone keeps its last one
+        volume.write(node, 5, 5)
+        volume.remove(node)
+        self.assertEqual((query.read().op, row.info.size), (B_STAT_CHANGED, 7))
+        [*query]
+        self.assertEqual((row.info.size, [*query.rows]), (7, [other]))
+        # after an overrun there are no messages, and the rows that stay are right all the same once it is opened again
+        for size in range(20, 30):
+            volume.write(other, size, 0)
+        self.assertEqual(sum(1 for _ in itertools.islice(query, 5)), 5)
+        self.assertRaises(Overrun, query.read)
+        self.assertEqual(unseen.info.size, 29)
+        volume.write(other, 40, 0)
+        self.assertEqual((query.reopen(), query.rows[other] is unseen), (Difference([], [], []), True))
+        self.assertEqual(unseen.info.size, 40)
+
+    def test_values_beside_bound_ones(self):
+        """The option, and what stands for `$1`: also by the name that this had before."""
+        volume = self.volume
+        node = volume.create("a", size=200).node
+        queries = [volume.open("size>$1", [100], values=True), volume.open("size>$1", bound=[100], values=True),
+                   volume.open("size>$1", values=[100]), volume.open("size>100", values=None)]
+        self.assertEqual([[it.node for it in query.entries] for query in queries], [[node]] * 4)
+        volume.write(node, 300, 0)
+        self.assertEqual([[it.op for it in query] for query in queries], [[B_STAT_CHANGED]] * 2 + [[]] * 2)
+        for wrong in [1], 1, None:
+            said = f"values must be True or False beside bound, not {wrong}"
+            self.says(TypeError, said, volume.open, "size>$1", [1], values=wrong)
+        self.says(TypeError, "values must be a list of texts and whole numbers, not 1", volume.open, "size>1", values=1)
+
+    def test_a_query_without_values_leaves_the_rows(self):
+        volume = self.volume
+        node = volume.create("a", size=1).node
+        query = volume.open("size>=0", values=False)
+        row = query.rows[node]
+        self.assertEqual(row.info.size, 1)
+        volume.write(node, 7, 8)
+        volume.set(node, "status", "New")
+        self.assertEqual(([*query], row.info.size), ([], 1))
+        query.reopen()
+        self.assertEqual((query.rows[node] is row, row.info.size), (True, 1))
+
     def test_rows_are_iterated_while_messages_are_read(self):
         """An iteration goes over the rows that are there when it begins."""
         volume, query = self.volume, self.volume.open("size>100")
@@ -796,17 +914,17 @@ class Queries(Case):
         import random
 
         draw, volume = random.Random(5), self.volume
-        for moved in (False, True):
-            with volume.open("size>100", moved=moved) as query:
+        for moved, values in itertools.product((False, True), repeat=2):
+            with volume.open("size>100", moved=moved, values=values) as query:
                 found, nodes = {}, []
                 for number in range(500):
                     act = draw.choice("cwwmr") if nodes else "c"
                     if act == "c":
-                        nodes.append(volume.create(f"{moved}{number}", size=draw.choice([50, 200])).node)
+                        nodes.append(volume.create(f"{moved}{values}{number}", size=draw.choice([50, 200])).node)
                     elif act == "w":
                         volume.write(draw.choice(nodes), draw.choice([50, 200]), 0)
                     elif act == "m":
-                        volume.move(draw.choice(nodes), ROOT, f"{moved}{number}")
+                        volume.move(draw.choice(nodes), ROOT, f"{moved}{values}{number}")
                     else:
                         volume.remove(nodes.pop(draw.randrange(len(nodes))))
                     found[volume.changes] = [Place(*it[:3]) for it in volume.fetch("size>100")]
@@ -1044,7 +1162,8 @@ class Values(Case):
             ("name==$1", (), 43, "NoValue", 1), ("name==$3||name==$2", ("a",), 43, "NoValue", 3),
             ("name==a", ("a",), 44, "UnusedValue", 1), ("name==$3||name==$1", (*"abcd",), 44, "UnusedValue", 2),
         ):  # fmt: skip
-            for call, arguments in (volume.fetch, (formula, values)), (volume.open, (formula, 65_536, False, values)):
+            opened = formula, 65_536, False, False, values
+            for call, arguments in (volume.fetch, (formula, values)), (volume.open, opened):
                 refused = self.refused(code, name, call, formula, values)
                 self.assertEqual((refused.place, refused.arguments), (place, arguments))
                 self.assertIsInstance(refused, ValueError)

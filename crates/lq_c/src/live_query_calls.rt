@@ -2,7 +2,7 @@
 ghost use Rattle.std.specs.Prelude.{◌≡◌};
 ghost use Rattle.lq_desk_world.specs.declared.event.Event.TheVariants.{Close, Finish, HangUp, Take};
 ghost use Rattle.lq_embed.specs.Calls.{Acts, Ends, ReadsSlot, TellsSlots};
-ghost use Rattle.lq_embed.specs.Opening.{OpensBy, backlog_of};
+ghost use Rattle.lq_embed.specs.Opening.{OpensBy, asked_options};
 ghost use Rattle.lq_embed.specs.Requests.{open_request};
 ghost use Rattle.lq_embed.specs.Reads.{Drops, ReadsMany};
 ghost use Rattle.lq_c.specs.Held.{held_state};
@@ -24,8 +24,8 @@ pub extern "C" fn lqp_open(
 ) -> u32
     ensures opens { OpensBy (held_state handle.old) (held_state handle.new)
         (held_state handle.old).pushed options.now
-        (open_request formula.now 1 (backlog_of options.now.backlog) options.now.moved)
-        result out.old.opening out.new.opening }
+        (open_request formula.now (asked_options options.now)) result out.old.opening
+        out.new.opening }
     ensures made { made.new ≡ made_after result made.old }
     ensures number { out.new.result ≡ shown_after result made.old out.old.result }
 {

@@ -5,7 +5,7 @@ ghost use Rattle.lq_predicate.specs.Stack.{attr_pushed, only_part, text_pushed};
 ghost use Rattle.lq_predicate.specs.Stacked.{new_stack};
 ghost use Rattle.lq_embed.specs.Calls.{Fetches};
 ghost use Rattle.lq_embed.specs.Numbers.{op_numbered};
-ghost use Rattle.lq_embed.specs.Opening.{OpensBy, backlog_of};
+ghost use Rattle.lq_embed.specs.Opening.{OpensBy, asked_options};
 ghost use Rattle.lq_embed.specs.Pushed.{push_op_outcome, push_outcome};
 ghost use Rattle.lq_embed.specs.Requests.{fetch_pushed, in_utf8, left_by, open_pushed};
 ghost use Rattle.lq_embed.specs.declared.pushes.Push.TheVariants.{Int32, Int64, UInt32, UInt64};
@@ -124,8 +124,8 @@ pub extern "C" fn lqp_open_pushed(
     ensures opens { OpensBy (held_state handle.old) (held_state handle.new)
         (left_by (held_state handle.old).pushed (only_part (held_state handle.old).pushed.items))
         options.now
-        (open_pushed (held_state handle.old).pushed.pushes 1 (backlog_of options.now.backlog)
-        options.now.moved (only_part (held_state handle.old).pushed.items))
+        (open_pushed (held_state handle.old).pushed.pushes (asked_options options.now)
+        (only_part (held_state handle.old).pushed.items))
         result out.old.opening out.new.opening }
     ensures count { pushes.new ≡ after_take result pushes.old }
     ensures made { made.new ≡ made_after result made.old }

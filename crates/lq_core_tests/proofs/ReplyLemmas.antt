@@ -11,7 +11,7 @@ use Rattle.lq_value.specs.declared.value.Value.TheVariants.{Text, Int32, Int64, 
 use Rattle.lq_value.specs.Refusal.{code_of, refusal_name}
 use Rattle.lq_update.specs.declared.message.Message.{Message}
 use Rattle.lq_update.specs.declared.message.Opcode.{Opcode}
-use Rattle.lq_update.specs.declared.message.Opcode.TheVariants.{Created, Removed, Moved}
+use Rattle.lq_update.specs.declared.message.Opcode.TheVariants.{Created, Removed, Moved, ValueChanged}
 use Rattle.lq_update.specs.declared.parcel.Parcel.TheVariants.{Update, Fin}
 use Rattle.lq_desk_world.specs.Events as world
 use Rattle.lq_desk_world.specs.Events.{Answer, Changed, Opened, Took, Empty, Ended, Asked, Noticed, Shut, Finished, Refused}
@@ -54,6 +54,8 @@ told-no_float : (op : Opcode) (m : Message) → has_float (data_by op m) ≡ fal
 told-no_float Created m = refl
 told-no_float Removed m = refl
 told-no_float (Moved dir name) m = refl
+told-no_float (ValueChanged None) m = refl
+told-no_float (ValueChanged (Some attribute)) m = refl
 
 -- the reply to a take has no float
 answer-no_float : (slot : ℕ) (a : Answer) → has_float (answer_data slot a) ≡ false

@@ -181,6 +181,15 @@ fn put_message(
             put_count(alloc, members, "from_dir", *from_dir)?;
             put_word(alloc, members, "from_name", from_name.as_str())
         }
+        Opcode::ValueChanged { attribute: None } => {
+            put_word(alloc, members, "op", "B_STAT_CHANGED")
+        }
+        Opcode::ValueChanged {
+            attribute: Some(attribute),
+        } => {
+            put_word(alloc, members, "op", "B_ATTR_CHANGED")?;
+            put_word(alloc, members, "attr", attribute.as_str())
+        }
     }
 }
 

@@ -91,6 +91,12 @@ fn test_reads(alloc: Global) -> Result<(), Fail> {
         from_name,
     };
     test_message(alloc, "moved", true, moved)?;
+    let written = Opcode::ValueChanged { attribute: None };
+    test_message(alloc, "written", true, written)?;
+    let set = Opcode::ValueChanged {
+        attribute: Some(AttrName::read(alloc, "st\u{e4}tus\"")?),
+    };
+    test_message(alloc, "attribute", true, set)?;
     test_mark(alloc, "closed", Cause::Closed)?;
     test_mark(alloc, "hung up", Cause::HungUp)?;
     test_mark(alloc, "overrun", Cause::Overrun)?;

@@ -2,6 +2,7 @@
 use crate::slot_tables::slot;
 use lq_desk_sub::{Sub, Watch};
 use lq_predicate::read;
+use lq_update::Flags;
 use lq_value::{AttrName, Kind, Name, Refusal, Value};
 use lq_volume::Change;
 use std::alloc::Global;
@@ -73,6 +74,27 @@ fn asked(alloc: Global) -> Result<([u64; 7], [u64; 7]), Refusal> {
     let first = shown(alloc, &watch)?;
     watch.set(slot(4)?, &sizes);
     Ok((first, shown(alloc, &watch)?))
+}
+
+// To whom they are shown if slot 4 looks at a status and has messages of values, and slot 6 looks
+// at sizes.
+fn asked_values(alloc: Global) -> Result<[u64; 7], Refusal> {
+    let flags = Flags {
+        moved: false,
+        values: true,
+    };
+    let predicate = read(alloc, "MAIL:status==\"New\"")?;
+    let status = Sub::new_by(alloc, &predicate, 0, 2, flags)?;
+    let mut watch = Watch::new();
+    watch.set(slot(4)?, &status);
+    watch.set(slot(6)?, &subscribed(alloc, "size>7")?);
+    shown(alloc, &watch)
+}
+
+#[test]
+fn a_watch_shows_values_where_they_are_asked_for(rt: HostRuntime) -> Result<(), Fail> {
+    assert!(rt; asked_values(rt.alloc())? == [32, 40, 40, 40, 8, 8, 8]);
+    Ok(())
 }
 
 #[test]

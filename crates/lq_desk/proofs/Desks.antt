@@ -10,6 +10,7 @@ use Rattle.lq_volume.specs.declared.change.Change.{Change as Change_}
 use Rattle.lq_volume.specs.State.{State, IsVolume}
 use Rattle.lq_volume.specs.Change.{IsLawful}
 use Rattle.lq_volume.specs.Laws.{ChangesCount}
+use Rattle.lq_update.specs.declared.open_options.OpenOptions.{OpenOptions}
 use Rattle.lq_update.specs.Laws.{StepsAreFew}
 use Rattle.lq_desk_world.specs.World.{taken_before_free}
 use Rattle.lq_desk_world.specs.Events.{Answer}
@@ -48,10 +49,10 @@ IsKept-change steps count k c d v lawful =
     }
 
 -- after an opening
-pub IsKept-open : (k : DeskState) (q : Query) (port backlog : ℕ) (moved : Bool) → IsKept k
-    → IsKept (opened k (fresh_slot q moved k.volume.number port backlog))
-IsKept-open k q port backlog moved d =
-    let s = fresh_slot q moved k.volume.number port backlog in
+pub IsKept-open : (k : DeskState) (q : Query) (o : OpenOptions) → IsKept k
+    → IsKept (opened k (fresh_slot q k.volume.number o))
+IsKept-open k q o d =
+    let s = fresh_slot q k.volume.number o in
     record {
       slots = length-set k.slots (taken_before_free k.slots) (Some s) ∙ d.slots;
       few = all-set (IsFew (3 * k.volume.number)) k.slots (taken_before_free k.slots)

@@ -57,7 +57,7 @@ front us n ps inside =
 -- of one that hasn't ended
 module _ (b : Book) (s : Subscribed) (f : IsFair b s) (live : s.end ≡ None) where
   -- it is told all up to the book's number
-  told-live : updates_due b s ≡ updates_of s.query s.moved b s.opened (number_of b)
+  told-live : updates_due b s ≡ updates_of s.query s.flags b s.opened (number_of b)
   told-live = rw live
 
   -- no more was put than it was told
@@ -75,7 +75,7 @@ module _ (b : Book) (s : Subscribed) (f : IsFair b s) (live : s.end ≡ None) wh
 
   -- it ends, where its list up to its end is what it was told
   end-same : (d : Book) (cause : Cause) (n : ℕ)
-      → updates_due b s ≡ updates_of s.query s.moved d s.opened n
+      → updates_due b s ≡ updates_of s.query s.flags d s.opened n
       → record (slot_for b s) { held = ended_by (held_for b s) cause n }
       ≡ slot_for d (with_end s cause n)
   end-same d cause n same =
@@ -131,7 +131,7 @@ module _ (join : UpdatesJoin) (b : Book) (c : Change_) (s : Subscribed) (f : IsF
   ended-same e is =
       let to : covered b s ≡ e.change = ap (covered_by b) is in
       let told : updates_due after s ≡ updates_due b s =
-      rw is (updates_of-stays s.query s.moved b (c ∷ []) s.opened e.change f.begun
+      rw is (updates_of-stays s.query s.flags b (c ∷ []) s.opened e.change f.begun
       (omega (arith, f.opened, to)) (omega (arith, f.covered, to))) in
       ap (slot_told s) (sym told)
 
@@ -139,7 +139,7 @@ module _ (join : UpdatesJoin) (b : Book) (c : Change_) (s : Subscribed) (f : IsF
   module _ (live : s.end ≡ None) where
     -- the messages of that change
     abbrev step : List Message
-    step = step_of s.query s.moved (state_of b) c (length (updates_due b s) + 1)
+    step = step_of s.query s.flags (state_of b) c (length (updates_due b s) + 1)
 
     -- it was opened by the book's number
     opened_before : s.opened ≤ number_of b
@@ -149,7 +149,7 @@ module _ (join : UpdatesJoin) (b : Book) (c : Change_) (s : Subscribed) (f : IsF
     goes-on : record (slot_for b s) { held = with_messages (held_for b s) step } ≡ slot_for after s
     goes-on =
         let told : updates_due after s ≡ updates_due b s ++ step =
-        rw live (updates_of-change join s.query s.moved b c s.opened opened_before) in
+        rw live (updates_of-change join s.query s.flags b c s.opened opened_before) in
         more-told s (updates_due b s) step live (put-inside b s f live)
         ∙ ap (slot_told s) (sym told)
 
@@ -158,7 +158,7 @@ module _ (join : UpdatesJoin) (b : Book) (c : Change_) (s : Subscribed) (f : IsF
         ≡ slot_for after (with_end s Overrun (number_of b))
     overruns =
         rw numbered (end-same b s f live after Overrun (number_of b) (told-live b s f live
-        ∙ sym (updates_of-stays s.query s.moved b (c ∷ []) s.opened (number_of b) f.begun
+        ∙ sym (updates_of-stays s.query s.flags b (c ∷ []) s.opened (number_of b) f.begun
         opened_before (omega arith))))
 
   -- each slot after the change is what its subscription leaves then

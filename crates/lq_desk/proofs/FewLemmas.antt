@@ -34,7 +34,7 @@ few-more m n (Some k ∷ ks) le h = (omega (arith, le, h.0), few-more m n ks le 
 pub few-changed : StepsAreFew → (s : State) (c : Change_) (k : KeptSlot) → IsVolume s
     → IsLawful s c → k.held.sent ≤ 3 * s.number → (slot_after s c k).held.sent ≤ 3 * (s.number + 1)
 few-changed steps s c k v lawful le =
-    let few = steps k.held.query k.held.moved s c (k.held.sent + 1) v lawful in
+    let few = steps k.held.query k.held.flags s c (k.held.sent + 1) v lawful in
     grind arith
 
 -- what makes no message in a slot makes none at an index of the slots

@@ -17,7 +17,7 @@ use Rattle.lq_desk.specs.Act.{close_turn, read_turn}
 use Rattle.lq_desk.specs.Words.{ArePlaces, AreWatched, MarksPassing}
 use Rattle.lq_desk.proofs.ListLemmas.{get-put}
 use Rattle.lq_desk.proofs.PassLemmas.{visits-from}
-use Rattle.lq_desk.proofs.PutLemmas.{KeepsSub, filled-ends, filled-still, noticed-still}
+use Rattle.lq_desk.proofs.PutLemmas.{KeepsSub, asking, filled-ends, filled-still, noticed-still}
 use Rattle.lq_desk.proofs.SlotsLemmas.{kept-there, kept_slot, taken-there}
 use Rattle.lq_desk.proofs.WatchLemmas.{watched-from, watched-left}
 
@@ -72,7 +72,7 @@ module _ {S : Type 0} (allows : S → ℕ → PreparedSlot → Type 0)
 
     -- the places stay as they have to be, where each visit and each slot without one leaves them so
     pub places-passed : length ys ≡ 64 → (ends moves ends' moves' : ℕ) (w : Watch)
-        → ((i : ℕ) (x y : PreparedSlot) → did t i x y → y.sub.held.query ≡ x.sub.held.query)
+        → ((i : ℕ) (x y : PreparedSlot) → did t i x y → asking y.sub.held ≡ asking x.sub.held)
         → ((i : ℕ) (x y : PreparedSlot) → p i ≡ true → did t i x y
         → (is_ending (slot_of x) ≡ true → has ends i ≡ true) → is_ending (slot_of y) ≡ true
         → has ends' i ≡ true)
@@ -90,9 +90,9 @@ module _ {S : Type 0} (allows : S → ℕ → PreparedSlot → Type 0)
           let f = kept-from i k found in (
             slot_of f.0,
             f.2,
-            ap (λ (j : KeptSlot). j.held.query) (sym f.3) ∙ elim f.4 [
+            ap (λ (j : KeptSlot). asking j.held) (sym f.3) ∙ elim f.4 [
               | inl d ↦ query i f.0 f.1 d.1
-              | inr d ↦ ap (λ (q : PreparedSlot). q.sub.held.query) (sym d.1)
+              | inr d ↦ ap (λ (q : PreparedSlot). asking q.sub.held) (sym d.1)
             ],
           )) all.watched;
     }

@@ -3,9 +3,12 @@ use Rattle.std.proofs.Common.{◌≡◌, ℕ, zero, suc, ◌+◌, ◌≤◌, ref
 use Rattle.std.specs.Option.{option_map}
 use Rattle.std.proofs.lemmas.Bool.{both_ways, cases_Bool}
 use Rattle.std.proofs.lemmas.Bool.Decides.{nat_tests}
+use Rattle.lq_predicate.specs.Query.{Query}
+use Rattle.lq_update.specs.declared.open_options.Flags.{Flags}
 use Rattle.lq_desk_world.specs.declared.event.Act.{Act}
 use Rattle.lq_desk_world.specs.declared.event.Act.TheVariants as act
 use Rattle.lq_desk_world.specs.Events.{Answer, Moved}
+use Rattle.lq_desk_sub.specs.Held.{Held}
 use Rattle.lq_desk.specs.Slot.{KeptSlot, put_slot, close_slot, after_put, after_puts, can_move, filled, is_ending, noticed}
 use Rattle.lq_desk.specs.Act.{act_of, close_turn, read_turn}
 
@@ -18,16 +21,20 @@ pub put-did : (k l : KeptSlot) (was : Bool) → (Moved was, Some l) ≡ put_slot
     → (l ≡ after_put k) × (was ≡ can_move k)
 put-did k l was does = grind arith
 
+-- what a subscription asks for: its query and its flags
+abbrev pub asking : Held → Query × Flags
+asking h = (h.query, h.flags)
+
 -- what a put leaves
 pub record Keeps (k l : KeptSlot) : Type 0 where
-  pub query : l.held.query ≡ k.held.query
+  pub asks : asking l.held ≡ asking k.held
   pub sent : l.held.sent ≡ k.held.sent
   pub mark : l.held.mark ≡ k.held.mark
   pub port : l.port ≡ k.port
   pub hang_up_asked : l.hang_up_asked ≡ k.hang_up_asked
 
--- a put keeps the query, the number of messages made, the mark, the port and whether the end was
--- asked for
+-- a put keeps the query and its flags, the number of messages made, the mark, the port and whether
+-- the end was asked for
 put-keeps : (k : KeptSlot) → Keeps k (after_put k)
 put-keeps k = grind arith
 
@@ -78,8 +85,8 @@ filled-ends k = let keeps = puts-keep k.port k in rw (keeps.mark, keeps.hang_up_
 
 -- ---- notices
 
--- a notice keeps the query, the number of messages made, the port and what is in it
-pub noticed-keeps : (n : ℕ) (k : KeptSlot) → ((noticed n k).held.query ≡ k.held.query)
+-- a notice keeps the query and its flags, the number of messages made, the port and what is in it
+pub noticed-keeps : (n : ℕ) (k : KeptSlot) → (asking (noticed n k).held ≡ asking k.held)
     × ((noticed n k).held.sent ≡ k.held.sent) × ((noticed n k).port ≡ k.port)
     × ((noticed n k).queue ≡ k.queue)
 noticed-keeps n k = grind arith
@@ -94,11 +101,11 @@ noticed-still n k = grind arith
 
 -- ---- acts
 
--- what is in a slot after this was done there has the query that was there, and made as many
+-- what is in a slot after this was done there asks for what it did there before, and made as many
 -- messages
 abbrev pub KeepsSub : (KeptSlot → Answer × Option KeptSlot) → Type 0
 KeepsSub does = (k j : KeptSlot) → (does k).1 ≡ Some j
-    → (j.held.query ≡ k.held.query) × (j.held.sent ≡ k.held.sent)
+    → (asking j.held ≡ asking k.held) × (j.held.sent ≡ k.held.sent)
 
 -- an act
 pub act-keeps : (number : ℕ) (a : Act) → KeepsSub (act_of number a)
@@ -111,7 +118,7 @@ read_turn-keeps number k j is =
     let read = act-keeps number act.Take (filled u) j is in
     let puts = puts-keep u.port u in
     let notice = noticed-keeps number k in
-    (read.0 ∙ (puts.query ∙ notice.0), read.1 ∙ (puts.sent ∙ notice.1))
+    (read.0 ∙ (puts.asks ∙ notice.0), read.1 ∙ (puts.sent ∙ notice.1))
 
 -- a close with its turn
 pub close_turn-keeps : (number : ℕ) → KeepsSub (close_turn number)
@@ -119,7 +126,7 @@ close_turn-keeps number k j is = by (close_slot number (noticed number k)).1 ref
   where
     by : (o : Option KeptSlot) → (close_slot number (noticed number k)).1 ≡ o
         → option_map filled o ≡ Some j
-        → (j.held.query ≡ k.held.query) × (j.held.sent ≡ k.held.sent)
+        → (asking j.held ≡ asking k.held) × (j.held.sent ≡ k.held.sent)
     by None was is = cc
     by (Some t) was is =
         let same : filled t ≡ j = cc in
@@ -127,4 +134,4 @@ close_turn-keeps number k j is = by (close_slot number (noticed number k)).1 ref
         let puts = puts-keep t.port t in
         let notice = noticed-keeps number k in
         rw (← same)
-        (puts.query ∙ (close.0 ∙ notice.0), puts.sent ∙ (close.1 ∙ notice.1))
+        (puts.asks ∙ (close.0 ∙ notice.0), puts.sent ∙ (close.1 ∙ notice.1))

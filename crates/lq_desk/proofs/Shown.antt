@@ -1,5 +1,5 @@
 -- What a desk keeps where a world stands does at each event what the world does.
-use Rattle.std.proofs.Common.{◌≡◌, ℕ, ◌+◌, ◌-◌, List, [], ◌∷◌, refl, ap, ◌∙◌, sym, arith, Some, None, Option, map, Bool, inl, inr}
+use Rattle.std.proofs.Common.{◌≡◌, ℕ, ◌+◌, ◌-◌, List, [], ◌∷◌, refl, ap, ◌∙◌, sym, arith, Some, None, Option, map, inl, inr}
 use Rattle.std.specs.Option.{option_map}
 use Rattle.std.specs.List.{AllByRecursion}
 use Rattle.std.proofs.lemmas.List.{length-map, map-set}
@@ -10,11 +10,14 @@ use Rattle.lq_volume.specs.declared.change.Change.{Change as Change_}
 use Rattle.lq_volume.specs.Change.{refused as refused_by}
 use Rattle.lq_volume.specs.Laws.{ChangesCount}
 use Rattle.lq_volume.specs.Book.{Book, grown, number_of, state_of}
+use Rattle.lq_update.specs.declared.open_options.Flags.{Flags}
+use Rattle.lq_update.specs.declared.open_options.OpenOptions.{OpenOptions}
+use Rattle.lq_update.specs.Options.{options_of}
 use Rattle.lq_update.specs.Updates.{updates_of}
 use Rattle.lq_update.specs.Laws.{UpdatesJoin}
 use Rattle.lq_desk_world.specs.World.{World, Subscribed, subscribed_at, after_change, taken_before_free}
 use Rattle.lq_desk_world.specs.declared.event.Event.{Event}
-use Rattle.lq_desk_world.specs.declared.event.Event.TheVariants.{Change, Open, Put, Take, HangUp, Notice, Close, Finish}
+use Rattle.lq_desk_world.specs.declared.event.Event.TheVariants.{Change, Open, OpenBy, Put, Take, HangUp, Notice, Close, Finish}
 use Rattle.lq_desk_world.specs.declared.event.Act.{Act}
 use Rattle.lq_desk_world.specs.declared.event.Act.TheVariants as act
 use Rattle.lq_desk_world.specs.Events.{Answer, Refused, changing, opening, opened_now, open_refusal, at_slot, acting, act_outcome, answer_to, next}
@@ -54,8 +57,8 @@ refusal-same w port backlog =
     rw (length-map w.slots (option_map (slot_for w.book)), free-same w.book w.slots)
 
 -- from a number to the same one nothing is told
-nothing_told : (q : Query) (moved : Bool) (b : Book) (n : ℕ) → updates_of q moved b n n ≡ []
-nothing_told q moved b n = let none : n - n ≡ 0 = omega arith in rw none
+nothing_told : (q : Query) (flags : Flags) (b : Book) (n : ℕ) → updates_of q flags b n n ≡ []
+nothing_told q flags b n = let none : n - n ≡ 0 = omega arith in rw none
 
 -- where each change counts one
 module _ (count : ChangesCount) where
@@ -64,27 +67,22 @@ module _ (count : ChangesCount) where
   numbered b = number-all count b.start b.changes
 
   -- a slot as it is opened is what the new subscription leaves
-  fresh-same : (w : World) (q : Query) (port backlog : ℕ) (moved : Bool)
-      → fresh_slot q moved (state_of w.book).number port backlog
-      ≡ slot_for w.book (opened_now w q port backlog moved)
-  fresh-same w q port backlog moved =
-      rw (numbered w.book, nothing_told q moved w.book (number_of w.book))
+  fresh-same : (w : World) (q : Query) (o : OpenOptions)
+      → fresh_slot q (state_of w.book).number o ≡ slot_for w.book (opened_now w q o)
+  fresh-same w q o = rw (numbered w.book, nothing_told q o.flags w.book (number_of w.book))
 
   -- an opening is answered alike
-  opening-same : (w : World) (q : Query) (port backlog : ℕ) (moved : Bool) (r : Option Refusal)
-      → open_if (kept_of w) (fresh_slot q moved (state_of w.book).number port backlog) r
-      ≡ (
-        (opening w (opened_now w q port backlog moved) r).0,
-        kept_of (opening w (opened_now w q port backlog moved) r).1,
-      )
-  opening-same w q port backlog moved (Some e) = refl
-  opening-same w q port backlog moved None =
+  opening-same : (w : World) (q : Query) (o : OpenOptions) (r : Option Refusal)
+      → open_if (kept_of w) (fresh_slot q (state_of w.book).number o) r
+      ≡ ((opening w (opened_now w q o) r).0, kept_of (opening w (opened_now w q o) r).1)
+  opening-same w q o (Some e) = refl
+  opening-same w q o None =
       let f = option_map (slot_for w.book) in
       let place = taken_before_free w.slots in
-      ap (λ (t : KeptSlot). open_if (kept_of w) t None) (fresh-same w q port backlog moved)
+      ap (λ (t : KeptSlot). open_if (kept_of w) t None) (fresh-same w q o)
       ∙ rw (
         free-same w.book w.slots,
-        map-set f w.slots place (Some (opened_now w q port backlog moved)),
+        map-set f w.slots place (Some (opened_now w q o)),
         numbered w.book,
       )
 
@@ -141,14 +139,26 @@ module _ (count : ChangesCount) where
               map-set (option_map (slot_for w.book)) w.slots (slot - 1) (acting w.book a s).1,
             )
 
+    -- an opening that may be refused is answered alike
+    opens-same : (w : World) (q : Query) (o : OpenOptions)
+        → open_if (kept_of w) (fresh_slot q (state_of w.book).number o)
+        (opening_refusal (kept_of w) o.port o.backlog)
+        ≡ (
+          (opening w (opened_now w q o) (open_refusal w o.port o.backlog)).0,
+          kept_of (opening w (opened_now w q o) (open_refusal w o.port o.backlog)).1,
+        )
+    opens-same w q o =
+        ap (open_if (kept_of w) (fresh_slot q (state_of w.book).number o))
+        (refusal-same w o.port o.backlog)
+        ∙ opening-same w q o (open_refusal w o.port o.backlog)
+
     -- each event is answered alike
     outcome-same : (w : World) (e : Event) → IsFairWorld w
         → kept_outcome (kept_of w) e ≡ (answer_to w e, kept_of (next w e))
     outcome-same w (Change c) fair = changing-same w c fair (refused_by (state_of w.book) c)
     outcome-same w (Open q port backlog moved) fair =
-        ap (open_if (kept_of w) (fresh_slot q moved (state_of w.book).number port backlog))
-        (refusal-same w port backlog)
-        ∙ opening-same w q port backlog moved (open_refusal w port backlog)
+        opens-same w q (options_of port backlog moved)
+    outcome-same w (OpenBy q o) fair = opens-same w q o
     outcome-same w (Put slot) fair = acting-same w fair slot act.Put
     outcome-same w (Take slot) fair = acting-same w fair slot act.Take
     outcome-same w (HangUp slot) fair = acting-same w fair slot act.HangUp
@@ -186,6 +196,7 @@ refused-stays law w v e a r (inr ran) is = ran.2
 -- what may run out in the desk may in the world
 runs_out : (w : World) (e : Event) → KeptMayRunOut (kept_of w) e → MayRunOut w e
 runs_out w (Open q port backlog moved) is = sym (refusal-same w port backlog) ∙ is
+runs_out w (OpenBy q o) is = sym (refusal-same w o.port o.backlog) ∙ is
 runs_out w _ is = is
 
 -- where both answer alike, a step of what is kept is a step of each world that it shows

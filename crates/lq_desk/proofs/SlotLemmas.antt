@@ -25,7 +25,7 @@ abbrev pub slot_told : Subscribed → List Message → KeptSlot
 slot_told s us = record {
   held = record {
     query = s.query;
-    moved = s.moved;
+    flags = s.flags;
     opened = s.opened;
     backlog = s.backlog;
     sent = length us;

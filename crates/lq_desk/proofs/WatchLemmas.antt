@@ -1,8 +1,10 @@
--- Which slots a change may have messages for: what is watched stays watched, since no act alters a
--- query.
-use Rattle.std.proofs.Common.{◌≡◌, ◌≢◌, ◌∙◌, ℕ, List, false, refl, sym, Some, Option, inl, inr, arith}
+-- Which slots a change may have messages for: what is watched stays watched, since no act alters
+-- a query or its flags.
+use Rattle.std.proofs.Common.{◌≡◌, ◌≢◌, ◌∙◌, ℕ, List, false, refl, sym, subst, Some, Option, inl, inr, arith}
 use Rattle.std.specs.Prelude.{slice_get, slice_set}
+use Rattle.lq_predicate.specs.Query.{Query}
 use Rattle.lq_volume.specs.declared.change.Change.{Change}
+use Rattle.lq_update.specs.declared.open_options.Flags.{Flags}
 use Rattle.lq_desk_sub.specs.declared.watch.Watch.{Watch}
 use Rattle.lq_desk_sub.specs.Passing.{TellsNothing}
 use Rattle.lq_desk_sub.specs.SlotSet.{has}
@@ -10,24 +12,25 @@ use Rattle.lq_desk_sub.specs.Watch.{slots_for}
 use Rattle.lq_desk.specs.Slot.{KeptSlot, PreparedSlot, committed_slot}
 use Rattle.lq_desk.specs.Words.{AreWatched}
 use Rattle.lq_desk.proofs.ListLemmas.{get-put}
+use Rattle.lq_desk.proofs.PutLemmas.{asking}
 
--- a slot with this query was at this index
-abbrev HadQuery : List (Option KeptSlot) → ℕ → KeptSlot → Type 0
-HadQuery ks i j =
-    (k : KeptSlot) × (slice_get ks i ≡ Some (Some k)) × (j.held.query ≡ k.held.query)
+-- a slot that asked for the same was at this index
+abbrev HadAsked : List (Option KeptSlot) → ℕ → KeptSlot → Type 0
+HadAsked ks i j =
+    (k : KeptSlot) × (slice_get ks i ≡ Some (Some k)) × (asking j.held ≡ asking k.held)
 
--- each slot has the query of one that was at its place
+-- each slot asks for the same as one that was at its place
 pub watched-from : (w : Watch) (ks js : List (Option KeptSlot))
-    → ((i : ℕ) (j : KeptSlot) → slice_get js i ≡ Some (Some j) → HadQuery ks i j)
+    → ((i : ℕ) (j : KeptSlot) → slice_get js i ≡ Some (Some j) → HadAsked ks i j)
     → AreWatched w ks → AreWatched w js
 watched-from w ks js from watched c i j found out =
     let f = from i j found in
-    rw f.2 (watched c i f.0 f.1 out)
+    subst (λ (a : Query × Flags). TellsNothing a.0 a.1 c) (sym f.2) (watched c i f.0 f.1 out)
 
--- at a taken slot nothing is left, or its query
+-- at a taken slot nothing is left, or what it asks for
 pub watched-left : (w : Watch) (ks : List (Option KeptSlot)) (i : ℕ) (k : KeptSlot)
     (o : Option KeptSlot) → slice_get ks i ≡ Some (Some k)
-    → ((j : KeptSlot) → o ≡ Some j → j.held.query ≡ k.held.query) → AreWatched w ks
+    → ((j : KeptSlot) → o ≡ Some j → asking j.held ≡ asking k.held) → AreWatched w ks
     → AreWatched w (slice_set ks i o)
 watched-left w ks i k o there keeps = watched-from w ks (slice_set ks i o) (λ n j found.
     elim (get-put ks i n o (Some j) found) [
@@ -37,7 +40,8 @@ watched-left w ks i k o there keeps = watched-from w ks (slice_set ks i o) (λ n
 
 -- a subscription stands at a place, and is watched there
 pub watched-set : (old new : Watch) (ks : List (Option KeptSlot)) (place : ℕ) (k : KeptSlot)
-    → ((c : Change) → has (slots_for new c).word place ≡ false → TellsNothing k.held.query c)
+    → ((c : Change) → has (slots_for new c).word place ≡ false
+    → TellsNothing k.held.query k.held.flags c)
     → ((c : Change) (i : ℕ) → i ≢ place
     → has (slots_for new c).word i ≡ has (slots_for old c).word i)
     → AreWatched old ks → AreWatched new (slice_set ks place (Some k))
@@ -50,5 +54,5 @@ watched-set old new ks place k here others watched c i j found out =
     ]
 
 -- messages are committed
-pub committed-query : (p : PreparedSlot) → (committed_slot p).sub.held.query ≡ p.sub.held.query
-committed-query p = grind arith
+pub committed-asking : (p : PreparedSlot) → asking (committed_slot p).sub.held ≡ asking p.sub.held
+committed-asking p = grind arith

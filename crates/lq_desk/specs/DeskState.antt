@@ -11,10 +11,11 @@ use Rattle.lq_volume.specs.State.{State}
 use Rattle.lq_volume.specs.Change.{after, refused, node_of}
 use Rattle.lq_volume.specs.Result.{result_of}
 use Rattle.lq_volume.specs.Book.{Book, state_of}
+use Rattle.lq_update.specs.Options.{options_of}
 use Rattle.lq_update.specs.declared.mark.Mark.{Mark}
 use Rattle.lq_desk_world.specs.World.{World, Subscribed, Ending, updates_due, waiting, in_port, taken_before_free}
 use Rattle.lq_desk_world.specs.declared.event.Event.{Event}
-use Rattle.lq_desk_world.specs.declared.event.Event.TheVariants.{Change, Open, Put, Take, HangUp, Notice, Close, Finish}
+use Rattle.lq_desk_world.specs.declared.event.Event.TheVariants.{Change, Open, OpenBy, Put, Take, HangUp, Notice, Close, Finish}
 use Rattle.lq_desk_world.specs.declared.event.Act.{Act}
 use Rattle.lq_desk_world.specs.declared.event.Act.TheVariants as act
 use Rattle.lq_desk_world.specs.Events.{Answer, Changed, Opened, Refused, opening_refusals}
@@ -95,7 +96,10 @@ kept_act k slot a = at_kept k slot (act_of k.volume.number a)
 abbrev pub kept_outcome : DeskState → Event → Answer × DeskState
 kept_outcome k (Change c) = change_if k c (refused k.volume c)
 kept_outcome k (Open q port backlog moved) =
-    open_if k (fresh_slot q moved k.volume.number port backlog) (opening_refusal k port backlog)
+    open_if k (fresh_slot q k.volume.number (options_of port backlog moved))
+    (opening_refusal k port backlog)
+kept_outcome k (OpenBy q o) =
+    open_if k (fresh_slot q k.volume.number o) (opening_refusal k o.port o.backlog)
 kept_outcome k (Put slot) = kept_act k slot act.Put
 kept_outcome k (Take slot) = kept_act k slot act.Take
 kept_outcome k (HangUp slot) = kept_act k slot act.HangUp
@@ -107,6 +111,7 @@ kept_outcome k (Finish slot) = kept_act k slot act.Finish
 abbrev pub KeptMayRunOut : DeskState → Event → Type 0
 KeptMayRunOut k (Change c) = refused k.volume c ≡ None
 KeptMayRunOut k (Open q port backlog moved) = opening_refusal k port backlog ≡ None
+KeptMayRunOut k (OpenBy q o) = opening_refusal k o.port o.backlog ≡ None
 KeptMayRunOut k (Put slot) = ⊥
 KeptMayRunOut k (Take slot) = ⊥
 KeptMayRunOut k (HangUp slot) = ⊥
@@ -129,7 +134,7 @@ mark_of n e = record { seq = n + 1; change = e.change; cause = e.cause }
 abbrev pub held_for : Book → Subscribed → Held
 held_for b s = record {
   query = s.query;
-  moved = s.moved;
+  flags = s.flags;
   opened = s.opened;
   backlog = s.backlog;
   sent = length (updates_due b s);

@@ -4,6 +4,7 @@ use Rattle.lq_value.specs.declared.refusal.Refusal.TheVariants.{NotOpen, StillOp
 use Rattle.lq_predicate.specs.Query.{Query}
 use Rattle.lq_volume.specs.declared.change.Change.{Change}
 use Rattle.lq_volume.specs.State.{State}
+use Rattle.lq_update.specs.declared.open_options.OpenOptions.{OpenOptions}
 use Rattle.lq_update.specs.declared.parcel.Parcel.{Parcel}
 use Rattle.lq_update.specs.declared.mark.Cause.TheVariants.{Closed, HungUp}
 use Rattle.lq_desk_world.specs.Events.{Answer, Moved, Took, Empty, Ended, Asked, Noticed, Shut, Finished, Refused}
@@ -34,9 +35,13 @@ slot_of p = record {
 }
 
 -- a slot as an opening makes it
-abbrev pub fresh_slot : Query → Bool → ℕ → ℕ → ℕ → KeptSlot
-fresh_slot q moved at port backlog =
-    record { held = opened_with q moved at backlog; port = port; queue = []; hang_up_asked = false }
+abbrev pub fresh_slot : Query → ℕ → OpenOptions → KeptSlot
+fresh_slot q at o = record {
+  held = opened_with q o.flags at o.backlog;
+  port = o.port;
+  queue = [];
+  hang_up_asked = false;
+}
 
 -- ---- a change, for live subscriptions
 

@@ -18,7 +18,7 @@ MarksPassing {T} test set slots = (i : ℕ) (x : T) → slice_get slots i ≡ So
 -- the change has no message for a slot outside this set
 abbrev pub PassOver : Change → ℕ → List (Option KeptSlot) → Type 0
 PassOver c set ks = (i : ℕ) (k : KeptSlot) → slice_get ks i ≡ Some (Some k) → has set i ≡ false
-    → TellsNothing k.held.query c
+    → TellsNothing k.held.query k.held.flags c
 
 -- no change has a message for a slot that isn't to be asked for it
 abbrev pub AreWatched : Watch → List (Option KeptSlot) → Type 0

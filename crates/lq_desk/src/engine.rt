@@ -109,16 +109,16 @@ impl Engine {
                 backlog,
                 moved,
             } => {
-                let options = OpenOptions {
-                    port: *port,
-                    backlog: *backlog,
-                    moved: *moved,
-                };
+                let options = OpenOptions::without_values(*port, *backlog, *moved);
                 match self.open(predicate, &options) {
                     Ok(reply) => reply,
                     Err(refusal) => Reply::Refused(refusal),
                 }
             }
+            Event::OpenBy { predicate, options } => match self.open(predicate, options) {
+                Ok(reply) => reply,
+                Err(refusal) => Reply::Refused(refusal),
+            },
             Event::Put(slot) => self.act(*slot, Act::Put),
             Event::Take(slot) => self.act(*slot, Act::Take),
             Event::HangUp(slot) => self.act(*slot, Act::HangUp),
@@ -157,8 +157,7 @@ impl Engine {
             Opened (taken_before_free self.old.slots + 1) self.old.volume.number
             (result_of predicate.now self.old.volume)) }
         ensures ok { OnOk result (self.new ≡ opened self.old
-            (fresh_slot predicate.now options.now.moved self.old.volume.number options.now.port
-            options.now.backlog)) }
+            (fresh_slot predicate.now self.old.volume.number options.now)) }
         ensures err { OnErr result (self.new ≡ self.old) }
     {
         if options.port < 1 || options.port > MAX_PLACES {
@@ -209,6 +208,7 @@ impl Engine {
             Event::Take(slot) => self.slots.read(*slot, number),
             Event::Close(slot) => self.slots.close(*slot, number),
             Event::Open { .. }
+            | Event::OpenBy { .. }
             | Event::Put(_)
             | Event::HangUp(_)
             | Event::Notice(_)

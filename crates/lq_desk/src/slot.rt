@@ -59,11 +59,10 @@ impl Slot {
         options: &OpenOptions,
     ) -> Result<Slot, Refusal>
         ensures refused { FailsOnlyForMemory result }
-        ensures value { IfOk result (λ s. slot_of s ≡ fresh_slot predicate.now options.now.moved at
-            options.now.port options.now.backlog) }
+        ensures value { IfOk result (λ s. slot_of s ≡ fresh_slot predicate.now at options.now) }
     {
         Ok(Slot {
-            sub: Sub::new(alloc, predicate, at, options.backlog, options.moved)?,
+            sub: Sub::new_by(alloc, predicate, at, options.backlog, options.flags)?,
             port: options.port,
             queue: VecDeque::with_capacity(alloc, options.port as usize)?,
             hang_up_asked: false,

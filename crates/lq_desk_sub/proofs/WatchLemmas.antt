@@ -9,6 +9,7 @@ use Rattle.lq_predicate.specs.Names.{names_of}
 use Rattle.lq_predicate.specs.Needs.{needs_attribute}
 use Rattle.lq_volume.specs.declared.change.Change.{Change}
 use Rattle.lq_volume.specs.declared.change.Change.TheVariants.{Create, Remove, Move, Write, SetAttr, RemoveAttr}
+use Rattle.lq_update.specs.declared.open_options.Flags.{Flags}
 use Rattle.lq_update.specs.Laws.{BareCreatesTellNothing}
 use Rattle.lq_desk_sub.specs.declared.slot_set.SlotSet.{SlotSet}
 use Rattle.lq_desk_sub.specs.declared.watch.Watch.{Watch}
@@ -24,11 +25,13 @@ pub record IsPut (old : SlotSet) (index : ℕ) (is_in : Bool) (new : SlotSet) : 
 
 -- ---- the sets of the endings
 
--- a set below n without the index has an ending of none of the names; each has the others as before
-pub record AreSet (names : List (List ℕ)) (index n : ℕ) (old new : List SlotSet) : Type 0 where
+-- a set below n without the index has an ending of none of the names, and none has to have the
+-- index always; each has the others as before
+pub record AreSet (names : List (List ℕ)) (always : Bool) (index n : ℕ) (old new : List SlotSet)
+    : Type 0 where
   pub here : (name : List ℕ) → ending_of name < n
       → has (slots_at new (ending_of name)).word index ≡ false
-      → is_name_among names name ≡ false
+      → (always ≡ false) × (is_name_among names name ≡ false)
   pub others : (e i : ℕ) → i ≢ index
       → has (slots_at new e).word i ≡ has (slots_at old e).word i
 
@@ -43,12 +46,13 @@ ending-lt name = by (slice_get name (length name - 1))
     by (Some byte) = omega arith
 
 -- the sets of a watch before and after a slot's subscription is watched
-module _ (law : PassedTellNothing) (bare : BareCreatesTellNothing) (q : Query) (old new : Watch)
+module _ (law : PassedTellNothing) (bare : BareCreatesTellNothing) (q : Query) (flags : Flags)
+    (old new : Watch)
     (index n : ℕ) (wide : 64 ≤ n)
     (all : IsPut old.all index true new.all)
     (creates : IsPut old.creates index (not (needs_attribute q)) new.creates)
-    (writes : IsPut old.writes index (are_written (names_of q)) new.writes)
-    (attrs : AreSet (names_of q) index n old.attrs new.attrs)
+    (writes : IsPut old.writes index (flags.values || are_written (names_of q)) new.writes)
+    (attrs : AreSet (names_of q) flags.values index n old.attrs new.attrs)
   where
     -- what isn't among the names is passed over
     over : (b : Bool) → b ≡ false → not (b || false) ≡ true
@@ -60,7 +64,17 @@ module _ (law : PassedTellNothing) (bare : BareCreatesTellNothing) (q : Query) (
         → has (slots_at new.attrs (ending_of name)).word index ≡ false
         → not (list_any (is_name_among (names_of q)) (name ∷ [])) ≡ true
     passed name out = over (is_name_among (names_of q) name)
-        (attrs.here name (omega (arith, wide, ending-lt name)) out)
+        (attrs.here name (omega (arith, wide, ending-lt name)) out).1
+
+    -- and of one with messages of values
+    unasked : (name : List ℕ) → has (slots_at new.attrs (ending_of name)).word index ≡ false
+        → flags.values ≡ false
+    unasked name out = (attrs.here name (omega (arith, wide, ending-lt name)) out).0
+
+    -- where one of two isn't true, neither is
+    neither : (a b : Bool) → (a || b) ≡ false → (a ≡ false) × (b ≡ false)
+    neither true b is = absurd (let no : ⊥ = cc in no)
+    neither false b is = (refl, is)
 
     -- what isn't false is true
     needed : (b : Bool) → not b ≡ false → b ≡ true
@@ -68,18 +82,20 @@ module _ (law : PassedTellNothing) (bare : BareCreatesTellNothing) (q : Query) (
     needed false is = absurd (let no : ⊥ = cc in no)
 
     -- a change whose set leaves the slot out has no message
-    pub watch-here : (c : Change) → has (slots_for new c).word index ≡ false → TellsNothing q c
-    watch-here (Create dir name kind size time) out = λ moved s seq volume lawful.
-        bare q moved s dir name kind size time seq volume lawful
+    pub watch-here : (c : Change) → has (slots_for new c).word index ≡ false
+        → TellsNothing q flags c
+    watch-here (Create dir name kind size time) out = λ s seq volume lawful.
+        bare q flags s dir name kind size time seq volume lawful
         (needed (needs_attribute q) (sym creates.here ∙ out))
     watch-here (Remove node) out = absurd (both_ways _ out all.here)
     watch-here (Move node dir name clobber) out = absurd (both_ways _ out all.here)
     watch-here (Write node size time) out =
-        law q (Write node size time) (ap not (sym writes.here ∙ out))
+        let none = neither flags.values (are_written (names_of q)) (sym writes.here ∙ out) in
+        law q flags (Write node size time) none.0 (ap not none.1)
     watch-here (SetAttr node attr value) out =
-        law q (SetAttr node attr value) (passed attr out)
+        law q flags (SetAttr node attr value) (unasked attr out) (passed attr out)
     watch-here (RemoveAttr node attr) out =
-        law q (RemoveAttr node attr) (passed attr out)
+        law q flags (RemoveAttr node attr) (unasked attr out) (passed attr out)
 
     -- the other slots stay as they were
     pub watch-others : (c : Change) (i : ℕ) → i ≢ index

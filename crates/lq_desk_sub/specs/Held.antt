@@ -4,6 +4,7 @@ use Rattle.lq_predicate.specs.Query.{Query}
 use Rattle.lq_volume.specs.declared.change.Change.{Change}
 use Rattle.lq_volume.specs.State.{State}
 use Rattle.lq_update.specs.declared.message.Message.{Message}
+use Rattle.lq_update.specs.declared.open_options.Flags.{Flags}
 use Rattle.lq_update.specs.declared.mark.Mark.{Mark}
 use Rattle.lq_update.specs.declared.mark.Cause.{Cause}
 use Rattle.lq_update.specs.declared.mark.Cause.TheVariants.{Overrun}
@@ -11,11 +12,12 @@ use Rattle.lq_update.specs.declared.parcel.Parcel.{Parcel}
 use Rattle.lq_update.specs.declared.parcel.Parcel.TheVariants.{Update, Fin}
 use Rattle.lq_update.specs.Updates.{step_of}
 
--- The query, the number of changes at the opening, and the backlog; the number of messages made so
--- far, and those held; the mark, if the subscription has ended, and whether the mark went out.
+-- The query, its flags, the number of changes at the opening, and the backlog; the number of
+-- messages made so far, and those held; the mark, if the subscription has ended, and whether the
+-- mark went out.
 pub record Held : Type 0 where
   pub query : Query
-  pub moved : Bool
+  pub flags : Flags
   pub opened : ℕ
   pub backlog : ℕ
   pub sent : ℕ
@@ -32,10 +34,10 @@ pub record Prepared : Type 0 where
   pub lent : Bool
 
 -- a subscription as it is opened
-abbrev pub opened_with : Query → Bool → ℕ → ℕ → Held
-opened_with q moved at backlog = record {
+abbrev pub opened_with : Query → Flags → ℕ → ℕ → Held
+opened_with q flags at backlog = record {
   query = q;
-  moved = moved;
+  flags = flags;
   opened = at;
   backlog = backlog;
   sent = 0;
@@ -76,7 +78,7 @@ after_messages h messages before = after_messages_by h messages before (overruns
 
 -- the messages that a change to the state has for the subscription
 abbrev pub messages_due : State → Change → Held → List Message
-messages_due s c h = step_of h.query h.moved s c (h.sent + 1)
+messages_due s c h = step_of h.query h.flags s c (h.sent + 1)
 
 -- a live subscription after a change to the state
 abbrev pub held_after : State → Change → Held → Held

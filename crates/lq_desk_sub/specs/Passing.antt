@@ -8,6 +8,7 @@ use Rattle.lq_predicate.specs.Query.{Query}
 use Rattle.lq_volume.specs.declared.change.Change.{Change}
 use Rattle.lq_volume.specs.State.{State, IsVolume}
 use Rattle.lq_volume.specs.Change.{IsLawful}
+use Rattle.lq_update.specs.declared.open_options.Flags.{Flags}
 use Rattle.lq_update.specs.Laws.{names_altered}
 use Rattle.lq_update.specs.Updates.{step_of}
 
@@ -37,7 +38,7 @@ abbrev pub HasEndings : List (List ℕ) → ℕ → Type 0
 HasEndings names word = (name : List ℕ) → is_name_among names name ≡ true
     → bit_at word (ending_of name) ≡ 1
 
--- the change has no message for the query, whatever state it is made to
-abbrev pub TellsNothing : Query → Change → Type 0
-TellsNothing q c = (moved : Bool) (s : State) (seq : ℕ) → IsVolume s → IsLawful s c
-    → step_of q moved s c seq ≡ []
+-- the change has no message for the query with these flags, whatever state it is made to
+abbrev pub TellsNothing : Query → Flags → Change → Type 0
+TellsNothing q flags c = (s : State) (seq : ℕ) → IsVolume s → IsLawful s c
+    → step_of q flags s c seq ≡ []

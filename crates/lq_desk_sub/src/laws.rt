@@ -9,7 +9,8 @@ pub fn putting_back_undoes()
     ensures { PuttingBackUndoes }
 {}
 
-/// A change that alters only values, and none under a query's names, has no message for the query.
+/// A change that alters only values, and none under a query's names, has no message for the query
+/// without messages of values.
 pub(crate) fn passed_changes_tell_nothing()
     ensures { PassedTellNothing }
 {

@@ -1,17 +1,18 @@
 //! The query of a subscription, with its names and number spans, which are looked up once.
-ghost use Rattle.std.specs.Prelude.{◌≡◌, ◌<◌, ℕ, Bool, List, [], false, not, IfNone, IfOk, IfSome};
+ghost use Rattle.std.specs.Prelude.{◌≡◌, ◌<◌, ℕ, List, [], true, false, not, IfNone, IfOk, IfSome};
 ghost use Rattle.lq_value.specs.Refusal.{FailsOnlyForMemory};
 ghost use Rattle.lq_predicate.specs.Names.{names_of};
 ghost use Rattle.lq_predicate.specs.Needs.{needs_attribute};
 ghost use Rattle.lq_volume.specs.State.{record_at};
 ghost use Rattle.lq_volume.specs.Change.{after, node_of};
+ghost use Rattle.lq_update.specs.declared.open_options.Flags.{Flags};
 ghost use Rattle.lq_update.specs.Touched.{is_match};
 ghost use Rattle.lq_update.specs.Updates.{step_of};
 ghost use Rattle.lq_desk_sub.specs.Passing.{HasEndings, are_written, ending_of, is_name_among, passes_over};
 
 use crate::laws::passed_changes_tell_nothing;
 use lq_predicate::{Predicate, Spans, names, needs_attribute};
-use lq_update::{matches_of, writes_cross_no_number};
+use lq_update::{Flags, matches_of, writes_cross_no_number};
 use lq_value::{AttrName, Refusal, same_text};
 use lq_volume::{Change, Planned};
 use std::alloc::Global;
@@ -104,10 +105,10 @@ impl LiveQuery {
     }
 
     /// Whether the query matches the entry of a change's own node before the change, and after it,
-    /// if the change may have messages for the query. It takes no memory.
+    /// if the change may have messages for the query with these flags. It takes no memory.
     #[inline(always)]
-    pub fn matches_around(&self, planned: &Planned<'_>) -> Option<(bool, bool)>
-        ensures none { (moved : Bool) → (seq : ℕ) → IfNone result (step_of self.now moved
+    pub fn matches_around(&self, planned: &Planned<'_>, flags: Flags) -> Option<(bool, bool)>
+        ensures none { (seq : ℕ) → IfNone result (step_of self.now flags
             planned.now.before planned.now.change seq ≡ []) }
         ensures before { IfSome result (λ asked. asked.0 ≡ is_match self.now
             (record_at planned.now.before (node_of planned.now.before planned.now.change))) }
@@ -115,18 +116,28 @@ impl LiveQuery {
             (record_at (after planned.now.before planned.now.change)
             (node_of planned.now.before planned.now.change))) }
     {
-        passed_changes_tell_nothing();
-        // For its clauses `lawful` and `volume`.
-        let _ = planned.applied();
-        if self.looks_elsewhere(planned.change()) || writes_cross_no_number(&self.spans, planned) {
+        if !flags.values && self.shows_nothing(planned) {
             return None;
         }
         let matches = matches_of(&self.predicate, planned);
-        if matches.may_have_messages() {
+        if matches.may_have_messages(flags) {
             Some((matches.matched_before, matches.matches_after))
         } else {
             None
         }
+    }
+
+    // Whether a change has no message for the query, beside those of values, by the names and the
+    // numbers that it alters.
+    #[inline(always)]
+    fn shows_nothing(&self, planned: &Planned<'_>) -> bool
+        ensures { (flags : Flags) → (seq : ℕ) → result ≡ true → flags.values ≡ false
+            → step_of self.now flags planned.now.before planned.now.change seq ≡ [] }
+    {
+        passed_changes_tell_nothing();
+        // For its clauses `lawful` and `volume`.
+        let _ = planned.applied();
+        self.looks_elsewhere(planned.change()) || writes_cross_no_number(&self.spans, planned)
     }
 
     // Whether a change has no message for the query, by the names that it alters.

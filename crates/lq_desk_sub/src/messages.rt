@@ -3,7 +3,7 @@ ghost use Rattle.std.specs.Prelude.{◌≡◌, ◌+◌, ◌<◌, ◌^◌, [], �
 ghost use Rattle.lq_value.specs.Refusal.{FailsOnlyForMemory};
 ghost use Rattle.lq_update.specs.Updates.{step_of};
 
-use lq_update::{MAX_STEP, Matches, Message};
+use lq_update::{Flags, MAX_STEP, Matches, Message};
 use lq_value::Refusal;
 use std::alloc::Global;
 use std::collections::VecDeque;
@@ -95,24 +95,24 @@ impl Messages {
         alloc: Global,
         matches: &Matches<'_, '_>,
         first_seq: u64,
-        moved: bool,
+        flags: Flags,
     ) -> Result<(), Refusal>
         requires { first_seq + 2 < 2 ^ 64 }
         ensures refused { FailsOnlyForMemory result }
         ensures ok { OnOk result (self.new ≡ record self.old {
-          ready = step_of matches.now.predicate.now moved matches.now.planned.now.before
+          ready = step_of matches.now.predicate.now flags matches.now.planned.now.before
               matches.now.planned.now.change first_seq;
           before = matches.now.planned.now.before.number;
         }) }
         ensures err { OnErr result (self.new ≡ self.old) }
     {
         if self.ready > 0 {
-            return self.replace_ready(alloc, matches, first_seq, moved);
+            return self.replace_ready(alloc, matches, first_seq, flags);
         }
         let held = self.queue.len();
         // One place more than is needed: so the room is of six places, doubled as it fills up.
         self.queue.reserve(MAX_STEP + 2)?;
-        matches.put_step(alloc, first_seq, moved, &mut self.queue)?;
+        matches.put_step(alloc, first_seq, flags, &mut self.queue)?;
         self.ready = self.queue.len() - held;
         self.before = matches.planned.applied().change - 1;
         Ok(())
@@ -126,19 +126,19 @@ impl Messages {
         alloc: Global,
         matches: &Matches<'_, '_>,
         first_seq: u64,
-        moved: bool,
+        flags: Flags,
     ) -> Result<(), Refusal>
         requires { first_seq + 2 < 2 ^ 64 }
         ensures refused { FailsOnlyForMemory result }
         ensures ok { OnOk result (self.new ≡ record self.old {
-          ready = step_of matches.now.predicate.now moved matches.now.planned.now.before
+          ready = step_of matches.now.predicate.now flags matches.now.planned.now.before
               matches.now.planned.now.change first_seq;
           before = matches.now.planned.now.before.number;
         }) }
         ensures err { OnErr result (self.new ≡ self.old) }
     {
         let mut step = VecDeque::with_capacity(alloc, MAX_STEP)?;
-        matches.put_step(alloc, first_seq, moved, &mut step)?;
+        matches.put_step(alloc, first_seq, flags, &mut step)?;
         self.queue.reserve(MAX_STEP + 2)?;
         let held = self.queue.len() - self.ready;
         self.queue.truncate(held);

@@ -58,7 +58,8 @@ impl Sub {
     ///
     /// Where there is none, held messages stay, and no clause says what is ready: only the messages
     /// of a change that has some may be committed after it. It skips, as the code says, a change
-    /// that alters only values that the predicate doesn't look at. Without memory nothing changes.
+    /// that alters only values that the predicate doesn't look at, unless the subscription has
+    /// messages of values. Without memory nothing changes.
     #[inline(always)]
     pub fn prepare_if_any(&mut self, planned: &Planned<'_>) -> Result<bool, AllocError>
         requires few { self.old.held.sent < 2 ^ 63 }
@@ -66,7 +67,8 @@ impl Sub {
             IsReadied planned.now.before planned.now.change told self.old self.new) }
         ensures err { OnErr result (self.new ≡ self.old) }
     {
-        let Some((matched_before, matches_after)) = self.query.matches_around(planned) else {
+        let asked = self.query.matches_around(planned, self.flags);
+        let Some((matched_before, matches_after)) = asked else {
             return Ok(false);
         };
         if !self.is_live() {
@@ -105,7 +107,7 @@ impl Sub {
         let first = self.sent + 1;
         let made = self
             .messages
-            .make_ready(self.alloc, &matches, first, self.moved);
+            .make_ready(self.alloc, &matches, first, self.flags);
         match made {
             Ok(()) => Ok(self.messages.ready() > 0),
             Err(_) => Err(AllocError),

@@ -1,11 +1,12 @@
 //! A subscription as both servers keep it: how it was opened, what it holds, and its mark.
 ghost use Rattle.std.specs.Prelude.{◌≡◌, ◌+◌, ◌<◌, ◌^◌, [], length, is_some, false, Some, IfOk, IsTrue, IfSome};
 ghost use Rattle.lq_value.specs.Refusal.{FailsOnlyForMemory};
+ghost use Rattle.lq_update.specs.Options.{no_values};
 
 use crate::live_query::LiveQuery;
 use crate::messages::Messages;
 use lq_predicate::Predicate;
-use lq_update::{Cause, Mark, Parcel};
+use lq_update::{Cause, Flags, Mark, Parcel};
 use lq_value::Refusal;
 use std::alloc::Global;
 use std::marker::Model;
@@ -15,7 +16,7 @@ use std::marker::Model;
 pub struct Sub {
     pub(crate) alloc: Global,
     pub(crate) query: LiveQuery,
-    pub(crate) moved: bool,
+    pub(crate) flags: Flags,
     opened: u64,
     pub(crate) backlog: u64,
     pub(crate) sent: u64,
@@ -29,7 +30,7 @@ impl Drop for Sub {
         let Sub {
             alloc: _,
             query: _,
-            moved: _,
+            flags: _,
             opened: _,
             backlog: _,
             sent: _,
@@ -52,7 +53,7 @@ impl Model for Sub {
     ghost view = { λ s. record {
       held = record {
         query = s.query;
-        moved = s.moved;
+        flags = s.flags;
         opened = s.opened;
         backlog = s.backlog;
         sent = s.sent;
@@ -69,7 +70,8 @@ impl Model for Sub {
 impl Sub {
     ghost use Rattle.lq_desk_sub.specs.Held.{Prepared, opened_with, is_live, ended_by, next_parcel, without_parcel, with_back, fits_back};
 
-    /// A live subscription that holds no message, opened after `at` changes. Refused: `NoMemory`.
+    /// A live subscription without messages of values that holds no message, opened after `at`
+    /// changes. Refused: `NoMemory`.
     pub fn new(
         alloc: Global,
         predicate: &Predicate,
@@ -79,7 +81,27 @@ impl Sub {
     ) -> Result<Sub, Refusal>
         ensures refused { FailsOnlyForMemory result }
         ensures value { IfOk result (λ s. s ≡ record {
-          held = opened_with predicate.now moved at backlog;
+          held = opened_with predicate.now (no_values moved) at backlog;
+          ready = [];
+          before = 0;
+          lent = false;
+        }) }
+    {
+        Sub::new_by(alloc, predicate, at, backlog, Flags::without_values(moved))
+    }
+
+    /// A live subscription with these flags that holds no message, opened after `at` changes.
+    /// Refused: `NoMemory`.
+    pub fn new_by(
+        alloc: Global,
+        predicate: &Predicate,
+        at: u64,
+        backlog: u64,
+        flags: Flags,
+    ) -> Result<Sub, Refusal>
+        ensures refused { FailsOnlyForMemory result }
+        ensures value { IfOk result (λ s. s ≡ record {
+          held = opened_with predicate.now flags at backlog;
           ready = [];
           before = 0;
           lent = false;
@@ -88,7 +110,7 @@ impl Sub {
         Ok(Sub {
             alloc,
             query: LiveQuery::new(alloc, predicate)?,
-            moved,
+            flags,
             opened: at,
             backlog,
             sent: 0,

@@ -18,16 +18,18 @@ use lq_volume::Change;
 ///
 /// A creation, which makes an entry without attributes, is shown to those whose query may match
 /// one; a write to those that look at sizes or times; a change of an attribute to those that look
-/// at a name with the ending of the attribute's; and a removal or a move to all of them.
+/// at a name with the ending of the attribute's; a write and a change of an attribute also to those
+/// that have messages of values; and a removal or a move to all of them.
 #[derive(Drop)]
 pub struct Watch {
     // The slots whose subscription is watched.
     all: SlotSet,
     // Those whose query may match an entry without attributes.
     creates: SlotSet,
-    // Those whose query looks at sizes or times.
+    // Those whose query looks at sizes or times, and those that have messages of values.
     writes: SlotSet,
-    // For each ending, those whose query looks at a name that has it.
+    // For each ending, those whose query looks at a name that has it, and those that have messages
+    // of values.
     attrs: [SlotSet; 64],
 }
 
@@ -45,7 +47,7 @@ impl Watch {
     /// Watches a slot's subscription, in place of the one that was there. It takes no memory.
     pub fn set(&mut self, slot: SlotIndex, sub: &Sub)
         ensures here { (c : Change) → has (slots_for self.new c).word slot.index ≡ false
-            → TellsNothing sub.now.held.query c }
+            → TellsNothing sub.now.held.query sub.now.held.flags c }
         ensures others { (c : Change) (i : ℕ) → i ≢ slot.index
             → has (slots_for self.new c).word i ≡ has (slots_for self.old c).word i }
     {
@@ -54,9 +56,10 @@ impl Watch {
         let query = &sub.query;
         self.all.insert(slot);
         self.creates.put(slot, query.sees_creates());
-        self.writes.put(slot, query.sees_writes());
+        let sees_all = sub.flags.values;
+        self.writes.put(slot, sees_all || query.sees_writes());
         for ending in 0..64 {
-            self.attrs[ending].put(slot, query.may_name(ending));
+            self.attrs[ending].put(slot, sees_all || query.may_name(ending));
         }
     }
 

@@ -7,10 +7,11 @@ use Rattle.lq_value.specs.declared.literal.Literal.TheVariants.{Plain}
 use Rattle.lq_value.specs.declared.kind.Kind.TheVariants.{File}
 use Rattle.lq_value.specs.declared.refusal.Refusal.TheVariants.{BadPort, BadBacklog, NoSlot, NotOpen, StillOpen, Exhausted}
 use Rattle.lq_predicate.specs.Query.{Query, Compare}
-use Rattle.lq_volume.specs.declared.change.Change.TheVariants.{Create, Move}
+use Rattle.lq_volume.specs.declared.change.Change.TheVariants.{Create, Move, Write}
 use Rattle.lq_volume.specs.State.{empty_state}
+use Rattle.lq_update.specs.Options.{options_of}
 use Rattle.lq_update.specs.declared.message.Message.{Message}
-use Rattle.lq_update.specs.declared.message.Opcode.TheVariants.{Created, Moved as MovedFrom}
+use Rattle.lq_update.specs.declared.message.Opcode.TheVariants.{Created, Moved as MovedFrom, ValueChanged}
 use Rattle.lq_value.specs.declared.entry.Entry.{Entry}
 use Rattle.lq_update.specs.declared.mark.Cause.{Cause}
 use Rattle.lq_update.specs.declared.mark.Cause.TheVariants.{Closed, HungUp, Overrun}
@@ -18,7 +19,7 @@ use Rattle.lq_update.specs.declared.parcel.Parcel.TheVariants.{Update, Fin}
 use Rattle.lq_desk_world.specs.Headline.{ReadersAreTold}
 use Rattle.lq_desk_world.specs.World.{World, Subscribed, first_world, subscribed_at}
 use Rattle.lq_desk_world.specs.declared.event.Event.{Event}
-use Rattle.lq_desk_world.specs.declared.event.Event.TheVariants.{Change, Open, Put, Take, HangUp, Notice, Close, Finish}
+use Rattle.lq_desk_world.specs.declared.event.Event.TheVariants.{Change, Open, OpenBy, Put, Take, HangUp, Notice, Close, Finish}
 use Rattle.lq_desk_world.specs.Events.{Answer, Changed, Opened, Moved, Took, Empty, Ended, Asked, Noticed, Shut, Finished, Refused, answer_to, next}
 use Rattle.lq_desk_world.specs.Laws.{IsStill, PutsUntilStill}
 
@@ -148,12 +149,29 @@ moved_saves_backlog : answers_to (create ∷ Open every 1 1 true ∷ Open every 
     })) ∷ Moved true ∷ took_mark 1 1 Overrun ∷ []
 moved_saves_backlog = refl
 
+-- where values are asked for, a write within the result is told
+value_told :
+    answers_to (create ∷ OpenBy every
+    (record { port = 1; backlog = 1; flags = record { moved = false; values = true } })
+    ∷ Change (Write 2 7 (pos 3)) ∷ Put 1 ∷ Take 1 ∷ [])
+    ≡ changed 1 2 ∷ Opened 1 1 just_created ∷ changed 2 2 ∷ Moved true
+    ∷ Took (Update (record {
+      seq = 1;
+      change = 2;
+      last = true;
+      op = ValueChanged None;
+      dir = 1;
+      name = codes "a";
+      node = 2;
+    })) ∷ []
+value_told = refl
+
 -- no reader is told that it was opened before a change that came first
 not_opened_before : ReadersAreTold (empty_state 10) (create ∷ Open every 1 1 false ∷ [])
     (changed 1 2 ∷ Opened 1 0 [] ∷ []) → ⊥
 not_opened_before told =
-    let opening = told.readers 2 (create ∷ []) [] (changed 1 2 ∷ []) [] every 1 1 false 1 0 []
-    refl refl refl in
+    let opening = told.readers 2 (create ∷ []) [] (changed 1 2 ∷ []) [] (Open every 1 1 false) every
+    (options_of 1 1 false) 1 0 [] refl refl refl refl in
     let at : ℕ = 0 in
     let number : at ≡ 1 = opening.0.number in
     omega arith
@@ -163,7 +181,7 @@ not_told_before : ReadersAreTold (empty_state 10) (Open every 1 1 false ∷ Take
     (Opened 1 0 [] ∷ Took (Update created) ∷ changed 1 2 ∷ []) → ⊥
 not_told_before told =
     let opening = told.readers 2 [] (Take 1 ∷ []) [] (Took (Update created) ∷ [])
-    every 1 1 false 1 0 [] refl refl refl in
+    (Open every 1 1 false) every (options_of 1 1 false) 1 0 [] refl refl refl refl in
     let early : created ∷ opening.1.prefix.0 ≡ [] = opening.1.prefix.1 in
     let no : ⊥ = cc in no
 

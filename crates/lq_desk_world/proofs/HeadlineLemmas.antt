@@ -9,6 +9,7 @@ use Rattle.lq_volume.specs.Laws.{ChangesCount}
 use Rattle.lq_volume.specs.State.{State}
 use Rattle.lq_volume.specs.declared.change.Change.{Change as Change_}
 use Rattle.lq_volume.specs.Book.{Book, IsBook, after_all, grown, number_of, state_at, state_of}
+use Rattle.lq_update.specs.declared.open_options.Flags.{Flags}
 use Rattle.lq_update.specs.declared.message.Message.{Message}
 use Rattle.lq_update.specs.Updates.{updates_of}
 use mathlib.Core.List.{IsPrefix}
@@ -16,7 +17,7 @@ use Rattle.lq_update.specs.Fold.{folded}
 use Rattle.lq_update.specs.Laws.{FoldsGiveResults, UpdatesJoin, UpdatesGrow, WholeFoldsGiveResults}
 use Rattle.lq_desk_world.specs.World.{World, Subscribed, covered, covered_by, updates_due, whole}
 use Rattle.lq_desk_world.specs.declared.event.Event.{Event}
-use Rattle.lq_desk_world.specs.declared.event.Event.TheVariants.{Open}
+use Rattle.lq_desk_world.specs.declared.event.Event.TheVariants.{Change}
 use Rattle.lq_desk_world.specs.Events.{Answer, Opened, Took, Ended}
 use Rattle.lq_desk_world.specs.Runs.{Run}
 use Rattle.lq_desk_world.specs.Headline.{reads_of, parcels_in, updates_among, updates_in, accepted_by, accepted, run_book, IsOpening, AreReads, OpeningsAreTold, ReadersAreTold, HasMark}
@@ -41,6 +42,12 @@ accepted-append (e ∷ before) events (a ∷ befores) answers same =
     ∙ sym (append_assoc (accepted_by e a) (accepted before befores) (accepted events answers))
 accepted-append before events befores answers same = absurd (omega arith)
 
+-- an event that is answered as an opening accepts no change
+accepted-opened : (e : Event) (slot at : ℕ) (first : List Entry)
+    → accepted_by e (Opened slot at first) ≡ []
+accepted-opened (Change c) slot at first = refl
+accepted-opened e slot at first = refl
+
 -- a run has one answer for each event
 run-count : (w : World) (events : List Event) (answers : List Answer) (end : World)
     → Run w events answers end → length events ≡ length answers
@@ -62,12 +69,12 @@ run-take k w events answers end run = absurd run
 -- ---- the reads of a subscription from its opening on
 
 -- what they are, but for folding
-pub record AreTold (b : Book) (q : Query) (moved : Bool) (at : ℕ)
+pub record AreTold (b : Book) (q : Query) (flags : Flags) (at : ℕ)
     (reads : List Answer) : Type 0 where
-  pub prefix : IsPrefix (updates_in reads) (updates_of q moved b at (number_of b))
+  pub prefix : IsPrefix (updates_in reads) (updates_of q flags b at (number_of b))
   pub mark : (front rest : List Answer) (m : Mark) → reads ≡ front ++ Took (Fin m) ∷ rest →
       (at ≤ m.change) × (m.change ≤ number_of b)
-      × (updates_in front ≡ updates_of q moved b at m.change)
+      × (updates_in front ≡ updates_of q flags b at m.change)
       × (m.seq ≡ length (updates_in front) + 1)
       × AllByRecursion IsEnded rest
   pub ended : (front rest : List Answer) → reads ≡ front ++ Ended ∷ rest → HasMark front
@@ -78,7 +85,7 @@ ran-reads : UpdatesGrow → (b : Book) (s : Subscribed) (end : World) (i : ℕ) 
     (freed : Bool) (book : Book) → s.taken ≡ 0 → Ran b s end i reads freed
     → number_of end.book ≡ number_of book
     → ((n : ℕ) → updates_to end.book s n ≡ updates_to book s n)
-    → AreTold book s.query s.moved s.opened reads
+    → AreTold book s.query s.flags s.opened reads
 ran-reads grow b s end i reads freed book none ran number lists =
     let t = ran.sub in
     let d = end.book in
@@ -94,7 +101,7 @@ ran-reads grow b s end i reads freed book none ran number lists =
     omega (arith, ran.fair.covered, number) in
     let longer : IsPrefix us (updates_to book s (number_of book)) =
     subst (λ (ms : List Message). IsPrefix us ms) (lists _ ∙ ap (updates_to book s) last)
-    (updates-prefix grow s.query s.moved d s.opened (covered d t) (number_of d - covered d t)) in
+    (updates-prefix grow s.query s.flags d s.opened (covered d t) (number_of d - covered d t)) in
     record {
       prefix = subst (λ (ms : List Message). IsPrefix ms (updates_to book s (number_of book)))
           (sym all) (prefix-more _ us _ (drop t.taken us, take-append-drop t.taken us) longer);
@@ -141,22 +148,22 @@ front-prefix front rest reads us is p = (
 
 -- what a subscription is told, folded into its first result, gives the later results
 pub told-reads : FoldsGiveResults → WholeFoldsGiveResults
-    → (b : Book) (q : Query) (moved : Bool) (at : ℕ) (first : List Entry) (reads : List Answer)
+    → (b : Book) (q : Query) (flags : Flags) (at : ℕ) (first : List Entry) (reads : List Answer)
     → IsBook b → b.start.number ≤ at → at ≤ number_of b → first ≡ result_of q (state_at b at)
-    → AreTold b q moved at reads → AreReads b q moved at first reads
-told-reads fold fold_all b q moved at first reads book begun within first_is told = record {
+    → AreTold b q flags at reads → AreReads b q flags at first reads
+told-reads fold fold_all b q flags at first reads book begun within first_is told = record {
   prefix = told.prefix;
   mark = told.mark;
   ended = told.ended;
   folding = λ volume front rest is settled.
       ap (λ es. folded es (updates_in front)) first_is
-      ∙ fold q moved b at (number_of b) (updates_in front) volume book begun within
+      ∙ fold q flags b at (number_of b) (updates_in front) volume book begun within
       (front-prefix front rest reads _ is told.prefix) settled;
   closing = λ volume front rest m is.
       let h = told.mark front rest m is in
       ap (λ es. folded es (updates_in front)) first_is
       ∙ (ap (λ ms. folded (result_of q (state_at b at)) ms) h.2
-      ∙ fold_all q moved b at m.change volume book begun h.0);
+      ∙ fold_all q flags b at m.change volume book begun h.0);
 }
 
 -- the state at the end of the first changes
@@ -172,15 +179,14 @@ module _ (join : UpdatesJoin) (grow : UpdatesGrow) (count : ChangesCount) (fold 
   -- what a run's openings and reads are answered, from any world whose book leads to the state
   openings-told : (w end : World) (events : List Event) (answers : List Answer)
       → Run w events answers end → OpeningsAreTold (state_of w.book) events answers
-  openings-told w end events answers run before after befores afters q port backlog moved slot at
-      first is told same =
-      let parts = run_parts w before (Open q port backlog moved ∷ after) befores
-      (Opened slot at first ∷ afters) end same
+  openings-told w end events answers run before after befores afters e q o slot at first asks is
+      told same =
+      let flags = o.flags in
+      let parts = run_parts w before (e ∷ after) befores (Opened slot at first ∷ afters) end same
       (subst (λ (es : List Event). Run w es (befores ++ Opened slot at first ∷ afters) end) is
       (subst (λ (xs : List Answer). Run w events xs end) told run)) in
       let mid = parts.0 in
-      let opened = opened-ran join mid q port backlog moved slot at first after afters end
-      parts.2 in
+      let opened = opened-ran join mid e q o slot at first after afters end asks parts.2 in
       let start = state_of w.book in
       let early = accepted before befores in
       let late = accepted after afters in
@@ -190,8 +196,9 @@ module _ (join : UpdatesJoin) (grow : UpdatesGrow) (count : ChangesCount) (fold 
       let all : end.book ≡ grown w.book cs = run-book w events answers end run in
       let both : cs ≡ early ++ late =
       ap (λ es. accepted es answers) is
-      ∙ (ap (accepted (before ++ Open q port backlog moved ∷ after)) told ∙ accepted-append
-      before (Open q port backlog moved ∷ after) befores (Opened slot at first ∷ afters) same) in
+      ∙ (ap (accepted (before ++ e ∷ after)) told
+      ∙ (accepted-append before (e ∷ after) befores (Opened slot at first ∷ afters) same
+      ∙ ap (λ xs. early ++ (xs ++ late)) (accepted-opened e slot at first))) in
       let counted = number-all count w.book.start w.book.changes in
       let number : number_of end.book ≡ number_of b =
       omega (arith, ap number_of all, length-append w.book.changes cs, counted) in
@@ -205,18 +212,18 @@ module _ (join : UpdatesJoin) (grow : UpdatesGrow) (count : ChangesCount) (fold 
       let state : state_of mid.book ≡ state_at b at =
       then ∙ (sym (state-after start early late at at_number)
       ∙ ap (λ ds. state_at (record { start = start; changes = ds }) at) (sym both)) in
-      let lists : (n : ℕ) → updates_of q moved end.book (number_of mid.book) n
-      ≡ updates_of q moved b (number_of mid.book) n =
-      λ n. ap (λ d. updates_of q moved d (number_of mid.book) n) all
-      ∙ updates_of-rebased count q moved w.book cs (number_of mid.book) n
+      let lists : (n : ℕ) → updates_of q flags end.book (number_of mid.book) n
+      ≡ updates_of q flags b (number_of mid.book) n =
+      λ n. ap (λ d. updates_of q flags d (number_of mid.book) n) all
+      ∙ updates_of-rebased count q flags w.book cs (number_of mid.book) n
       (omega (arith, past, opened.2)) in
-      let told_of : AreTold b q moved at (reads_of slot after afters) =
-      subst (λ (n : ℕ). AreTold b q moved n (reads_of slot after afters)) (sym opened.2)
+      let told_of : AreTold b q flags at (reads_of slot after afters) =
+      subst (λ (n : ℕ). AreTold b q flags n (reads_of slot after afters)) (sym opened.2)
       (ran-reads grow mid.book _ end opened.0 _ _ b refl opened.4 number lists) in
       let opening : IsOpening (run_book start before befores) q at first =
       record { number = at_number; entries = opened.3 ∙ ap (result_of q) then } in (
         opening,
-        told-reads fold fold_all b q moved at first _ (run-lawful w end events answers run)
+        told-reads fold fold_all b q flags at first _ (run-lawful w end events answers run)
             (omega (arith, at_number)) within (opened.3 ∙ ap (result_of q) state)
             told_of,
       )

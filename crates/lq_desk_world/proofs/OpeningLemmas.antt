@@ -1,16 +1,17 @@
 -- An opening in a run, and what comes of its subscription.
-use Rattle.std.proofs.Common.{◌≡◌, ℕ, ◌+◌, List, [], ◌∷◌, ◌++◌, refl, ap, take, length, ◌∙◌, sym, subst, arith, Some, None, Option, inl, inr, Bool}
+use Rattle.std.proofs.Common.{◌≡◌, ℕ, ◌+◌, List, [], ◌∷◌, ◌++◌, refl, ap, take, length, ◌∙◌, sym, subst, arith, Some, None, Option, inl, inr}
 use Rattle.std.proofs.lemmas.Option.{slice_get-get_or}
 use Rattle.lq_value.specs.declared.refusal.Refusal.{Refusal}
 use Rattle.lq_value.specs.declared.entry.Entry.{Entry}
 use Rattle.lq_predicate.specs.Query.{Query}
 use Rattle.lq_volume.specs.Result.{result_of}
 use Rattle.lq_volume.specs.Book.{number_of, state_of}
+use Rattle.lq_update.specs.declared.open_options.OpenOptions.{OpenOptions}
 use Rattle.lq_update.specs.Laws.{UpdatesJoin}
 use Rattle.lq_desk_world.specs.World.{World, Subscribed, taken_before_free, whole, in_port, to_come, subscribed_at}
 use Rattle.lq_desk_world.specs.declared.event.Event.{Event}
-use Rattle.lq_desk_world.specs.declared.event.Event.TheVariants.{Open}
-use Rattle.lq_desk_world.specs.Events.{Answer, Opened, opening, opened_now, open_refusal, with_sub}
+use Rattle.lq_desk_world.specs.declared.event.Event.TheVariants.{Open, OpenBy}
+use Rattle.lq_desk_world.specs.Events.{Answer, Opened, asked_to_open, opening, opened_now, open_refusal, outcome, with_sub}
 use Rattle.lq_desk_world.specs.Runs.{Run}
 use Rattle.lq_desk_world.specs.Headline.{reads_of, parcels_in}
 use Rattle.lq_desk_world.specs.PassedOn.{is_freed}
@@ -43,31 +44,54 @@ RanFrom w s slot at first events answers end = (i : ℕ) × (slot ≡ i + 1) × 
     × (first ≡ result_of s.query (state_of w.book))
     × Ran w.book s end i (reads_of slot events answers) (is_freed slot events answers)
 
+-- the outcome of an opening is that of what it asks for
+pub asks-outcome : (w : World) (e : Event) (q : Query) (o : OpenOptions)
+    → asked_to_open e ≡ Some (q, o)
+    → outcome w e ≡ opening w (opened_now w q o) (open_refusal w o.port o.backlog)
+asks-outcome w (Open p port backlog moved) q o asks =
+    ap (λ (x : Option (Query × OpenOptions)). by x) asks
+  where
+    by : Option (Query × OpenOptions) → Answer × World
+    by None = outcome w (Open p port backlog moved)
+    by (Some x) = opening w (opened_now w x.0 x.1) (open_refusal w x.1.port x.1.backlog)
+asks-outcome w (OpenBy p options) q o asks =
+    ap (λ (x : Option (Query × OpenOptions)). by x) asks
+  where
+    by : Option (Query × OpenOptions) → Answer × World
+    by None = outcome w (OpenBy p options)
+    by (Some x) = opening w (opened_now w x.0 x.1) (open_refusal w x.1.port x.1.backlog)
+asks-outcome w e q o asks = absurd (let no : ⊥ = cc in no)
+
 -- what comes of a subscription from its opening on
-pub opened-ran : UpdatesJoin → (w : World) (q : Query) (port backlog : ℕ) (moved : Bool)
+pub opened-ran : UpdatesJoin → (w : World) (e : Event) (q : Query) (o : OpenOptions)
     (slot at : ℕ) (first : List Entry) (events : List Event) (answers : List Answer) (end : World)
-    → Run w (Open q port backlog moved ∷ events) (Opened slot at first ∷ answers) end
-    → RanFrom w (opened_now w q port backlog moved) slot at first events answers end
-opened-ran join w q port backlog moved slot at first events answers end (v, inr ran, run) =
+    → asked_to_open e ≡ Some (q, o)
+    → Run w (e ∷ events) (Opened slot at first ∷ answers) end
+    → RanFrom w (opened_now w q o) slot at first events answers end
+opened-ran join w e q o slot at first events answers end asks (v, inr ran, run) =
     absurd (let e = ran.1 in let no : ⊥ = cc in no)
-opened-ran join w q port backlog moved slot at first events answers end (v, inl done, run) =
-    by (open_refusal w port backlog) refl done.0 done.1
+opened-ran join w e q o slot at first events answers end asks (v, inl done, run) =
+    by (open_refusal w o.port o.backlog) refl (done.0 ∙ ap (λ x. x.0) outcome_is)
+    (done.1 ∙ ap (λ x. x.1) outcome_is)
   where
     s : Subscribed
-    s = opened_now w q port backlog moved
+    s = opened_now w q o
 
     i : ℕ
     i = taken_before_free w.slots
 
-    by : (r : Option Refusal) → open_refusal w port backlog ≡ r
+    outcome_is : outcome w e ≡ opening w s (open_refusal w o.port o.backlog)
+    outcome_is = asks-outcome w e q o asks
+
+    by : (r : Option Refusal) → open_refusal w o.port o.backlog ≡ r
         → Opened slot at first ≡ (opening w s r).0 → v ≡ (opening w s r).1
         → RanFrom w s slot at first events answers end
     by (Some e) none told is = absurd (let no : ⊥ = cc in no)
     by None none told is =
-        let may = may_open w port backlog none in
+        let may = may_open w o.port o.backlog none in
         let stands : Stands (with_sub w s) i s = record {
           here = slice_get-set_here w.slots i _ (Some s) (slice_get-get_or w.slots i None may.free);
-          fair = opened-fair w q port backlog moved may;
+          fair = opened-fair w q o may;
         } in
         let slot_is : slot ≡ i + 1 = cc in (
           i,
@@ -82,11 +106,10 @@ opened-ran join w q port backlog moved slot at first events answers end (v, inl 
 
 -- the list of each subscription that a run opens is passed on
 pub reads-passed : UpdatesJoin → ReadsArePassedOn
-reads-passed join w end before after befores afters q port backlog moved slot at first run same =
-    let parts = run_parts w before (Open q port backlog moved ∷ after) befores
-    (Opened slot at first ∷ afters) end same run in
-    let opened = opened-ran join parts.0 q port backlog moved slot at first after afters end
-    parts.2 in
+reads-passed join w end before after befores afters e q o slot at first asks run same =
+    let parts = run_parts w before (e ∷ after) befores (Opened slot at first ∷ afters) end same
+    run in
+    let opened = opened-ran join parts.0 e q o slot at first after afters end asks parts.2 in
     let ran = opened.4 in
     let t = ran.sub in
     let taken : parcels_in (reads_of slot after afters) ≡ take t.taken (whole end.book t) =

@@ -9,13 +9,14 @@ use Rattle.lq_volume.specs.declared.change.Change.{Change as Change_}
 use Rattle.lq_volume.specs.State.{State}
 use Rattle.lq_volume.specs.Change.{after}
 use Rattle.lq_volume.specs.Book.{AreLawful, Book, after_all, grown, state_of}
+use Rattle.lq_update.specs.Options.{options_of}
 use Rattle.lq_update.specs.Laws.{UpdatesJoin}
 use Rattle.lq_desk_world.specs.World.{World, Subscribed, after_change, taken_before_free, with_slot}
 use Rattle.lq_desk_world.specs.declared.event.Event.{Event}
 use Rattle.lq_desk_world.specs.declared.event.Event.TheVariants.{Change}
 use Rattle.lq_desk_world.specs.declared.event.Act.{Act}
 use Rattle.lq_desk_world.specs.declared.event.Act.TheVariants as act
-use Rattle.lq_desk_world.specs.Events.{Answer, Refused, acting, event_at}
+use Rattle.lq_desk_world.specs.Events.{Answer, Refused, acting, event_at, opened_now, with_sub}
 use Rattle.lq_desk_world.specs.Runs.{Step, Run}
 use Rattle.lq_desk_world.specs.Fair.{IsFair}
 use Rattle.lq_desk_world.specs.Headline.{read_by, frees, accepted_by, accepted}
@@ -54,7 +55,7 @@ step-adds : (w : World) (e : Event) (a : Answer) (v : World) → Step w e a v
     → Adds w (accepted_by e a) v.book
 step-adds w = step-cases w (λ e a v. Adds w (accepted_by e a) v.book)
     (λ e r none. adds-nothing w _ (accepted_by-refused e r)) (λ c is. (refl, (is, tt)))
-    (λ q port backlog moved none. adds-nothing w [] refl)
+    (λ q port backlog moved none. adds-nothing w [] refl) (λ q o none. adds-nothing w [] refl)
     (λ i x s at. adds-nothing w _ (accepted_by-act (i + 1) x (acting w.book x s).0))
 
 -- after a run the book has the accepted changes at its end
@@ -160,14 +161,19 @@ module _ (join : UpdatesJoin) where
               (keeps-change join w.book c s h.fair);
         },
       ))
-      (λ q port backlog moved none. inr (
+      (λ q port backlog moved none. inr (opens (opened_now w q (options_of port backlog moved))))
+      (λ q o none. inr (opens (opened_now w q o)))
+      (λ j x t at. acted j x t at (cases_eq j i)) e a v
+    where
+      -- an opening takes another slot
+      opens : (t : Subscribed) → (false ≡ false) × Goes w i s [] (with_sub w t)
+      opens t = (
         refl,
         rests w _ i s h refl
             (slice_get-set_other w.slots i (taken_before_free w.slots) _
             (λ same. free_is_free w.slots s (ap (slice_get w.slots) (sym same) ∙ h.here))),
-      ))
-      (λ j x t at. acted j x t at (cases_eq j i)) e a v
-    where
+      )
+
       acted : (j : ℕ) (x : Act) (t : Subscribed) → slice_get w.slots j ≡ Some (Some t)
           → (j ≡ i) ⊎ (j ≢ i)
           → Passes w i s (event_at (j + 1) x) (acting w.book x t).0

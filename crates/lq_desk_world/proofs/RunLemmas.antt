@@ -5,6 +5,7 @@ use Rattle.std.specs.List.{AllByRecursion}
 use Rattle.std.proofs.lemmas.List.{take_all}
 use Rattle.lq_predicate.specs.Query.{Query}
 use Rattle.lq_volume.specs.Book.{Book, grown}
+use Rattle.lq_update.specs.declared.open_options.Flags.{Flags}
 use Rattle.lq_update.specs.declared.message.Message.{Message}
 use Rattle.lq_update.specs.declared.mark.Mark.{Mark}
 use Rattle.lq_update.specs.declared.parcel.Parcel.{Parcel}
@@ -227,12 +228,12 @@ prefix-more xs ys zs p q =
     (p.0 ++ q.0, sym (append_assoc xs p.0 q.0) ∙ (ap (λ us. us ++ q.0) p.1 ∙ q.1))
 
 -- the updates up to one change are a beginning of those up to a later one
-pub updates-prefix : UpdatesGrow → (q : Query) (moved : Bool) (b : Book) (m n k : ℕ)
-    → IsPrefix (updates_of q moved b m n) (updates_of q moved b m (n + k))
-updates-prefix grow q moved b m n zero =
+pub updates-prefix : UpdatesGrow → (q : Query) (flags : Flags) (b : Book) (m n k : ℕ)
+    → IsPrefix (updates_of q flags b m n) (updates_of q flags b m (n + k))
+updates-prefix grow q flags b m n zero =
     let e : n ≡ n + 0 = omega arith in
-    ([], append-nil _ ∙ ap (updates_of q moved b m) e)
-updates-prefix grow q moved b m n (suc k) =
-    subst (λ (l : ℕ). IsPrefix (updates_of q moved b m n) (updates_of q moved b m l))
+    ([], append-nil _ ∙ ap (updates_of q flags b m) e)
+updates-prefix grow q flags b m n (suc k) =
+    subst (λ (l : ℕ). IsPrefix (updates_of q flags b m n) (updates_of q flags b m l))
     (let e : n + k + 1 ≡ n + suc k = omega arith in e)
-    (prefix-more _ _ _ (updates-prefix grow q moved b m n k) (grow q moved b m (n + k)))
+    (prefix-more _ _ _ (updates-prefix grow q flags b m n k) (grow q flags b m (n + k)))

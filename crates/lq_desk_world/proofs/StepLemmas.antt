@@ -12,7 +12,7 @@ use Rattle.lq_volume.specs.Change.{refused as refused_by}
 use Rattle.lq_volume.specs.Book.{Book, state_of, grown, number_of, state_at}
 use Rattle.lq_desk_world.specs.World.{World, Subscribed, is_over, subscribed_at, with_slot, is_live, can_put, first_in_port, taken_before_free, after_change}
 use Rattle.lq_desk_world.specs.declared.event.Event.{Event}
-use Rattle.lq_desk_world.specs.declared.event.Event.TheVariants.{Change, Open, Put, Take, HangUp, Notice, Close, Finish}
+use Rattle.lq_desk_world.specs.declared.event.Event.TheVariants.{Change, Open, OpenBy, Put, Take, HangUp, Notice, Close, Finish}
 use Rattle.lq_desk_world.specs.declared.event.Act.{Act}
 use Rattle.lq_desk_world.specs.declared.event.Act.TheVariants as act
 use Rattle.lq_desk_world.specs.Events.{Answer, Finished, Refused, acting, at_slot, changing, event_at, finishing_if, open_refusal, opened_now, opening, outcome, read_outcome, putting_if, reading_if, noticing_if, closing_if}
@@ -21,6 +21,9 @@ use Rattle.lq_desk_world.specs.Fair.{IsFair, IsFairSlot, IsFairWorld}
 use Rattle.lq_desk_world.specs.Headline.{read_by, frees}
 use Rattle.lq_desk_world.proofs.SubLemmas.{IsOver, Leaves, keeps-self, over-from, keeps-change}
 use Rattle.lq_desk_world.proofs.TakenLemmas.{closing-leaves, hanging_up-leaves, leaves, noticing-leaves, putting-leaves, reading-leaves}
+use Rattle.lq_update.specs.declared.open_options.Flags.{Flags}
+use Rattle.lq_update.specs.declared.open_options.OpenOptions.{OpenOptions}
+use Rattle.lq_update.specs.Options.{options_of}
 use Rattle.lq_update.specs.declared.parcel.Parcel.{Parcel}
 use Rattle.lq_desk_world.specs.Laws.{RefusalsLeaveWorlds, RunsKeepWorldsFair}
 use Rattle.lq_desk_world.proofs.ListLemmas.{each_bool, slice_set-same, all-get, all-set, all-map}
@@ -101,14 +104,17 @@ abbrev pub ReadsNothing : World → Event → Refusal → Type 0
 ReadsNothing w e r = (i : ℕ) (s : Subscribed) → slice_get w.slots i ≡ Some (Some s)
     → read_by (i + 1) e (Refused r) ≡ []
 
--- a property of an event, its answer and the world after it, that holds in each of four cases
+-- a property of an event, its answer and the world after it, that holds in each of five cases
 module _ (w : World) (P : Event → Answer → World → Type 0)
     (refused : (e : Event) (r : Refusal) → ReadsNothing w e r → P e (Refused r) w)
     (changed : (c : Change_) → refused_by (state_of w.book) c ≡ None
     → P (Change c) (changing w c None).0 (changing w c None).1)
     (opened : (q : Query) (port backlog : ℕ) (moved : Bool) → open_refusal w port backlog ≡ None
-    → P (Open q port backlog moved) (opening w (opened_now w q port backlog moved) None).0
-    (opening w (opened_now w q port backlog moved) None).1)
+    → P (Open q port backlog moved)
+    (opening w (opened_now w q (options_of port backlog moved)) None).0
+    (opening w (opened_now w q (options_of port backlog moved)) None).1)
+    (opened_by : (q : Query) (o : OpenOptions) → open_refusal w o.port o.backlog ≡ None
+    → P (OpenBy q o) (opening w (opened_now w q o) None).0 (opening w (opened_now w q o) None).1)
     (acted : (i : ℕ) (a : Act) (s : Subscribed) → slice_get w.slots i ≡ Some (Some s)
     → P (event_at (i + 1) a) (acting w.book a s).0 (with_slot w i (acting w.book a s).1)) where
   -- a change, refused or accepted
@@ -120,11 +126,19 @@ module _ (w : World) (P : Event → Answer → World → Type 0)
   -- an opening, refused or answered
   by_opening : (q : Query) (port backlog : ℕ) (moved : Bool) (r : Option Refusal)
       → open_refusal w port backlog ≡ r
-      → P (Open q port backlog moved) (opening w (opened_now w q port backlog moved) r).0
-      (opening w (opened_now w q port backlog moved) r).1
+      → P (Open q port backlog moved)
+      (opening w (opened_now w q (options_of port backlog moved)) r).0
+      (opening w (opened_now w q (options_of port backlog moved)) r).1
   by_opening q port backlog moved (Some e) is =
       refused (Open q port backlog moved) e (λ i s at. refl)
   by_opening q port backlog moved None is = opened q port backlog moved is
+
+  -- and so is one by options
+  by_options : (q : Query) (o : OpenOptions) (r : Option Refusal)
+      → open_refusal w o.port o.backlog ≡ r
+      → P (OpenBy q o) (opening w (opened_now w q o) r).0 (opening w (opened_now w q o) r).1
+  by_options q o (Some e) is = refused (OpenBy q o) e (λ i s at. refl)
+  by_options q o None is = opened_by q o is
 
   -- an act, at a slot that is free or taken
   by_act : (k : ℕ) (a : Act) (o : Option Subscribed) → subscribed_at w k ≡ o
@@ -147,6 +161,7 @@ module _ (w : World) (P : Event → Answer → World → Type 0)
   outcome-cases (Change c) = by_change c (refused_by (state_of w.book) c) refl
   outcome-cases (Open q port backlog moved) =
       by_opening q port backlog moved (open_refusal w port backlog) refl
+  outcome-cases (OpenBy q o) = by_options q o (open_refusal w o.port o.backlog) refl
   outcome-cases (Put k) = by_act k act.Put (subscribed_at w k) refl
   outcome-cases (Take k) = by_act k act.Take (subscribed_at w k) refl
   outcome-cases (HangUp k) = by_act k act.HangUp (subscribed_at w k) refl
@@ -161,6 +176,8 @@ module _ (w : World) (P : Event → Answer → World → Type 0)
       rw (ran.1, ran.2) (refused (Change c) NoMemory (λ i s at. refl))
   step-cases (Open q port backlog moved) a v (inr ran) =
       rw (ran.1, ran.2) (refused (Open q port backlog moved) NoMemory (λ i s at. refl))
+  step-cases (OpenBy q o) a v (inr ran) =
+      rw (ran.1, ran.2) (refused (OpenBy q o) NoMemory (λ i s at. refl))
   step-cases e a v (inr ran) = absurd ran.0
 
 -- ---- a refusal
@@ -190,16 +207,16 @@ acting-refused b s r act.Finish =
 -- each event that is refused leaves the world
 pub refusals-leave : RefusalsLeaveWorlds
 refusals-leave w e r = outcome-cases w (λ e a v. a ≡ Refused r → v ≡ w) (λ e q none is. refl)
-    (λ c none is. cc) (λ q port backlog moved none is. cc)
+    (λ c none is. cc) (λ q port backlog moved none is. cc) (λ q o none is. cc)
     (λ i a s at is. ap (with_slot w i) (acting-refused w.book s r a is)
     ∙ ap (λ slots. record w { slots = slots }) (slice_set-same w.slots i (Some s) at)) e
 
 -- ---- fair worlds
 
 -- a subscription that is opened
-nothing_told : (q : Query) (moved : Bool) (b : Book) (n : ℕ) → updates_of q moved b n n ≡ []
-nothing_told q moved b n =
-    ap (λ k. updates_from q moved (state_at b n) (take k (drop (n - b.start.number) b.changes)) 1)
+nothing_told : (q : Query) (flags : Flags) (b : Book) (n : ℕ) → updates_of q flags b n n ≡ []
+nothing_told q flags b n =
+    ap (λ k. updates_from q flags (state_at b n) (take k (drop (n - b.start.number) b.changes)) 1)
     (let e : n - n ≡ 0 = omega arith in e)
 
 -- what is so where no row of the table of an opening holds
@@ -232,9 +249,9 @@ may_open w port backlog none =
     }
 
 -- a subscription that has just opened is fair
-pub opened-fair : (w : World) (q : Query) (port backlog : ℕ) (moved : Bool) → MayOpen w port backlog
-    → IsFair w.book (opened_now w q port backlog moved)
-opened-fair w q port backlog moved may = record {
+pub opened-fair : (w : World) (q : Query) (o : OpenOptions) → MayOpen w o.port o.backlog
+    → IsFair w.book (opened_now w q o)
+opened-fair w q o may = record {
   begun = omega arith;
   places = may.places;
   most = may.most;
@@ -244,7 +261,7 @@ opened-fair w q port backlog moved may = record {
   taken = omega arith;
   put = omega arith;
   port = omega arith;
-  held = λ live. omega (arith, ap length (nothing_told q moved w.book (number_of w.book)));
+  held = λ live. omega (arith, ap length (nothing_told q o.flags w.book (number_of w.book)));
 }
 
 -- an act leaves a fair slot fair
@@ -269,7 +286,9 @@ module _ (join : UpdatesJoin) where
       (λ c none. all-map (IsFairSlot w.book) (IsFairSlot (grown w.book (c ∷ [])))
       (option_map (after_change w.book c)) w.slots (changed-fair w.book c) h)
       (λ q port backlog moved none. all-set (IsFairSlot w.book) w.slots _ _ h
-      (opened-fair w q port backlog moved (may_open w port backlog none)))
+      (opened-fair w q (options_of port backlog moved) (may_open w port backlog none)))
+      (λ q o none. all-set (IsFairSlot w.book) w.slots _ _ h
+      (opened-fair w q o (may_open w o.port o.backlog none)))
       (λ i x s at. all-set (IsFairSlot w.book) w.slots i _ h
       (acting-fair w.book s x (all-get (IsFairSlot w.book) w.slots i (Some s) h at))) e a v
 

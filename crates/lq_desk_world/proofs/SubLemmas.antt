@@ -8,6 +8,7 @@ use Rattle.std.proofs.lemmas.List.{length-map, map-append}
 use Rattle.lq_predicate.specs.Query.{Query}
 use Rattle.lq_volume.specs.declared.change.Change.{Change as Change_}
 use Rattle.lq_volume.specs.Book.{Book, grown, number_of, state_of}
+use Rattle.lq_update.specs.declared.open_options.Flags.{Flags}
 use Rattle.lq_update.specs.declared.message.Message.{Message}
 use Rattle.lq_update.specs.declared.mark.Mark.{Mark}
 use Rattle.lq_update.specs.declared.mark.Cause.{Cause}
@@ -24,8 +25,8 @@ use Rattle.lq_desk_world.proofs.ListLemmas.{each_bool}
 use Rattle.lq_desk_world.proofs.WorldLemmas.{updates_of-stays, updates_of-change}
 
 -- what a subscription keeps from its opening on
-abbrev pub opening_of : Subscribed → Query × Bool × ℕ × ℕ
-opening_of s = (s.query, s.moved, s.opened, s.port)
+abbrev pub opening_of : Subscribed → Query × Flags × ℕ × ℕ
+opening_of s = (s.query, s.flags, s.opened, s.port)
 
 -- one subscription at two points
 abbrev pub IsSame : Subscribed → Subscribed → Type 0
@@ -95,7 +96,7 @@ over-from b s h = by s.end (s.taken) (length (whole b s)) h
 
 -- the updates of a subscription up to a number
 abbrev pub updates_to : Book → Subscribed → ℕ → List Message
-updates_to b s n = updates_of s.query s.moved b s.opened n
+updates_to b s n = updates_of s.query s.flags b s.opened n
 
 -- messages as parcels
 abbrev pub parcels : List Message → List Parcel
@@ -150,7 +151,7 @@ keeps-ended b cs s e h is =
     let to : covered b s ≡ e.change = ap (covered_by b) is in
     let told_same : updates_due (grown b cs) s ≡ updates_due b s =
     ap (λ o. updates_to (grown b cs) s (covered_by (grown b cs) o)) is
-    ∙ (updates_of-stays s.query s.moved b cs s.opened e.change h.begun (omega (arith, h.opened, to))
+    ∙ (updates_of-stays s.query s.flags b cs s.opened e.change h.begun (omega (arith, h.opened, to))
     (omega (arith, h.covered, to))
     ∙ ap (λ o. updates_to b s (covered_by b o)) (sym is)) in
     let same : whole (grown b cs) s ≡ whole b s =
@@ -238,14 +239,14 @@ module _ (join : UpdatesJoin) where
       let us = updates_to b s (number_of b) in
       let to : covered b s ≡ number_of b = ap (covered_by b) live in
       let far : covered d s ≡ number_of d = ap (covered_by d) live in
-      let step = step_of s.query s.moved (state_of b) c (length us + 1) in
+      let step = step_of s.query s.flags (state_of b) c (length us + 1) in
       let told_more : updates_to d s (number_of d) ≡ us ++ step =
-      updates_of-change join s.query s.moved b c s.opened (omega (arith, h.opened, to)) in
+      updates_of-change join s.query s.flags b c s.opened (omega (arith, h.opened, to)) in
       let grows : whole d s ≡ whole b s ++ parcels step =
       whole-live d s live ∙ (ap parcels told_more ∙ (map-append (λ m. Update m) us step
       ∙ ap (λ xs. xs ++ parcels step) (sym (whole-live b s live)))) in
       let news_is : news b c s ≡ length step =
-      ap (λ ms. length (step_of s.query s.moved (state_of b) c (length ms + 1)))
+      ap (λ ms. length (step_of s.query s.flags (state_of b) c (length ms + 1)))
       (told-live b s live) in
       let before : length (updates_due b s) ≡ length us = ap length (told-live b s live) in
       let after : length (updates_due d s) ≡ length us + length step =

@@ -12,7 +12,7 @@ use Rattle.lq_volume.specs.Book.{Book}
 use Rattle.lq_update.specs.Laws.{UpdatesJoin}
 use Rattle.lq_desk_world.specs.World.{World, Subscribed, after_change, can_put, one_more_put, subscribed_at, with_slot}
 use Rattle.lq_desk_world.specs.declared.event.Event.{Event}
-use Rattle.lq_desk_world.specs.declared.event.Event.TheVariants.{Change, Open, Put, Take, Notice, Close, Finish}
+use Rattle.lq_desk_world.specs.declared.event.Event.TheVariants.{Change, Open, OpenBy, Put, Take, Notice, Close, Finish}
 use Rattle.lq_desk_world.specs.declared.event.Act.{Act}
 use Rattle.lq_desk_world.specs.declared.event.Act.TheVariants as act
 use Rattle.lq_desk_world.specs.Events.{Answer, Moved, Refused, acting, answer_to, at_slot, event_at, next, outcome, putting, putting_if}
@@ -80,7 +80,7 @@ put-taken w i s true is at =
 -- each put
 put-cases : (w : World) (k : ℕ) → PutCases w (Put k) (answer_to w (Put k)) (next w (Put k))
 put-cases w k = outcome-cases w (PutCases w) refused (λ c none. tt)
-    (λ q port backlog moved none. tt) acted (Put k)
+    (λ q port backlog moved none. tt) (λ q o none. tt) acted (Put k)
   where
     refused : (e : Event) (r : Refusal) → ReadsNothing w e r → PutCases w e (Refused r) w
     refused (Put j) r none = inl (λ no. let e : Refused r ≡ Moved true = no in cc, refl)
@@ -203,6 +203,7 @@ still-or-among w k = by (subscribed_at w k) refl
 -- an event that opens and frees no slot
 abbrev Stays : Event → Type 0
 Stays (Open q port backlog moved) = ⊥
+Stays (OpenBy q o) = ⊥
 Stays (Finish k) = ⊥
 Stays e = Unit {0}
 
@@ -244,7 +245,7 @@ module _ (join : UpdatesJoin) where
   event-ports : (w : World) (e : Event) → IsFairWorld w → Stays e → ports_of (next w e) ≡ ports_of w
   event-ports w e fair = outcome-cases w (λ e a v. Stays e → ports_of v ≡ ports_of w)
       (λ e r none stays. refl) (λ c none stays. changed-ports w.book c w.slots fair)
-      (λ q port backlog moved none stays. absurd stays)
+      (λ q port backlog moved none stays. absurd stays) (λ q o none stays. absurd stays)
       (λ i a s at stays.
       elim (acting-passes w.book s 1 a (all-get (IsFairSlot w.book) w.slots i (Some s) fair at)) [
         | inl gone ↦ absurd (subst (λ x. Stays (event_at (i + 1) x)) gone.1 stays)

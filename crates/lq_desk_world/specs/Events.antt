@@ -1,4 +1,5 @@
 -- The answer to each event (`src/event.rt`), and the world after it.
+pub use Rattle.lq_update.specs.declared.open_options.OpenOptions.{OpenOptions}
 use Rattle.std.specs.Prelude.{ℕ, ◌+◌, ◌-◌, List, [], ◌∷◌, ◌++◌, length, map, Bool, true, false, not, ◌&&◌, nat_le, Option, Some, None, if◌then◌else◌}
 use Rattle.std.specs.Option.{option_map}
 use Rattle.lq_value.specs.declared.refusal.Refusal.{Refusal}
@@ -11,10 +12,11 @@ use Rattle.lq_volume.specs.declared.change.Applied.{Applied}
 use Rattle.lq_volume.specs.Change.{refused, node_of}
 use Rattle.lq_volume.specs.Result.{result_of}
 use Rattle.lq_volume.specs.Book.{grown, number_of, state_of, Book}
+use Rattle.lq_update.specs.Options.{options_of}
 use Rattle.lq_update.specs.declared.mark.Cause.TheVariants.{Closed, HungUp}
 use Rattle.lq_update.specs.declared.parcel.Parcel.{Parcel}
 use Rattle.lq_desk_world.specs.declared.event.Event.{Event}
-use Rattle.lq_desk_world.specs.declared.event.Event.TheVariants.{Change, Open, Put, Take, HangUp, Notice, Close, Finish}
+use Rattle.lq_desk_world.specs.declared.event.Event.TheVariants.{Change, Open, OpenBy, Put, Take, HangUp, Notice, Close, Finish}
 use Rattle.lq_desk_world.specs.declared.event.Act.{Act}
 use Rattle.lq_desk_world.specs.declared.event.Act.TheVariants as act
 use Rattle.lq_desk_world.specs.World.{World, Subscribed, with_end, with_hang_up_asked, one_more_put, one_more_taken, can_put, first_in_port, is_live, is_over, after_change, subscribed_at, taken_before_free, with_slot}
@@ -50,18 +52,24 @@ changing w c None = (
 
 -- ---- an opening
 
-abbrev pub opened_now : World → Query → ℕ → ℕ → Bool → Subscribed
-opened_now w q port backlog moved = record {
+abbrev pub opened_now : World → Query → OpenOptions → Subscribed
+opened_now w q options = record {
   query = q;
-  moved = moved;
+  flags = options.flags;
   opened = number_of w.book;
-  port = port;
-  backlog = backlog;
+  port = options.port;
+  backlog = options.backlog;
   hang_up_asked = false;
   put = 0;
   taken = 0;
   end = None;
 }
+
+-- what an event asks to open, if it does: a query, and how
+abbrev pub asked_to_open : Event → Option (Query × OpenOptions)
+asked_to_open (Open q port backlog moved) = Some (q, options_of port backlog moved)
+asked_to_open (OpenBy q options) = Some (q, options)
+asked_to_open e = None
 
 -- the tests of an opening by its port and backlog alone, each with the refusal that it gives
 abbrev pub size_refusals : ℕ → ℕ → List (Bool × Refusal)
@@ -176,7 +184,9 @@ event_at slot act.Finish = Finish slot
 abbrev pub outcome : World → Event → Answer × World
 outcome w (Change c) = changing w c (refused (state_of w.book) c)
 outcome w (Open q port backlog moved) =
-    opening w (opened_now w q port backlog moved) (open_refusal w port backlog)
+    opening w (opened_now w q (options_of port backlog moved)) (open_refusal w port backlog)
+outcome w (OpenBy q options) =
+    opening w (opened_now w q options) (open_refusal w options.port options.backlog)
 outcome w (Put slot) = act_outcome w slot act.Put
 outcome w (Take slot) = act_outcome w slot act.Take
 outcome w (HangUp slot) = act_outcome w slot act.HangUp

@@ -1,5 +1,5 @@
 -- What the events and answers of a run say about each subscription that they open.
-use Rattle.std.specs.Prelude.{◌≡◌, ℕ, ◌+◌, ◌≤◌, List, [], ◌∷◌, ◌++◌, length, take, Bool, false, ◌==◌, if◌then◌else◌}
+use Rattle.std.specs.Prelude.{◌≡◌, ℕ, ◌+◌, ◌≤◌, List, [], ◌∷◌, ◌++◌, length, take, Bool, false, Some, ◌==◌, if◌then◌else◌}
 use Rattle.std.specs.List.{AllByRecursion}
 use Rattle.lq_value.specs.declared.entry.Entry.{Entry}
 use Rattle.lq_predicate.specs.Query.{Query}
@@ -7,6 +7,8 @@ use Rattle.lq_volume.specs.declared.change.Change.{Change as Change_}
 use Rattle.lq_volume.specs.State.{State, IsVolume}
 use Rattle.lq_volume.specs.Book.{Book, IsBook, number_of, state_at, state_of}
 use Rattle.lq_volume.specs.Result.{result_of}
+use Rattle.lq_update.specs.declared.open_options.Flags.{Flags}
+use Rattle.lq_update.specs.declared.open_options.OpenOptions.{OpenOptions}
 use Rattle.lq_update.specs.declared.message.Message.{Message}
 use Rattle.lq_update.specs.declared.mark.Mark.{Mark}
 use Rattle.lq_update.specs.declared.parcel.Parcel.{Parcel}
@@ -15,8 +17,8 @@ use Rattle.lq_update.specs.Updates.{updates_of, IsSettled}
 use mathlib.Core.List.{IsPrefix}
 use Rattle.lq_update.specs.Fold.{folded, last_change}
 use Rattle.lq_desk_world.specs.declared.event.Event.{Event}
-use Rattle.lq_desk_world.specs.declared.event.Event.TheVariants.{Change, Open, Take, Finish}
-use Rattle.lq_desk_world.specs.Events.{Answer, Changed, Opened, Took, Ended, Finished}
+use Rattle.lq_desk_world.specs.declared.event.Event.TheVariants.{Change, Take, Finish}
+use Rattle.lq_desk_world.specs.Events.{Answer, Changed, Opened, Took, Ended, Finished, asked_to_open}
 
 -- the answer that one event gave to a read of a slot, and whether it freed the slot
 abbrev pub read_by : ℕ → Event → Answer → List Answer
@@ -76,16 +78,16 @@ pub record IsOpening (b : Book) (q : Query) (at : ℕ) (first : List Entry) : Ty
   pub number : at ≡ number_of b
   pub entries : first ≡ result_of q (state_of b)
 
--- The answers to a subscription's reads, over a book: given its query, the number of changes at its
--- opening, and the result then.
-pub record AreReads (b : Book) (q : Query) (moved : Bool) (at : ℕ) (first : List Entry)
+-- The answers to a subscription's reads, over a book: given its query and flags, the number of
+-- changes at its opening, and the result then.
+pub record AreReads (b : Book) (q : Query) (flags : Flags) (at : ℕ) (first : List Entry)
     (reads : List Answer) : Type 0 where
   -- each message once and in order: they are a prefix of its update list
-  pub prefix : IsPrefix (updates_in reads) (updates_of q moved b at (number_of b))
+  pub prefix : IsPrefix (updates_in reads) (updates_of q flags b at (number_of b))
   -- the mark comes after the whole list up to the change that it names, and only `Ended` follows it
   pub mark : (front rest : List Answer) (m : Mark) → reads ≡ front ++ Took (Fin m) ∷ rest →
       (at ≤ m.change) × (m.change ≤ number_of b)
-      × (updates_in front ≡ updates_of q moved b at m.change)
+      × (updates_in front ≡ updates_of q flags b at m.change)
       × (m.seq ≡ length (updates_in front) + 1)
       × AllByRecursion (λ a. a ≡ Ended) rest
   -- `Ended` comes only after the mark
@@ -105,12 +107,12 @@ pub record AreReads (b : Book) (q : Query) (moved : Bool) (at : ℕ) (first : Li
 -- accepts.
 abbrev pub OpeningsAreTold : State → List Event → List Answer → Type 0
 OpeningsAreTold s events answers =
-    (before after : List Event) (befores afters : List Answer) (q : Query) (port backlog : ℕ)
-    (moved : Bool) (slot at : ℕ) (first : List Entry)
-    → events ≡ before ++ Open q port backlog moved ∷ after
+    (before after : List Event) (befores afters : List Answer) (opening : Event) (q : Query)
+    (options : OpenOptions) (slot at : ℕ) (first : List Entry)
+    → asked_to_open opening ≡ Some (q, options) → events ≡ before ++ opening ∷ after
     → answers ≡ befores ++ Opened slot at first ∷ afters → length before ≡ length befores
     → IsOpening (run_book s before befores) q at first
-    × AreReads (run_book s events answers) q moved at first (reads_of slot after afters)
+    × AreReads (run_book s events answers) q options.flags at first (reads_of slot after afters)
 
 -- Each event of a run has one answer. The accepted changes of the run are a book: each is lawful
 -- after those before it. At every moment, over the changes accepted by then, the readers of each

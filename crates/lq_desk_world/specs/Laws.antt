@@ -1,14 +1,15 @@
 -- Facts about every world and every run.
-use Rattle.std.specs.Prelude.{◌≡◌, ℕ, zero, suc, ◌+◌, List, [], ◌∷◌, ◌++◌, length, take, Bool, true, Option, Some, None}
+use Rattle.std.specs.Prelude.{◌≡◌, ℕ, zero, suc, ◌+◌, List, [], ◌∷◌, ◌++◌, length, take, true, Option, Some, None}
 use Rattle.lq_value.specs.declared.entry.Entry.{Entry}
 use Rattle.lq_value.specs.declared.refusal.Refusal.{Refusal}
 use Rattle.lq_predicate.specs.Query.{Query}
 use Rattle.lq_volume.specs.declared.change.Change.{Change as Change_}
 use Rattle.lq_volume.specs.Book.{Book, state_of}
+use Rattle.lq_update.specs.declared.open_options.OpenOptions.{OpenOptions}
 use Rattle.lq_desk_world.specs.World.{World, Subscribed, first_world, whole, in_port, to_come}
 use Rattle.lq_desk_world.specs.declared.event.Event.{Event}
-use Rattle.lq_desk_world.specs.declared.event.Event.TheVariants.{Change, Open, Put, Take, Notice, Close}
-use Rattle.lq_desk_world.specs.Events.{Answer, Opened, Moved, Refused, answer_to, next, outcome}
+use Rattle.lq_desk_world.specs.declared.event.Event.TheVariants.{Change, Put, Take, Notice, Close}
+use Rattle.lq_desk_world.specs.Events.{Answer, Opened, Moved, Refused, answer_to, asked_to_open, next, outcome}
 use Rattle.lq_desk_world.specs.Runs.{Run}
 use Rattle.lq_desk_world.specs.Turns.{after_events, notices, ports_of, turn_of, turn_outcome}
 use Rattle.lq_desk_world.specs.Fair.{IsFair, IsFairWorld}
@@ -81,11 +82,11 @@ TurnsPutUntilStill = (w : World) → IsFairWorld w →
 -- and that, what is in its port and what is still to be put are the whole list.
 abbrev pub ReadsArePassedOn : Type 0
 ReadsArePassedOn = (w end : World) (before after : List Event) (befores afters : List Answer)
-    (q : Query) (port backlog : ℕ) (moved : Bool) (slot at : ℕ) (first : List Entry)
-    → Run w (before ++ Open q port backlog moved ∷ after)
-    (befores ++ Opened slot at first ∷ afters) end
+    (opening : Event) (q : Query) (options : OpenOptions) (slot at : ℕ) (first : List Entry)
+    → asked_to_open opening ≡ Some (q, options)
+    → Run w (before ++ opening ∷ after) (befores ++ Opened slot at first ∷ afters) end
     → length before ≡ length befores →
-    IsPassedOn end q moved at slot (reads_of slot after afters) (is_freed slot after afters)
+    IsPassedOn end q options.flags at slot (reads_of slot after afters) (is_freed slot after afters)
 
 -- the main theorem on every run from any world, so also from a first world over a volume's state
 abbrev pub RunsTellReaders : Type 0

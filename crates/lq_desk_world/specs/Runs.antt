@@ -5,13 +5,14 @@ use Rattle.lq_volume.specs.Change.{refused}
 use Rattle.lq_volume.specs.Book.{state_of}
 use Rattle.lq_desk_world.specs.World.{World}
 use Rattle.lq_desk_world.specs.declared.event.Event.{Event}
-use Rattle.lq_desk_world.specs.declared.event.Event.TheVariants.{Change, Open}
+use Rattle.lq_desk_world.specs.declared.event.Event.TheVariants.{Change, Open, OpenBy}
 use Rattle.lq_desk_world.specs.Events.{Answer, Refused, answer_to, next, open_refusal}
 
 -- a change and an opening that nothing else refuses may run out of memory
 abbrev pub MayRunOut : World → Event → Type 0
 MayRunOut w (Change c) = refused (state_of w.book) c ≡ None
 MayRunOut w (Open q port backlog moved) = open_refusal w port backlog ≡ None
+MayRunOut w (OpenBy q options) = open_refusal w options.port options.backlog ≡ None
 MayRunOut w e = ⊥
 
 -- one event has its outcome, or memory runs out and the world stays the same

@@ -5,6 +5,7 @@ use Rattle.std.specs.Option.{option_flatten}
 use Rattle.lq_predicate.specs.Query.{Query}
 use Rattle.lq_volume.specs.declared.change.Change.{Change as Change_}
 use Rattle.lq_volume.specs.Book.{Book, number_of, state_of}
+use Rattle.lq_update.specs.declared.open_options.Flags.{Flags}
 use Rattle.lq_update.specs.declared.message.Message.{Message}
 use Rattle.lq_update.specs.declared.mark.Cause.{Cause}
 use Rattle.lq_update.specs.declared.mark.Cause.TheVariants.{Overrun}
@@ -17,12 +18,12 @@ pub record Ending : Type 0 where
   pub cause : Cause
   pub change : ℕ
 
--- A subscription: its query, the number of changes at its opening, its port and backlog, whether
--- its end was asked for, how many parcels were put into the port and how many taken from it, and
--- its end, if it has one.
+-- A subscription: its query, its flags, the number of changes at its opening, its port and backlog,
+-- whether its end was asked for, how many parcels were put into the port and how many taken from
+-- it, and its end, if it has one.
 pub record Subscribed : Type 0 where
   pub query : Query
-  pub moved : Bool
+  pub flags : Flags
   pub opened : ℕ
   pub port : ℕ
   pub backlog : ℕ
@@ -53,7 +54,7 @@ covered b s = covered_by b s.end
 
 -- the updates of a subscription, from its opening to the last change that it covers
 abbrev pub updates_due : Book → Subscribed → List Message
-updates_due b s = updates_of s.query s.moved b s.opened (covered b s)
+updates_due b s = updates_of s.query s.flags b s.opened (covered b s)
 
 -- the mark after this many updates, if the subscription has ended
 abbrev pub mark_behind : ℕ → Option Ending → List Parcel
@@ -111,7 +112,7 @@ first_in_port b s = if nat_lt s.taken s.put then slice_get (whole b s) s.taken e
 
 -- the number of messages that a lawful change makes for it
 abbrev pub news : Book → Change_ → Subscribed → ℕ
-news b c s = length (step_of s.query s.moved (state_of b) c (length (updates_due b s) + 1))
+news b c s = length (step_of s.query s.flags (state_of b) c (length (updates_due b s) + 1))
 
 -- whether these are more than its backlog has room for
 abbrev pub change_overruns : Book → Change_ → Subscribed → Bool

@@ -3,6 +3,7 @@
 ghost use Rattle.std.specs.Prelude.{◌≡◌};
 
 use lq_predicate::Predicate;
+use lq_update::OpenOptions;
 use lq_volume::Change;
 
 /// One event of the core. Slots count from 1.
@@ -10,13 +11,19 @@ use lq_volume::Change;
 pub enum Event {
     /// Makes a change of the volume.
     Change(Change),
-    /// Opens a live query. The port has `port` places, and at most `backlog` messages are held for
-    /// it. With `moved`, one message reports an entry that matches before and after a move.
+    /// Opens a live query without messages of values. The port has `port` places, and at most
+    /// `backlog` messages are held for it. With `moved`, one message reports an entry that matches
+    /// before and after a move.
     Open {
         predicate: Predicate,
         port: u64,
         backlog: u64,
         moved: bool,
+    },
+    /// Opens a live query with these options: its port, its backlog and its flags.
+    OpenBy {
+        predicate: Predicate,
+        options: OpenOptions,
     },
     /// Moves the next parcel of this slot's subscription into its port.
     Put(u64),

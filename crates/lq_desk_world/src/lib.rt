@@ -15,3 +15,4 @@ pub use laws::{
     first_worlds_are_fair, lists_are_passed_on, readers_are_told, reads_are_passed_on,
     refusals_leave_worlds, runs_keep_worlds_fair, turns_fill_ports, turns_put_until_still,
 };
+pub use lq_update::{Flags, OpenOptions};

@@ -1,13 +1,14 @@
 -- A query of the predicate that is a stack's only item, or of none.
 use Rattle.std.proofs.Common.{◌≡◌, ◌∙◌, ℕ, refl, sym, ap, subst, None, Some, inl, inr}
-use Rattle.std.specs.Prelude.{Bool, ◌==◌, false, Option, Ok}
+use Rattle.std.specs.Prelude.{◌==◌, false, Option, Ok}
 use Rattle.lq_value.specs.declared.refusal.Refusal.{Refusal}
 use Rattle.lq_value.specs.declared.refusal.Refusal.TheVariants.{BadQuery}
 use Rattle.lq_value.specs.Refusal.{code_of}
 use Rattle.lq_predicate.specs.Query.{Query}
 use Rattle.lq_predicate.specs.Stack.{refusal_at}
 use Rattle.lq_predicate.specs.Stacked.{new_stack}
-use Rattle.lq_desk_world.specs.declared.event.Event.TheVariants.{Open}
+use Rattle.lq_update.specs.declared.open_options.OpenOptions.{OpenOptions as QueryOptions}
+use Rattle.lq_desk_world.specs.declared.event.Event.TheVariants.{OpenBy}
 use Rattle.lq_desk_world.specs.Events.{Refused}
 use Rattle.lq_script_request.specs.declared.request.Request.TheVariants.{Event, Look}
 use Rattle.lq_script_request.specs.declared.request.Look.TheVariants.{Fetch}
@@ -34,12 +35,12 @@ none-code pushes (Some q) e is code = absurd (let no : ⊥ = cc in no)
 
 -- an opening of none
 pub opens-none : {old mid new : SessionState} {status : ℕ} {before : OpeningOut}
-    (port backlog : ℕ) (moved : Bool) (o : Option Query) (e : Refusal)
+    (options : QueryOptions) (o : Option Query) (e : Refusal)
     → refusal_at old.pushed.pushes o ≡ Some e → mid ≡ old → status ≡ code_of e
     → new ≡ state_after_refusal e mid
-    → Opens old new (left_by old.pushed o) (open_pushed old.pushed.pushes port backlog moved o)
+    → Opens old new (left_by old.pushed o) (open_pushed old.pushed.pushes options o)
     status before before
-opens-none {old = old} {new = new} port backlog moved None e is stays code kept =
+opens-none {old = old} {new = new} options None e is stays code kept =
     let same : e ≡ BadQuery old.pushed.pushes = cc in
     let after : new ≡ with_fault old old.pushed.pushes = none-after e same stays kept in
     let session : new.session ≡ old.session = ap (λ (s : SessionState). s.session) after in record {
@@ -50,7 +51,7 @@ opens-none {old = old} {new = new} port backlog moved None e is stays code kept 
       kept = after ∙ ap (λ (s : Session). with_fault (with_session old s) old.pushed.pushes)
           (sym session);
     }
-opens-none port backlog moved (Some q) e is stays code kept = absurd (let no : ⊥ = cc in no)
+opens-none options (Some q) e is stays code kept = absurd (let no : ⊥ = cc in no)
 
 -- a fetch of none
 pub fetches-none : {old mid new : SessionState} {status : ℕ} {before : FetchedOut}
@@ -70,18 +71,18 @@ fetches-none (Some q) e is stays code kept = absurd (let no : ⊥ = cc in no)
 
 -- an opening of the only item, after it was taken off
 pub opens-alone : {old mid new : SessionState} {status : ℕ} {before after : OpeningOut}
-    (port backlog : ℕ) (moved : Bool) (o : Option Query) (q : Query) → o ≡ Some q
+    (options : QueryOptions) (o : Option Query) (q : Query) → o ≡ Some q
     → mid ≡ with_pushed old new_stack
-    → Opens mid new mid.pushed (Ok (Event (Open q port backlog moved))) status before after
-    → Opens old new (left_by old.pushed o) (open_pushed old.pushed.pushes port backlog moved o)
+    → Opens mid new mid.pushed (Ok (Event (OpenBy q options))) status before after
+    → Opens old new (left_by old.pushed o) (open_pushed old.pushed.pushes options o)
     status before after
-opens-alone {old = old} {new = new} {status = status} {before = before} {after = after} port backlog
-    moved o q is off known =
+opens-alone {old = old} {new = new} {status = status} {before = before} {after = after} options
+    o q is off known =
     let there = subst (λ (m : SessionState). Opens m new m.pushed
-    (Ok (Event (Open q port backlog moved)))
+    (Ok (Event (OpenBy q options)))
     status before after) off known in
     subst (λ (p : Option Query). Opens old new (left_by old.pushed p)
-    (open_pushed old.pushed.pushes port backlog moved p) status before after) (sym is) (record {
+    (open_pushed old.pushed.pushes options p) status before after) (sym is) (record {
       answer = there.answer;
       asks = there.asks;
       code = there.code;

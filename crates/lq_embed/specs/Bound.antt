@@ -12,7 +12,7 @@ use Rattle.lq_embed.specs.declared.out_structs.OpenOptions.{OpenOptions}
 use Rattle.lq_embed.specs.declared.out_structs.OpeningOut.{OpeningOut}
 use Rattle.lq_embed.specs.BoundFormula.{Binds}
 use Rattle.lq_embed.specs.Calls.{Fetches, state_after_refusal}
-use Rattle.lq_embed.specs.Opening.{OpensBy, backlog_of}
+use Rattle.lq_embed.specs.Opening.{OpensBy, asked_options}
 use Rattle.lq_embed.specs.Requests.{fetch_request, in_utf8, open_request}
 use Rattle.lq_embed.specs.SessionState.{SessionState, with_bound, with_fault, with_text}
 
@@ -61,7 +61,7 @@ abbrev pub OpensText : SessionState → SessionState → OpenOptions → Result 
 OpensText old new options (Ok text) status before after =
     (opened : SessionState) × (new ≡ with_text opened text)
     × OpensBy (taken_off old) opened old.pushed options
-    (open_request text 1 (backlog_of options.backlog) options.moved) status before after
+    (open_request text (asked_options options)) status before after
 OpensText old new options (Err e) status before after = (status ≡ unbound_status e)
     × (after ≡ before) × (new ≡ state_after_unbound e (taken_off old))
 

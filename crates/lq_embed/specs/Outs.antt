@@ -1,5 +1,5 @@
 -- What a call writes for its caller, by the answer.
-use Rattle.std.specs.Prelude.{ℕ, ℤ, pos, List, [], ◌∷◌, ◌++◌, length, drop, false, nat_le, if◌then◌else◌}
+use Rattle.std.specs.Prelude.{ℕ, ℤ, pos, Some, None, List, [], ◌∷◌, ◌++◌, length, drop, false, nat_le, if◌then◌else◌}
 use Rattle.lq_value.specs.declared.entry.Entry.{Entry}
 use Rattle.lq_value.specs.declared.value.Value.{Value}
 use Rattle.lq_value.specs.declared.value.Value.TheVariants as value
@@ -61,6 +61,8 @@ abbrev pub number_of_op : Opcode → ℕ
 number_of_op op.Created = 1
 number_of_op op.Removed = 2
 number_of_op (op.Moved from_dir from_name) = 3
+number_of_op (op.ValueChanged None) = 4
+number_of_op (op.ValueChanged (Some attribute)) = 5
 
 abbrev pub from_dir_of : Opcode → ℕ
 from_dir_of (op.Moved from_dir from_name) = from_dir
@@ -69,6 +71,11 @@ from_dir_of other = 0
 abbrev pub from_name_of : Opcode → List ℕ
 from_name_of (op.Moved from_dir from_name) = from_name
 from_name_of other = []
+
+-- the attribute that a message tells of; none, an empty text
+abbrev pub attr_of_op : Opcode → List ℕ
+attr_of_op (op.ValueChanged (Some attribute)) = attribute
+attr_of_op other = []
 
 abbrev pub number_of_cause : Cause → ℕ
 number_of_cause cause.Closed = 1
@@ -88,8 +95,10 @@ message_after m out = record {
   last = m.last;
   name_size = length m.name;
   from_name_size = length (from_name_of m.op);
+  attr_size = length (attr_of_op m.op);
   name = text_put m.name out.name;
   from_name = text_put (from_name_of m.op) out.from_name;
+  attr = text_put (attr_of_op m.op) out.attr;
 }
 
 -- a mark has a `seq`, a change and a cause, and nothing else
@@ -106,8 +115,10 @@ mark_after mark out = record {
   last = false;
   name_size = 0;
   from_name_size = 0;
+  attr_size = 0;
   name = text_put [] out.name;
   from_name = text_put [] out.from_name;
+  attr = text_put [] out.attr;
 }
 
 -- only a message or the mark is written

@@ -6,7 +6,8 @@ use Rattle.lq_value.specs.declared.refusal.Refusal.TheVariants.{NotUtf8, BadLine
 use Rattle.lq_value.specs.declared.kind.Kind.{Kind}
 use Rattle.lq_predicate.specs.Query.{Query}
 use Rattle.lq_predicate.specs.Stacked.{Stacked, new_stack}
-use Rattle.lq_desk_world.specs.declared.event.Event.TheVariants.{Open}
+use Rattle.lq_update.specs.declared.open_options.OpenOptions.{OpenOptions as QueryOptions}
+use Rattle.lq_desk_world.specs.declared.event.Event.TheVariants.{OpenBy}
 use Rattle.lq_script_request.specs.declared.request.Request.{Request}
 use Rattle.lq_script_request.specs.declared.request.Request.TheVariants.{Event, Look}
 use Rattle.lq_script_request.specs.declared.request.Look.TheVariants.{Fetch}
@@ -39,9 +40,8 @@ set_request node attr value = in_utf8 attr (request_for (asks_set node attr valu
 abbrev pub unset_request : ℕ → List ℕ → Result Request Refusal
 unset_request node attr = in_utf8 attr (request_for (asks_unset node attr))
 
-abbrev pub open_request : List ℕ → ℕ → ℕ → Bool → Result Request Refusal
-open_request formula port backlog moved =
-    in_utf8 formula (request_for (asks_open formula port backlog moved))
+abbrev pub open_request : List ℕ → QueryOptions → Result Request Refusal
+open_request formula options = in_utf8 formula (request_for (asks_open formula options))
 
 abbrev pub find_request : ℕ → List ℕ → Result Request Refusal
 find_request dir name = in_utf8 name (request_for (asks_find dir name))
@@ -53,9 +53,9 @@ fetch_request formula = in_utf8 formula (request_for (asks_fetch formula))
 
 -- the request of the predicate that is the stack's only item; else it is refused with the number
 -- of pushes
-abbrev pub open_pushed : ℕ → ℕ → ℕ → Bool → Option Query → Result Request Refusal
-open_pushed pushes port backlog moved None = Err (BadQuery pushes)
-open_pushed pushes port backlog moved (Some q) = Ok (Event (Open q port backlog moved))
+abbrev pub open_pushed : ℕ → QueryOptions → Option Query → Result Request Refusal
+open_pushed pushes options None = Err (BadQuery pushes)
+open_pushed pushes options (Some q) = Ok (Event (OpenBy q options))
 
 abbrev pub fetch_pushed : ℕ → Option Query → Result Request Refusal
 fetch_pushed pushes None = Err (BadQuery pushes)

@@ -4,7 +4,7 @@ ghost use Rattle.lq_value.specs.Refusal.{code_of};
 ghost use Rattle.lq_desk.specs.Reply.{answer_of};
 ghost use Rattle.lq_desk_world.specs.declared.event.Event.TheVariants.{Close, Finish, HangUp, Take};
 ghost use Rattle.lq_embed.specs.Calls.{Acts, Ends, GivesRow, ReadsSlot, TellsSlots, forgotten, state_after_opening, state_after_refusal};
-ghost use Rattle.lq_embed.specs.Outs.{change_after, from_dir_of, from_name_of, mark_after, message_after, number_of_op, opening_after, read_after, row_after, text_put};
+ghost use Rattle.lq_embed.specs.Outs.{attr_of_op, change_after, from_dir_of, from_name_of, mark_after, message_after, number_of_op, opening_after, read_after, row_after, text_put};
 ghost use Rattle.lq_embed.specs.SessionState.{holds};
 ghost use Rattle.lq_embed.specs.Status.{read_status, status_of};
 
@@ -183,6 +183,8 @@ fn put_opcode(op: &Opcode, out: &mut MessageOut)
       from_dir = from_dir_of op.now;
       from_name_size = length (from_name_of op.now);
       from_name = text_put (from_name_of op.now) out.old.from_name;
+      attr_size = length (attr_of_op op.now);
+      attr = text_put (attr_of_op op.now) out.old.attr;
     } }
 {
     match op {
@@ -192,26 +194,37 @@ fn put_opcode(op: &Opcode, out: &mut MessageOut)
             from_dir,
             from_name,
         } => {
-            out.op = 3;
+            put_no_place(3, out);
             out.from_dir = *from_dir;
             let name = from_name.as_str().as_bytes();
             out.from_name_size = put_text(&mut out.from_name, name);
         }
+        Opcode::ValueChanged { attribute: None } => put_no_place(4, out),
+        Opcode::ValueChanged {
+            attribute: Some(attribute),
+        } => {
+            put_no_place(5, out);
+            let name = attribute.as_str().as_bytes();
+            out.attr_size = put_text(&mut out.attr, name);
+        }
     }
 }
 
-// Writes that an entry has come from no place, or has gone.
+// Writes an opcode with no old place and no attribute.
 fn put_no_place(op: u32, out: &mut MessageOut)
     ensures { out.new ≡ record out.old {
       op = op;
       from_dir = 0;
       from_name_size = 0;
       from_name = text_put [] out.old.from_name;
+      attr_size = 0;
+      attr = text_put [] out.old.attr;
     } }
 {
     out.op = op;
     out.from_dir = 0;
     out.from_name_size = put_text(&mut out.from_name, b"");
+    out.attr_size = put_text(&mut out.attr, b"");
 }
 
 // Writes the mark of a subscription.
@@ -233,6 +246,7 @@ fn put_mark(mark: &Mark, out: &mut MessageOut)
     out.last = false;
     out.name_size = put_text(&mut out.name, b"");
     out.from_name_size = put_text(&mut out.from_name, b"");
+    out.attr_size = put_text(&mut out.attr, b"");
 }
 
 // Writes the last change of a subscription that was ended, and answers the status.

@@ -1,7 +1,7 @@
 //! Opens a live query with options; a backlog of 0 means the default.
 ghost use Rattle.std.specs.Prelude.{◌≡◌};
 ghost use Rattle.lq_predicate.specs.Stack.{only_part};
-ghost use Rattle.lq_embed.specs.Opening.{OpensBy, backlog_of, kept_by};
+ghost use Rattle.lq_embed.specs.Opening.{OpensBy, asked_options, backlog_of, kept_by};
 ghost use Rattle.lq_embed.specs.Requests.{left_by, open_pushed, open_request};
 ghost use Rattle.lq_embed.specs.SessionState.{holds};
 
@@ -10,6 +10,7 @@ use crate::out_structs::{OpenOptions, OpeningOut};
 use crate::statuses::status;
 use lq_desk::Event;
 use lq_script_request::RawRequest;
+use lq_update::{Flags, OpenOptions as QueryOptions};
 use lq_value::Refusal;
 
 /// The places of each port: a caller without threads can't tell them from the backlog.
@@ -25,17 +26,15 @@ impl Embedded {
     /// Refused, the first that fits: `NotUtf8`, `BadQuery`, then as by `Desk::event`; `NoMemory`.
     pub fn open_by(&mut self, formula: &[u8], options: &OpenOptions, out: &mut OpeningOut) -> u32
         ensures { OpensBy (holds self.old) (holds self.new) (holds self.old).pushed options.now
-            (open_request formula.now 1 (backlog_of options.now.backlog) options.now.moved)
-            result out.old out.new }
+            (open_request formula.now (asked_options options.now)) result out.old out.new }
     {
         let Ok(query) = str::from_utf8(formula) else {
             return status(Refusal::NotUtf8);
         };
+        let asked = asked_options(options);
         let reply = self.answer_request(&RawRequest::Open {
             query,
-            port: DEFAULT_PORT,
-            backlog: backlog_of(options.backlog),
-            moved: options.moved,
+            options: asked,
         });
         let status = self.opened(reply, out);
         self.keep_by(options.no_result, status, out.slot);
@@ -51,18 +50,17 @@ impl Embedded {
         ensures { OpensBy (holds self.old) (holds self.new)
             (left_by (holds self.old).pushed (only_part (holds self.old).pushed.items))
             options.now
-            (open_pushed (holds self.old).pushed.pushes 1 (backlog_of options.now.backlog)
-            options.now.moved (only_part (holds self.old).pushed.items)) result out.old out.new }
+            (open_pushed (holds self.old).pushed.pushes (asked_options options.now)
+            (only_part (holds self.old).pushed.items)) result out.old out.new }
     {
         let predicate = match self.stack.finish() {
             Ok(predicate) => predicate,
             Err(refusal) => return self.refused(refusal),
         };
-        let reply = self.session.turn(&Event::Open {
+        let asked = asked_options(options);
+        let reply = self.session.turn(&Event::OpenBy {
             predicate,
-            port: DEFAULT_PORT,
-            backlog: backlog_of(options.backlog),
-            moved: options.moved,
+            options: asked,
         });
         let status = self.opened(reply, out);
         self.keep_by(options.no_result, status, out.slot);
@@ -76,6 +74,20 @@ impl Embedded {
         if no_result && status == 0 {
             self.forget(slot);
         }
+    }
+}
+
+// What the caller's options ask of the core.
+fn asked_options(options: &OpenOptions) -> QueryOptions
+    ensures { result ≡ asked_options options.now }
+{
+    QueryOptions {
+        port: DEFAULT_PORT,
+        backlog: backlog_of(options.backlog),
+        flags: Flags {
+            moved: options.moved,
+            values: options.values,
+        },
     }
 }
 

@@ -9,13 +9,15 @@ pub struct AppliedOut {
 }
 
 /// How a query is opened: its backlog, where 0 stands for the largest; whether one message says
-/// that an entry of the result moved; whether no rebuilt result is wanted.
+/// that an entry of the result moved; whether no rebuilt result is wanted; whether a change of a
+/// value within the result has a message.
 #[repr(C)]
 #[derive(Drop)]
 pub struct OpenOptions {
     pub backlog: u64,
     pub moved: bool,
     pub no_result: bool,
+    pub values: bool,
 }
 
 /// An opened subscription: its slot, the number of changes so far, and the size of the result.
@@ -59,8 +61,8 @@ pub struct RowOut {
     pub name: [u8; 256],
 }
 
-/// What a read gave. `what`: 1 a message, 2 the mark. `op`: 1 created, 2 removed, 3 moved. `cause`:
-/// 1 closed, 2 hung up, 3 overrun.
+/// What a read gave. `what`: 1 a message, 2 the mark. `op`: 1 created, 2 removed, 3 moved, 4 the
+/// size and time written, 5 an attribute set or removed. `cause`: 1 closed, 2 hung up, 3 overrun.
 #[repr(C)]
 #[derive(Drop)]
 pub struct MessageOut {
@@ -75,8 +77,10 @@ pub struct MessageOut {
     pub last: bool,
     pub name_size: usize,
     pub from_name_size: usize,
+    pub attr_size: usize,
     pub name: [u8; 256],
     pub from_name: [u8; 256],
+    pub attr: [u8; 256],
 }
 
 /// An entry: its place, its kind (0 a file, 1 a folder), its size and time, and how many attributes

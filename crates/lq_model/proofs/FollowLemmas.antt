@@ -8,6 +8,7 @@ use Rattle.lq_volume.specs.Book.{Book, Extends, state_at}
 use Rattle.lq_volume.specs.Result.{result_of}
 use Rattle.lq_board.specs.Roll.{without_number}
 use Rattle.lq_board.specs.Token.{BoardName, SeatToken}
+use Rattle.lq_update.specs.Options.{no_values}
 use Rattle.lq_update.specs.declared.mark.Mark.{Mark}
 use Rattle.lq_update.specs.Updates.{updates_of}
 use Rattle.lq_update.specs.Laws.{UpdatesStay}
@@ -52,7 +53,8 @@ pub followed : UpdatesStay → BooksExtendOn → StatesStay
     → (start : State) (q : Query) (board : BoardName) (begun : Book) (port backlog : ℕ)
     (first old new : ReaderHold) (x : Synced) (one : SeatToken Identity) (z : Retired)
     (changes : List Change)
-    → IsNewReader first board begun q false port backlog → HasHungUp first old → IsSynced old new x
+    → IsNewReader first board begun q (no_values false) port backlog → HasHungUp first old
+    → IsSynced old new x
     → ReaderIsTold new
     → Meets new.seat one → (by : IsRetired start one.book z.volume z.changes)
     → by.book.changes ≡ changes → length begun.changes ≡ 0
@@ -71,10 +73,10 @@ followed stay on states start q board begun port backlog first old new x one z c
     let f = new.reading.port.floor in
     let floor : f ≡ first.reading.port.floor = s.port.2 ∙ out.goes.floor in
     let first_floor : Opening = first.reading.port.floor in
-    let query : (query_of f ≡ query_of first_floor) × (f.moved ≡ first_floor.moved)
+    let query : (query_of f ≡ query_of first_floor) × (f.flags ≡ first_floor.flags)
     × (f.opened ≡ first_floor.opened) = (
       ap query_of floor,
-      ap (λ (g : Opening). g.moved) floor,
+      ap (λ (g : Opening). g.flags) floor,
       ap (λ (g : Opening). g.opened) floor,
     ) in
     let b : Book = known_book new.reading in
@@ -91,7 +93,7 @@ followed stay on states start q board begun port backlog first old new x one z c
     let here = whole.within in
     let after = whole.opened in
     let is : query_of f ≡ q = query.0 ∙ o.opened.query in
-    let moves : f.moved ≡ false = query.1 ∙ o.opened.moved in
+    let moves : f.flags ≡ no_values false = query.1 ∙ o.opened.flags_are in
     record {
       own = record {
         low = s.own.low;
@@ -104,7 +106,7 @@ followed stay on states start q board begun port backlog first old new x one z c
             (λ i. ((sym met.seat i).name, (sym met.seat i).asks)) s.own.name;
       };
       query = is;
-      moved = moves;
+      flags = moves;
       asked = s.hang_up_asked ∙ out.asked;
       book = book;
       lawful = s.lawful;
@@ -116,7 +118,7 @@ followed stay on states start q board begun port backlog first old new x one z c
       opened = whole.opened;
       within = omega arith;
       all = whole.all
-          ∙ sym (stay (query_of f) f.moved book b f.opened mark.change knows (omega arith)
+          ∙ sym (stay (query_of f) f.flags book b f.opened mark.change knows (omega arith)
           whole.opened (omega arith))
           ∙ (λ i. updates_of (is i) (moves i) book f.opened mark.change);
       seq = whole.seq;

@@ -11,6 +11,7 @@ use Rattle.lq_volume.specs.Result.{result_of}
 use Rattle.lq_board.specs.Book.{IsFullBook}
 use Rattle.lq_board.specs.Token.{SeatToken}
 use Rattle.lq_update.specs.declared.mark.Mark.{Mark}
+use Rattle.lq_update.specs.Options.{no_values}
 use Rattle.lq_update.specs.Updates.{updates_of}
 use Rattle.lq_server_slots.specs.declared.identity.Identity.{Identity}
 use Rattle.lq_server_slots.specs.Rule.{query_of}
@@ -51,7 +52,7 @@ pub record IsFollowed (start : State) (q : Query) (changes : List Change) (f : F
   -- its seat is its own, it reads this query, and it asked for its end
   pub own : IsOwn f.reader
   pub query : query_of f.reader.reading.port.floor ≡ q
-  pub moved : f.reader.reading.port.floor.moved ≡ false
+  pub flags : f.reader.reading.port.floor.flags ≡ no_values false
   pub asked : f.reader.hang_up_asked ≡ true
   -- there is one lawful book of changes, which extends the book that the reader knows
   pub book : Book
@@ -66,7 +67,7 @@ pub record IsFollowed (start : State) (q : Query) (changes : List Change) (f : F
   pub within : mark.change ≤ length book.changes
   -- it has received the query's whole update list over the book, up to that mark
   pub all : received f.reader.reading
-      ≡ updates_of q false book f.reader.reading.port.floor.opened mark.change
+      ≡ updates_of q (no_values false) book f.reader.reading.port.floor.opened mark.change
   pub seq : mark.seq ≡ length (received f.reader.reading) + 1
   -- its entries are the query's result after the mark's change
   pub entries : f.reader.reading.result.entries ≡ result_of q (state_at book mark.change)

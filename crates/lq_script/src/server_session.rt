@@ -11,7 +11,7 @@ use crate::readers::Readers;
 use crate::workers::Workers;
 use lq_script_desk::{Reply, Response};
 use lq_script_request::{Event, Look, Request};
-use lq_server::{Named, OwnSeat, Server};
+use lq_server::{Named, OpenOptions, OwnSeat, Server};
 use lq_value::Refusal;
 use lq_volume::Change;
 use std::alloc::Global;
@@ -154,7 +154,11 @@ impl<
                 port,
                 backlog,
                 moved,
-            } => self.open(predicate, *port, *backlog, *moved),
+            } => {
+                let options = OpenOptions::without_values(*port, *backlog, *moved);
+                self.open(predicate, &options)
+            }
+            Event::OpenBy { predicate, options } => self.open(predicate, options),
             Event::HangUp(slot) => self.hang_up(*slot),
             Event::Close(slot) => self.close(*slot),
             Event::Finish(slot) => self.finish(*slot),

@@ -9,7 +9,7 @@ use crate::readers::slot_of;
 use crate::server_session::ServerSession;
 use lq_predicate::Predicate;
 use lq_script_desk::{Reply, Response};
-use lq_server::{Named, OwnReader};
+use lq_server::{Named, OpenOptions, OwnReader};
 use lq_value::{Entry, Refusal};
 use std::alloc::Global;
 use std::sync::Wait;
@@ -25,16 +25,12 @@ impl<
     pub(crate) fn open(
         &mut self,
         predicate: &Predicate,
-        port: u64,
-        backlog: u64,
-        moved: bool,
+        options: &OpenOptions,
     ) -> Result<Response, Refusal>
         ensures made { MakesMore self.old.seat self.new.seat [] }
         ensures none { IfOk result (λ r. change_told (response_of r) ≡ []) }
     {
-        let reader = self
-            .seat
-            .open(self.rt, self.server, predicate, port, backlog, moved)?;
+        let reader = self.seat.open_by(self.rt, self.server, predicate, options)?;
         let opened = opened(self.alloc, &reader);
         self.readers.put(reader);
         opened

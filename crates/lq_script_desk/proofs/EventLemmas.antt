@@ -7,13 +7,15 @@ use Rattle.lq_value.specs.declared.refusal.Refusal.{Refusal}
 use Rattle.lq_predicate.specs.Query.{Query}
 use Rattle.lq_volume.specs.Book.{Book, state_of}
 use Rattle.lq_volume.specs.Change.{refused}
+use Rattle.lq_update.specs.declared.open_options.OpenOptions.{OpenOptions}
+use Rattle.lq_update.specs.Options.{options_of}
 use Rattle.lq_update.specs.declared.message.Message.{Message}
 use Rattle.lq_update.specs.declared.parcel.Parcel.{Parcel}
 use Rattle.lq_update.specs.declared.parcel.Parcel.TheVariants.{Update, Fin}
 use Rattle.lq_desk_world.specs.World.{World, Subscribed, after_change, first_in_port, is_over, subscribed_at, taken_before_free}
 use Rattle.lq_desk_world.specs.declared.event.Event.{Event}
-use Rattle.lq_desk_world.specs.declared.event.Event.TheVariants.{Change, Open, Put, Take, HangUp, Notice, Close, Finish}
-use Rattle.lq_desk_world.specs.Events.{Answer, Opened, Took, Finished, answer_to, at_slot, changing, closing, finishing, finishing_if, hanging_up, next, noticing, open_refusal, opened_now, opening, putting, read_outcome, reading_if}
+use Rattle.lq_desk_world.specs.declared.event.Event.TheVariants.{Change, Open, OpenBy, Put, Take, HangUp, Notice, Close, Finish}
+use Rattle.lq_desk_world.specs.Events.{Answer, Opened, Took, Finished, answer_to, asked_to_open, at_slot, changing, closing, finishing, finishing_if, hanging_up, next, noticing, open_refusal, opened_now, opening, putting, read_outcome, reading_if}
 use Rattle.lq_script_desk.specs.Folds.{Folds, folds_after}
 
 -- an answer that leaves the folds
@@ -33,9 +35,9 @@ quiet-folds slot a folds quiet = grind arith
 pub data Does (w : World) : Event → Answer → List (Option Subscribed) → Type 0 where
   leaves : {e : Event} {a : Answer} {slots : List (Option Subscribed)} → IsQuiet a
       → map is_some slots ≡ map is_some w.slots → Does w e a slots
-  opens : {q : Query} {port backlog : ℕ} {moved : Bool} {at : ℕ} {first : List Entry}
-      (s : Subscribed) → Does w (Open q port backlog moved)
-      (Opened (taken_before_free w.slots + 1) at first)
+  opens : {e : Event} {q : Query} {o : OpenOptions} {at : ℕ} {first : List Entry}
+      (s : Subscribed) → asked_to_open e ≡ Some (q, o)
+      → Does w e (Opened (taken_before_free w.slots + 1) at first)
       (slice_set w.slots (taken_before_free w.slots) (Some s))
   reads : {k : ℕ} {m : Message} {slots : List (Option Subscribed)}
       → map is_some slots ≡ map is_some w.slots → Does w (Take k) (Took (Update m)) slots
@@ -124,6 +126,13 @@ module _ (w : World) (k : ℕ) where
   finish-does s is true = finishes (slot-taken w k s is).0
   finish-does s is false = leaves tt (still s _ is refl)
 
+-- an opening
+opens-does : (w : World) (e : Event) (q : Query) (o : OpenOptions)
+    → asked_to_open e ≡ Some (q, o) → (r : Option Refusal)
+    → Does w e (opening w (opened_now w q o) r).0 (opening w (opened_now w q o) r).1.slots
+opens-does w e q o asks (Some r) = leaves tt refl
+opens-does w e q o asks None = opens (opened_now w q o) asks
+
 -- any event
 pub does : (w : World) (e : Event) → Does w e (answer_to w e) (next w e).slots
 does w (Change c) = by (refused (state_of w.book) c)
@@ -132,13 +141,10 @@ does w (Change c) = by (refused (state_of w.book) c)
         → Does w (Change c) (changing w c r).0 (changing w c r).1.slots
     by (Some e) = leaves tt refl
     by None = leaves tt (filled-map (after_change w.book c) w.slots)
-does w (Open q port backlog moved) = by (open_refusal w port backlog)
-  where
-    by : (r : Option Refusal) → Does w (Open q port backlog moved)
-        (opening w (opened_now w q port backlog moved) r).0
-        (opening w (opened_now w q port backlog moved) r).1.slots
-    by (Some e) = leaves tt refl
-    by None = opens (opened_now w q port backlog moved)
+does w (Open q port backlog moved) =
+    opens-does w (Open q port backlog moved) q (options_of port backlog moved) refl
+    (open_refusal w port backlog)
+does w (OpenBy q o) = opens-does w (OpenBy q o) q o refl (open_refusal w o.port o.backlog)
 does w (Put k) = quiet-does w k (Put k) (putting w.book) (put-leaves w.book)
 does w (HangUp k) = quiet-does w k (HangUp k) hanging_up (λ s. (tt, refl))
 does w (Notice k) = quiet-does w k (Notice k) (noticing w.book) (notice-leaves w.book)

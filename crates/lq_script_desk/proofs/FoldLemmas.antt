@@ -10,13 +10,13 @@ use Rattle.lq_predicate.specs.Query.{Query}
 use Rattle.lq_volume.specs.State.{State, IsVolume, empty_state}
 use Rattle.lq_volume.specs.Book.{number_of, state_at}
 use Rattle.lq_volume.specs.Result.{result_of}
+use Rattle.lq_update.specs.declared.open_options.OpenOptions.{OpenOptions}
 use Rattle.lq_update.specs.declared.message.Message.{Message}
 use Rattle.lq_update.specs.Fold.{Folding, fold_refusals, folding_after, folding_after_all, opened_at}
 use Rattle.lq_update.specs.Laws.{FoldingsFollow, RebuildsTakeAll}
-use Rattle.lq_desk_world.specs.World.{World, Subscribed}
+use Rattle.lq_desk_world.specs.World.{World, Subscribed, taken_before_free}
 use Rattle.lq_desk_world.specs.declared.event.Event.{Event}
-use Rattle.lq_desk_world.specs.declared.event.Event.TheVariants.{Open}
-use Rattle.lq_desk_world.specs.Events.{Answer, Opened, answer_to, next}
+use Rattle.lq_desk_world.specs.Events.{Answer, Opened, answer_to, asked_to_open, next}
 use Rattle.lq_desk_world.specs.Turns.{after_events}
 use Rattle.lq_desk_world.specs.Headline.{ReadersAreTold, OpeningsAreTold, accepted, run_book, frees, reads_of, updates_in}
 use Rattle.lq_desk_world.specs.Laws.{RunsTellReaders}
@@ -62,12 +62,10 @@ GoesOn slot folds events answers f = (old : Folding) × (fold_at folds slot ≡ 
 pub record Begins (slot : ℕ) (e : Event) (a : Answer) (events : List Event) (answers : List Answer)
     (f : Folding) : Type 0 where
   pub query : Query
-  pub port : ℕ
-  pub backlog : ℕ
-  pub moved : Bool
+  pub options : OpenOptions
   pub at : ℕ
   pub first : List Entry
-  pub event_is : e ≡ Open query port backlog moved
+  pub asks : asked_to_open e ≡ Some (query, options)
   pub answer_is : a ≡ Opened slot at first
   pub taken : StaysTaken slot events answers
   pub fold : f ≡ kept_after (opened_at at first) (updates_in (reads_of slot events answers))
@@ -79,6 +77,13 @@ quiet-reads : (slot : ℕ) (e : Event) (a : Answer) (events : List Event) (answe
     ≡ updates_in (reads_of slot events answers))
 quiet-reads slot e a events answers quiet = grind arith
 
+-- nor does an answer that a slot was opened
+pub opened-reads : (slot : ℕ) (e : Event) (k at : ℕ) (first : List Entry) (events : List Event)
+    (answers : List Answer) → (frees slot e (Opened k at first) ≡ false)
+    × (updates_in (reads_of slot (e ∷ events) (Opened k at first ∷ answers))
+    ≡ updates_in (reads_of slot events answers))
+opened-reads slot e k at first events answers = grind arith
+
 -- a fold after an event was there before it, or the event opened the slot
 pub one-more : {w : World} {e : Event} {a : Answer} {slots : List (Option Subscribed)}
     → Does w e a slots → (slot : ℕ) (folds : Folds) (events : List Event) (answers : List Answer)
@@ -88,21 +93,20 @@ one-more (leaves {e} {a} quiet same) slot folds events answers f g =
     let no = quiet-reads slot e a events answers quiet in
     let stays = quiet-folds (slot_named e) a folds quiet in
     inl (g.0, rw stays at g.1, (no.0, g.2), rw no.1 g.3)
-one-more (opens {q} {port} {backlog} {moved} {at} {first} s) slot folds events answers f g =
+one-more {w} (opens {e} {q} {o} {at} {first} s asks) slot folds events answers f g =
+    let none = opened-reads slot e (taken_before_free w.slots + 1) at first events answers in
     elim (fold-set folds _ slot _ g.0 g.1) [
       | inl own ↦ let same : opened_at at first ≡ g.0 = cc in inr (record {
         query = q;
-        port = port;
-        backlog = backlog;
-        moved = moved;
+        options = o;
         at = at;
         first = first;
-        event_is = refl;
+        asks = asks;
         answer_is = ap (λ k. Opened k at first) own.1;
         taken = g.2;
         fold = rw same g.3;
       })
-      | inr other ↦ inl (g.0, other.1, (refl, g.2), g.3)
+      | inr other ↦ inl (g.0, other.1, (none.0, g.2), rw none.1 g.3)
     ]
 one-more (reads {k} {m} same) slot folds events answers f g =
     elim (fold-set folds k slot _ g.0 g.1) [
@@ -125,9 +129,9 @@ one-more (finishes {k} some) slot folds events answers f g =
 -- no message is refused that is read after an opening of the slot
 abbrev pub NoneRefused : ℕ → List Event → List Answer → Type 0
 NoneRefused slot events answers =
-    (before after : List Event) (befores afters : List Answer) (q : Query) (port backlog : ℕ)
-    (moved : Bool) (at : ℕ) (first : List Entry)
-    → events ≡ before ++ Open q port backlog moved ∷ after
+    (before after : List Event) (befores afters : List Answer) (opener : Event) (q : Query)
+    (options : OpenOptions) (at : ℕ) (first : List Entry)
+    → asked_to_open opener ≡ Some (q, options) → events ≡ before ++ opener ∷ after
     → answers ≡ befores ++ Opened slot at first ∷ afters → length before ≡ length befores
     → (kept_after (opened_at at first) (updates_in (reads_of slot after afters))
     ≡ folding_after_all (opened_at at first) (updates_in (reads_of slot after afters)))
@@ -142,10 +146,9 @@ module _ (follow : FoldingsFollow) (slot : ℕ) (all : List Event) (alls : List 
       → alls ≡ befores ++ a ∷ answers → Begins slot e a events answers f
       → IsFoldOf slot all alls f
   begun before events befores answers e a f place is are b =
-      let opening = is ∙ ap (λ x. before ++ x ∷ events) b.event_is in
       let opened = are ∙ ap (λ x. befores ++ x ∷ answers) b.answer_is in
-      let all = none before events befores answers b.query b.port b.backlog b.moved b.at b.first
-      opening opened place in
+      let all = none before events befores answers e b.query b.options b.at b.first b.asks is
+      opened place in
       let fold = b.fold ∙ all.0 in
       let says = follow (opened_at b.at b.first) (updates_in (reads_of slot events answers)) in
       record {
@@ -153,13 +156,13 @@ module _ (follow : FoldingsFollow) (slot : ℕ) (all : List Event) (alls : List 
         after = events;
         befores = befores;
         afters = answers;
+        opener = e;
         query = b.query;
-        port = b.port;
-        backlog = b.backlog;
-        moved = b.moved;
+        options = b.options;
         at = b.at;
         first = b.first;
-        opening = opening;
+        asks = b.asks;
+        opening = is;
         opened = opened;
         place = place;
         taken = b.taken;
@@ -243,17 +246,17 @@ told-all s events answers told =
 -- what is read after an opening is the beginning of its updates, of which none is refused
 pub none-refused : RebuildsTakeAll → (s : State) → IsVolume s → (slot : ℕ) (events : List Event)
     (answers : List Answer) → ReadersAreTold s events answers → NoneRefused slot events answers
-none-refused rebuilds s volume slot events answers told before after befores afters q port backlog
-    moved at first opening opened place =
+none-refused rebuilds s volume slot events answers told before after befores afters opener q options
+    at first asks opening opened place =
     let b = run_book s events answers in
     let reads = reads_of slot after afters in
-    let says = told-all s events answers told before after befores afters q port backlog moved
-    slot at first opening opened place in
+    let says = told-all s events answers told before after befores afters opener q options slot at
+    first asks opening opened place in
     let start : first ≡ result_of q (state_at b at) = says.1.folding volume [] reads refl tt in
     let fewer : length (accepted before befores) ≤ length (accepted events answers) =
     rw (opening, opened) (accepted-front before _ befores _ place) in
     let takes : TakesAll (opened_at at first) (updates_in reads) = λ front rest m is.
-    rw start (rebuilds q moved b at (number_of b) front (rest ++ says.1.prefix.0) m volume
+    rw start (rebuilds q options.flags b at (number_of b) front (rest ++ says.1.prefix.0) m volume
     told.book (omega (arith, says.0.number)) (omega (arith, says.0.number, fewer))
     (sym (append_assoc front (m ∷ rest) says.1.prefix.0)
     ∙ (ap (λ ms. ms ++ says.1.prefix.0) is ∙ says.1.prefix.1))) in (

@@ -7,7 +7,6 @@ use Rattle.lq_update.specs.declared.parcel.Parcel.TheVariants.{Update, Fin}
 use Rattle.lq_update.specs.Fold.{Folding, folding_after_all, opened_at}
 use Rattle.lq_update.specs.Laws.{FoldingsFollow}
 use Rattle.lq_desk_world.specs.declared.event.Event.{Event}
-use Rattle.lq_desk_world.specs.declared.event.Event.TheVariants.{Open}
 use Rattle.lq_desk_world.specs.Events.{Answer, Opened}
 use Rattle.lq_desk_world.specs.Headline.{parcels_in, reads_of, updates_among, updates_in}
 use Rattle.lq_script_desk.specs.Folds.{after_message}
@@ -79,8 +78,8 @@ fold-kept : FoldingsFollow → (slot : ℕ) (events : List Event) (answers : Lis
     → f ≡ kept_after (opened_at i.at i.first) (updates_in (reads_of slot i.after i.afters))
 fold-kept follow slot events answers none f i =
     let ms = updates_in (reads_of slot i.after i.afters) in
-    let all = none i.before i.after i.befores i.afters i.query i.port i.backlog i.moved i.at i.first
-    i.opening i.opened i.place in
+    let all = none i.before i.after i.befores i.afters i.opener i.query i.options i.at i.first
+    i.asks i.opening i.opened i.place in
     let says = follow (opened_at i.at i.first) ms in
     same-fold f (folding_after_all (opened_at i.at i.first) ms) (i.seq ∙ sym all.1)
     (i.change ∙ sym says.1) (i.settled ∙ sym says.2) (i.entries ∙ sym says.0)
@@ -101,23 +100,21 @@ goes-on follow slot events more answers mores count none nones old f i taken is 
       i.place,
       ap length i.opening,
       ap length i.opened,
-      length-append i.before (Open i.query i.port i.backlog i.moved ∷ i.after),
+      length-append i.before (i.opener ∷ i.after),
       length-append i.befores (Opened slot i.at i.first ∷ i.afters),
     ) in
     let updates = ap updates_in (reads-append slot i.after more i.afters mores same i.taken)
     ∙ updates-append (reads_of slot i.after i.afters) (reads_of slot more mores) in
     begun follow slot (events ++ more) (answers ++ mores) nones i.before (i.after ++ more) i.befores
-    (i.afters ++ mores) (Open i.query i.port i.backlog i.moved) (Opened slot i.at i.first) f i.place
+    (i.afters ++ mores) i.opener (Opened slot i.at i.first) f i.place
     (ap (λ l. l ++ more) i.opening ∙ append_assoc i.before _ more)
     (ap (λ l. l ++ mores) i.opened ∙ append_assoc i.befores _ mores)
     (record {
       query = i.query;
-      port = i.port;
-      backlog = i.backlog;
-      moved = i.moved;
+      options = i.options;
       at = i.at;
       first = i.first;
-      event_is = refl;
+      asks = i.asks;
       answer_is = refl;
       taken = taken-append slot i.after more i.afters mores same i.taken taken;
       fold = is

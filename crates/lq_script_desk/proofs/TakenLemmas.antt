@@ -56,7 +56,7 @@ module _ (keep : ReadsKeepFolds) where
       → map is_some slots ≡ map is_some (folds_after (slot_named e) a folds)
   event-keeps (leaves {e} {a} quiet same) folds kept =
       same ∙ (kept ∙ sym (ap (map is_some) (quiet-folds (slot_named e) a folds quiet)))
-  event-keeps {w} (opens {at = at} {first = first} s) folds kept =
+  event-keeps {w} (opens {at = at} {first = first} s asks) folds kept =
       let i = taken_before_free w.slots in
       let back : (i + 1) - 1 ≡ i = omega arith in
       map-set is_some w.slots i (Some s)

@@ -1,7 +1,7 @@
 -- What a turn does to a slot's fold: its own event, and the notices and puts around it.
 use Rattle.std.proofs.Common.{◌≡◌, ◌⊎◌, ℕ, zero, suc, ◌+◌, List, [], ◌∷◌, ◌++◌, length, refl, arith, inl, inr, true, Option, Some, None}
 use Rattle.lq_update.specs.Fold.{Folding}
-use Rattle.lq_desk_world.specs.World.{World, Subscribed}
+use Rattle.lq_desk_world.specs.World.{World, Subscribed, taken_before_free}
 use Rattle.lq_desk_world.specs.declared.event.Event.{Event}
 use Rattle.lq_desk_world.specs.declared.event.Event.TheVariants.{Change, Put, Take, Notice, Close}
 use Rattle.lq_desk_world.specs.Events.{Answer}
@@ -12,7 +12,7 @@ use Rattle.lq_script_desk.specs.Folds.{Folds, fold_at, is_folded, with_fold}
 use Rattle.lq_script_desk.specs.History.{StaysTaken}
 use Rattle.lq_script_desk.specs.Turned.{Follow, folded_slot}
 use Rattle.lq_script_desk.proofs.EventLemmas.{Does, IsQuiet, finishes, leaves, opens, reads}
-use Rattle.lq_script_desk.proofs.FoldLemmas.{Begins, GoesOn, fold-set, one-more}
+use Rattle.lq_script_desk.proofs.FoldLemmas.{Begins, GoesOn, fold-set, one-more, opened-reads}
 
 -- ---- what a turn adds to its event
 
@@ -95,10 +95,11 @@ module _ (slot : ℕ) (folds : Folds) (events : List Event) (answers : List Answ
       → fold_at (with_fold folds (folded_slot (slot_named e) a) None) slot ≡ Some f
       → GoesOn slot folds (e ∷ events) (a ∷ answers) f
   went (leaves {e} {a} quiet same) folded had = absurd (quiet-unfolded a quiet folded)
-  went (opens {q} {port} {backlog} {moved} {at} {first} s) folded had =
+  went {w} (opens {e} {q} {o} {at} {first} s asks) folded had =
+      let none = opened-reads slot e (taken_before_free w.slots + 1) at first events answers in
       elim (fold-set folds _ slot None f had) [
         | inl own ↦ absurd (let no : ⊥ = cc in no)
-        | inr other ↦ (f, other.1, (refl, taken), rw unread refl)
+        | inr other ↦ (f, other.1, (none.0, taken), rw (none.1, unread) refl)
       ]
   went (reads {k} {m} same) folded had =
       elim (fold-set folds k slot None f had) [

@@ -7,7 +7,7 @@ use Rattle.lq_volume.specs.State.{State, node_in, record_at}
 use Rattle.lq_volume.specs.Lookup.{find_refusals, entry_refusals}
 use Rattle.lq_volume.specs.Result.{result_of}
 use Rattle.lq_desk_world.specs.declared.event.Event.{Event}
-use Rattle.lq_desk_world.specs.declared.event.Event.TheVariants.{Change, Open, Put, Take, HangUp, Notice, Close, Finish}
+use Rattle.lq_desk_world.specs.declared.event.Event.TheVariants.{Change, Open, OpenBy, Put, Take, HangUp, Notice, Close, Finish}
 use Rattle.lq_desk_world.specs.Events.{Answer}
 use Rattle.lq_desk_world.specs.Turns.{turn_outcome}
 use Rattle.lq_desk_world.specs.World.{World}
@@ -41,6 +41,7 @@ entry_answer s node = found_answer (first_refusal (entry_refusals s node)) NoNod
 abbrev pub slot_named : Event → ℕ
 slot_named (Change c) = 0
 slot_named (Open q port backlog moved) = 0
+slot_named (OpenBy q options) = 0
 slot_named (Put slot) = slot
 slot_named (Take slot) = slot
 slot_named (HangUp slot) = slot

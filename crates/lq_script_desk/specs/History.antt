@@ -1,15 +1,15 @@
 -- The events of a script and the answers to them: those of the turns of its lines, joined.
-use Rattle.std.specs.Prelude.{◌≡◌, ℕ, List, [], ◌∷◌, ◌++◌, length, Bool, false, Option, Some, None, is_some, Result, OnOk, OnErr}
+use Rattle.std.specs.Prelude.{◌≡◌, ℕ, List, [], ◌∷◌, ◌++◌, length, false, Option, Some, None, is_some, Result, OnOk, OnErr}
 use Rattle.std.specs.Result.{result_ok}
 use Rattle.std.specs.Io.KnownBytes.{Appends, Consumes}
 use Rattle.lq_value.specs.declared.entry.Entry.{Entry}
 use Rattle.lq_predicate.specs.Query.{Query}
 use Rattle.lq_volume.specs.State.{empty_state}
 use Rattle.lq_update.specs.Fold.{Folding, folded, ends_settled, last_change}
+use Rattle.lq_update.specs.declared.open_options.OpenOptions.{OpenOptions}
 use Rattle.lq_desk_world.specs.World.{World, subscribed_at}
 use Rattle.lq_desk_world.specs.declared.event.Event.{Event}
-use Rattle.lq_desk_world.specs.declared.event.Event.TheVariants.{Open}
-use Rattle.lq_desk_world.specs.Events.{Answer, Opened, answer_to, next, outcome}
+use Rattle.lq_desk_world.specs.Events.{Answer, Opened, answer_to, asked_to_open, next, outcome}
 use Rattle.lq_desk_world.specs.Runs.{Run}
 use Rattle.lq_desk_world.specs.Turns.{after_events, events_in, ports_of, turn_of, turn_outcome}
 use Rattle.lq_desk_world.specs.Headline.{ReadersAreTold, frees, reads_of, updates_in}
@@ -119,13 +119,13 @@ pub record IsFoldOf (slot : ℕ) (events : List Event) (answers : List Answer) (
   pub after : List Event
   pub befores : List Answer
   pub afters : List Answer
+  pub opener : Event
   pub query : Query
-  pub port : ℕ
-  pub backlog : ℕ
-  pub moved : Bool
+  pub options : OpenOptions
   pub at : ℕ
   pub first : List Entry
-  pub opening : events ≡ before ++ Open query port backlog moved ∷ after
+  pub asks : asked_to_open opener ≡ Some (query, options)
+  pub opening : events ≡ before ++ opener ∷ after
   pub opened : answers ≡ befores ++ Opened slot at first ∷ afters
   pub place : length before ≡ length befores
   pub taken : StaysTaken slot after afters

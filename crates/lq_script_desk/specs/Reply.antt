@@ -16,7 +16,7 @@ use Rattle.lq_volume.specs.declared.change.Applied.{Applied}
 use Rattle.lq_volume.specs.State.{Record}
 use Rattle.lq_update.specs.declared.message.Message.{Message}
 use Rattle.lq_update.specs.declared.message.Opcode.{Opcode}
-use Rattle.lq_update.specs.declared.message.Opcode.TheVariants.{Created, Removed, Moved}
+use Rattle.lq_update.specs.declared.message.Opcode.TheVariants.{Created, Removed, Moved, ValueChanged}
 use Rattle.lq_update.specs.declared.mark.Mark.{Mark}
 use Rattle.lq_update.specs.declared.mark.Cause.{Cause}
 use Rattle.lq_update.specs.declared.mark.Cause.TheVariants.{Closed, HungUp, Overrun}
@@ -54,6 +54,8 @@ abbrev pub opcode_name : Opcode → List ℕ
 opcode_name Created = codes "B_ENTRY_CREATED"
 opcode_name Removed = codes "B_ENTRY_REMOVED"
 opcode_name (Moved dir name) = codes "B_ENTRY_MOVED"
+opcode_name (ValueChanged None) = codes "B_STAT_CHANGED"
+opcode_name (ValueChanged (Some attribute)) = codes "B_ATTR_CHANGED"
 
 -- the members of a message from its opcode on
 abbrev pub numbered_members : Opcode → ℕ → Members
@@ -82,10 +84,19 @@ moved_data m dir name =
     (member (codes "from_dir") (count dir)
     (member (codes "from_name") (word name) (told_members m)))))
 
+-- a message of an attribute
+abbrev pub attr_changed_data : Message → List ℕ → Data
+attr_changed_data m attribute =
+    object (member (codes "attr") (word attribute)
+    (member (codes "change") (count m.change)
+    (member (codes "dir") (count m.dir) (told_members m))))
+
 abbrev pub data_by : Opcode → Message → Data
 data_by Created m = placed_data m
 data_by Removed m = placed_data m
 data_by (Moved dir name) m = moved_data m dir name
+data_by (ValueChanged None) m = placed_data m
+data_by (ValueChanged (Some attribute)) m = attr_changed_data m attribute
 
 abbrev pub message_data : Message → Data
 message_data m = data_by m.op m

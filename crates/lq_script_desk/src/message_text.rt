@@ -6,13 +6,13 @@ ghost use Rattle.serde_json.specs.Data.{boolean};
 ghost use Rattle.serde_json.specs.Written.{compact_text, members_text};
 ghost use Rattle.lq_script_desk.specs.Front.{AppendsTo};
 ghost use Rattle.lq_desk.specs.Reply.{answer_of_read};
-ghost use Rattle.lq_script_desk.specs.Reply.{answer_data, cause_name, mark_data, message_data, moved_data, numbered_members, opcode_name, placed_data, told_members, word};
+ghost use Rattle.lq_script_desk.specs.Reply.{answer_data, attr_changed_data, cause_name, mark_data, message_data, moved_data, numbered_members, opcode_name, placed_data, told_members, word};
 
 use crate::pieces::{put_bytes, put_unsigned};
 use crate::quoted_text::put_text;
 use lq_desk::Read;
 use lq_update::{Cause, Mark, Message, Opcode};
-use lq_value::Name;
+use lq_value::{AttrName, Name};
 use std::alloc::AllocError;
 
 /// Appends the result of a take from a slot to `out`; the text doesn't depend on the slot.
@@ -62,7 +62,12 @@ fn put_message(out: &mut Vec<u8>, message: &Message) -> Result<(), AllocError>
             from_dir,
             from_name,
         } => put_moved(out, message, *from_dir, from_name),
-        Opcode::Created | Opcode::Removed => put_placed(out, message),
+        Opcode::ValueChanged {
+            attribute: Some(attribute),
+        } => put_attr_changed(out, message, attribute),
+        Opcode::Created | Opcode::Removed | Opcode::ValueChanged { attribute: None } => {
+            put_placed(out, message)
+        }
     }
 }
 
@@ -92,6 +97,22 @@ fn put_moved(
     put_unsigned(out, b",\"dir\":", message.dir)?;
     put_unsigned(out, b",\"from_dir\":", from_dir)?;
     put_text(out, b",\"from_name\":", from_name.as_str())?;
+    put_told(out, message)
+}
+
+// Appends a message of an attribute.
+fn put_attr_changed(
+    out: &mut Vec<u8>,
+    message: &Message,
+    attribute: &AttrName,
+) -> Result<(), AllocError>
+    ensures ok { OnOk result (out.new.items
+        ≡ out.old.items ++ compact_text (attr_changed_data message.now attribute.now)) }
+    ensures front { AppendsTo out.new.items out.old.items }
+{
+    put_text(out, b"{\"attr\":", attribute.as_str())?;
+    put_unsigned(out, b",\"change\":", message.change)?;
+    put_unsigned(out, b",\"dir\":", message.dir)?;
     put_told(out, message)
 }
 
@@ -136,5 +157,7 @@ fn before_seq(op: &Opcode) -> &'static [u8]
         Opcode::Created => b",\"op\":\"B_ENTRY_CREATED\",\"seq\":",
         Opcode::Removed => b",\"op\":\"B_ENTRY_REMOVED\",\"seq\":",
         Opcode::Moved { .. } => b",\"op\":\"B_ENTRY_MOVED\",\"seq\":",
+        Opcode::ValueChanged { attribute: None } => b",\"op\":\"B_STAT_CHANGED\",\"seq\":",
+        Opcode::ValueChanged { attribute: Some(_) } => b",\"op\":\"B_ATTR_CHANGED\",\"seq\":",
     }
 }

@@ -109,7 +109,7 @@ fn slot_of(event: &Event) -> u64
     ensures { result ≡ slot_named event.now }
 {
     match event {
-        Event::Change(_) | Event::Open { .. } => 0,
+        Event::Change(_) | Event::Open { .. } | Event::OpenBy { .. } => 0,
         Event::Put(slot)
         | Event::Take(slot)
         | Event::HangUp(slot)

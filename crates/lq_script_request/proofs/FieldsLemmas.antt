@@ -29,6 +29,7 @@ placed k f fs key.Query = refl
 placed k f fs key.Port = refl
 placed k f fs key.Backlog = refl
 placed k f fs key.Moved = refl
+placed k f fs key.Values = refl
 placed k f fs key.Slot = refl
 placed k f fs key.Clobber = refl
 

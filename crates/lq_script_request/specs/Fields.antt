@@ -27,6 +27,7 @@ key_text key.Query = codes "query"
 key_text key.Port = codes "port"
 key_text key.Backlog = codes "backlog"
 key_text key.Moved = codes "moved"
+key_text key.Values = codes "values"
 key_text key.Slot = codes "slot"
 key_text key.Clobber = codes "clobber"
 
@@ -46,6 +47,7 @@ field_at fields key.Query = fields.query
 field_at fields key.Port = fields.port
 field_at fields key.Backlog = fields.backlog
 field_at fields key.Moved = fields.moved
+field_at fields key.Values = fields.values
 field_at fields key.Slot = fields.slot
 field_at fields key.Clobber = fields.clobber
 
@@ -83,6 +85,7 @@ updated key found fields = record fields {
   port = if bytes_eq key (codes "port") then found else fields.port;
   backlog = if bytes_eq key (codes "backlog") then found else fields.backlog;
   moved = if bytes_eq key (codes "moved") then found else fields.moved;
+  values = if bytes_eq key (codes "values") then found else fields.values;
   slot = if bytes_eq key (codes "slot") then found else fields.slot;
   clobber = if bytes_eq key (codes "clobber") then found else fields.clobber;
 }

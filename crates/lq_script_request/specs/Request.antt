@@ -15,8 +15,8 @@ use Rattle.lq_value.specs.declared.value.Value.TheVariants.{Text, Int32, Int64, 
 use Rattle.lq_predicate.specs.Query.{Query}
 use Rattle.lq_predicate.specs.Reading.{reading_of}
 use Rattle.lq_volume.specs.declared.change.Change.TheVariants.{Create, Remove, Move, Write, SetAttr, RemoveAttr}
-use Rattle.lq_desk_world.specs.declared.event.Event.TheVariants.{Change, Open}
-use Rattle.lq_desk_world.specs.Events.{event_at}
+use Rattle.lq_desk_world.specs.declared.event.Event.TheVariants.{Change, OpenBy}
+use Rattle.lq_desk_world.specs.Events.{OpenOptions, event_at}
 use Rattle.lq_desk_world.specs.declared.event.Act.{Act}
 use Rattle.lq_desk_world.specs.declared.event.Act.TheVariants as act
 use Rattle.lq_script_request.specs.declared.request.Request.{Request}
@@ -36,7 +36,7 @@ pub data Asked : Type 0 where
   asks_write : (node size : ℕ) (time : ℤ) → Asked
   asks_set : (node : ℕ) (attr : List ℕ) (value : SetValue) → Asked
   asks_unset : (node : ℕ) (attr : List ℕ) → Asked
-  asks_open : (query : List ℕ) (port backlog : ℕ) (moved : Bool) → Asked
+  asks_open : (query : List ℕ) (options : OpenOptions) → Asked
   asks_at : (slot : ℕ) (a : Act) → Asked
   asks_find : (dir : ℕ) (name : List ℕ) → Asked
   asks_entry : (node : ℕ) → Asked
@@ -170,7 +170,13 @@ open_of d =
     option_and_then (λ query.
     option_and_then (λ port.
     option_and_then (λ backlog.
-    option_map (λ moved. asks_open query port backlog moved)
+    option_and_then (λ moved.
+    option_map (λ values. asks_open query (record {
+      port = port;
+      backlog = backlog;
+      flags = record { moved = moved; values = values };
+    }))
+    (flag_or false (get (codes "values") d)))
     (flag_or false (get (codes "moved") d)))
     (needed_u64 (codes "backlog") d))
     (needed_u64 (codes "port") d))
@@ -234,9 +240,9 @@ abbrev pub asked_in : List ℕ → Result Asked Refusal
 asked_in line = if is_utf8 line then asked_from (read line) else Err NotUtf8
 
 -- an opening, or the refusal of its formula
-abbrev pub opening_or : Result Query ℕ → ℕ → ℕ → Bool → Result Request Refusal
-opening_or (Err place) port backlog moved = Err (BadQuery place)
-opening_or (Ok q) port backlog moved = Ok (Event (Open q port backlog moved))
+abbrev pub opening_or : Result Query ℕ → OpenOptions → Result Request Refusal
+opening_or (Err place) options = Err (BadQuery place)
+opening_or (Ok q) options = Ok (Event (OpenBy q options))
 
 -- a fetch, or the refusal of its formula
 abbrev pub fetching_or : Result Query ℕ → Result Request Refusal
@@ -274,7 +280,7 @@ request_for (asks_set node attr value) =
 request_for (asks_unset node attr) =
     if is_attr_name attr then Ok (Event (Change (RemoveAttr node attr)))
     else Err BadName
-request_for (asks_open query port backlog moved) = opening_or (reading_of query) port backlog moved
+request_for (asks_open query options) = opening_or (reading_of query) options
 request_for (asks_at slot a) = Ok (Event (event_at slot a))
 request_for (asks_find dir name) = if is_name name then Ok (Look (Find dir name)) else Err BadName
 request_for (asks_entry node) = Ok (Look (Entry node))

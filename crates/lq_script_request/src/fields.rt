@@ -33,6 +33,7 @@ pub struct Fields<'a> {
     port: Field<'a>,
     backlog: Field<'a>,
     moved: Field<'a>,
+    values: Field<'a>,
     slot: Field<'a>,
     clobber: Field<'a>,
 }
@@ -60,6 +61,7 @@ impl<'a> Fields<'a> {
             port: absent,
             backlog: absent,
             moved: absent,
+            values: absent,
             slot: absent,
             clobber: absent,
         }
@@ -86,6 +88,7 @@ impl<'a> Fields<'a> {
             Key::Port => self.port,
             Key::Backlog => self.backlog,
             Key::Moved => self.moved,
+            Key::Values => self.values,
             Key::Slot => self.slot,
             Key::Clobber => self.clobber,
         }
@@ -243,6 +246,10 @@ impl<'a> Fields<'a> {
                 "value" => self.given = found,
                 "query" => self.query = found,
                 "moved" => self.moved = found,
+                _ => {}
+            },
+            6 => match key {
+                "values" => self.values = found,
                 _ => {}
             },
             7 => match key {

@@ -31,6 +31,8 @@ pub enum Key {
     Backlog,
     /// `moved`: whether moves within a result are messages.
     Moved,
+    /// `values`: whether changes of a value within a result are messages.
+    Values,
     /// `slot`: the slot of a subscription.
     Slot,
     /// `clobber`: whether a move may take a place that is taken.

@@ -9,7 +9,7 @@ use crate::quick_read::plain_read;
 use crate::raw_request::{RawRequest, raw_request_in};
 use crate::request::{Look, Request};
 use crate::scratch::{RecentAttrs, Scratch};
-use lq_desk_world::Event;
+use lq_desk_world::{Event, OpenOptions};
 use lq_predicate::{one_reading, read};
 use lq_value::{Kind, Name, Refusal, View};
 use lq_volume::Change;
@@ -83,12 +83,7 @@ pub fn read_request(
         ))),
         RawRequest::Set { node, attr, value } => setting(alloc, attrs, *node, attr, *value),
         RawRequest::Unset { node, attr } => unsetting(alloc, attrs, *node, attr),
-        RawRequest::Open {
-            query,
-            port,
-            backlog,
-            moved,
-        } => opening(alloc, query, *port, *backlog, *moved),
+        RawRequest::Open { query, options } => opening(alloc, query, *options),
         RawRequest::At { slot, act } => Ok(Request::Event(act.at(*slot))),
         RawRequest::Find { dir, name } => finding(alloc, *dir, name),
         RawRequest::Entry { node } => Ok(Request::Look(Look::Entry { node: *node })),
@@ -186,26 +181,15 @@ fn unsetting(
 }
 
 // The request that opens a subscription.
-fn opening(
-    alloc: Global,
-    query: &str,
-    port: u64,
-    backlog: u64,
-    moved: bool,
-) -> Result<Request, Refusal>
+fn opening(alloc: Global, query: &str, options: OpenOptions) -> Result<Request, Refusal>
     ensures value { IfOk result (λ request.
-        request_for (asks_open query.now port backlog moved) ≡ Ok request) }
+        request_for (asks_open query.now options) ≡ Ok request) }
     ensures refused { IfErr result (λ e. (e ≡ NoMemory)
-        ⊎ (request_for (asks_open query.now port backlog moved) ≡ Err e)) }
+        ⊎ (request_for (asks_open query.now options) ≡ Err e)) }
 {
     one_reading();
     let predicate = read(alloc, query)?;
-    Ok(Request::Event(Event::Open {
-        predicate,
-        port,
-        backlog,
-        moved,
-    }))
+    Ok(Request::Event(Event::OpenBy { predicate, options }))
 }
 
 // The request that finds the node at a place.

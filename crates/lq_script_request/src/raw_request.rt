@@ -8,7 +8,7 @@ ghost use Rattle.lq_script_request.specs.Asked.{asked_by};
 use crate::field_values::{bool_or_false, i64_or_zero, kind_or_file, typed_in, u64_or};
 use crate::fields::Fields;
 use crate::key::Key;
-use lq_desk_world::Act;
+use lq_desk_world::{Act, Flags, OpenOptions};
 use lq_value::{Kind, View};
 
 /// The request of a line, with its fields taken and its values not read yet: its texts are borrowed
@@ -47,9 +47,7 @@ pub enum RawRequest<'a> {
     },
     Open {
         query: &'a str,
-        port: u64,
-        backlog: u64,
-        moved: bool,
+        options: OpenOptions,
     },
     At {
         slot: u64,
@@ -193,12 +191,13 @@ fn open_in<'a>(fields: &Fields<'a>) -> Option<RawRequest<'a>>
     let port = fields.at(Key::Port).number()?;
     let backlog = fields.at(Key::Backlog).number()?;
     let moved = bool_or_false(fields, Key::Moved)?;
-    Some(RawRequest::Open {
-        query,
+    let values = bool_or_false(fields, Key::Values)?;
+    let options = OpenOptions {
         port,
         backlog,
-        moved,
-    })
+        flags: Flags { moved, values },
+    };
+    Some(RawRequest::Open { query, options })
 }
 
 fn act_in<'a>(fields: &Fields<'a>, act: Act) -> Option<RawRequest<'a>>

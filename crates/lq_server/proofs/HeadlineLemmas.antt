@@ -1,5 +1,5 @@
 -- The headline of a reader, and of the answers of its reads.
-use Rattle.std.proofs.Common.{◌≡◌, ◌⊎◌, ⊎_elim, ℕ, ◌+◌, ◌≤◌, Bool, true≢false, List, [], ◌∷◌, ◌++◌, length, Option, Some, None, refl, sym, ap, ◌∙◌, subst, arith, add-zero, append_assoc, append-nil, length-append}
+use Rattle.std.proofs.Common.{◌≡◌, ◌⊎◌, ⊎_elim, ℕ, ◌+◌, ◌≤◌, true≢false, List, [], ◌∷◌, ◌++◌, length, Option, Some, None, refl, sym, ap, ◌∙◌, subst, arith, add-zero, append_assoc, append-nil, length-append}
 use Rattle.std.specs.Prelude.{IsSome}
 use Rattle.std.specs.List.{AllByRecursion}
 use Rattle.std.proofs.lemmas.Grind.{common_steps}
@@ -10,11 +10,11 @@ use Rattle.lq_volume.specs.declared.change.Change.{Change}
 use Rattle.lq_volume.specs.State.{State}
 use Rattle.lq_volume.specs.Change.{after}
 use Rattle.lq_volume.specs.Book.{Extends, state_at, changes_between}
+use Rattle.lq_update.specs.declared.open_options.Flags.{Flags}
 use Rattle.lq_update.specs.declared.message.Opcode.{Opcode}
 use Rattle.lq_update.specs.declared.message.Message.{Message}
 use Rattle.lq_update.specs.declared.mark.Mark.{Mark}
-use Rattle.lq_update.specs.Diff.{diff}
-use Rattle.lq_update.specs.Updates.{numbered, step_of, updates_from}
+use Rattle.lq_update.specs.Updates.{numbered, step_of, told_by, updates_from}
 use Rattle.lq_update.specs.Fold.{folded}
 use Rattle.lq_update.specs.Laws.{FoldsGiveResults, WholeFoldsGiveResults}
 use Rattle.lq_desk_sub.specs.declared.read.Read.{Read}
@@ -48,14 +48,14 @@ numbered-front n [] ys h = tt
 numbered-front n (x ∷ xs) ys h = (h.0, numbered-front (n + 1) xs ys h.1)
 
 -- the messages of changes one after another are numbered
-updates_from-numbered : (q : Query) (mv : Bool) (s : State) (cs : List Change) (seq : ℕ)
-    → AreNumbered seq (updates_from q mv s cs seq)
-updates_from-numbered q mv s [] seq = tt
-updates_from-numbered q mv s (c ∷ cs) seq =
-    let here : List Message = step_of q mv s c seq in
-    numbered-append seq here (updates_from q mv (after s c) cs (seq + length here))
-    (numbered-are seq (s.number + 1) (diff q mv s (after s c)))
-    (updates_from-numbered q mv (after s c) cs (seq + length here))
+updates_from-numbered : (q : Query) (flags : Flags) (s : State) (cs : List Change) (seq : ℕ)
+    → AreNumbered seq (updates_from q flags s cs seq)
+updates_from-numbered q flags s [] seq = tt
+updates_from-numbered q flags s (c ∷ cs) seq =
+    let here : List Message = step_of q flags s c seq in
+    numbered-append seq here (updates_from q flags (after s c) cs (seq + length here))
+    (numbered-are seq (s.number + 1) (told_by q flags s c))
+    (updates_from-numbered q flags (after s c) cs (seq + length here))
 
 -- ---- one reader
 
@@ -81,7 +81,7 @@ once_told r told =
     let front = prefix_told r told in
     numbered-front 1 (received r) front.0
     (subst (AreNumbered 1) (sym front.1)
-    (updates_from-numbered (query_of f) f.moved (state_at b f.opened)
+    (updates_from-numbered (query_of f) f.flags (state_at b f.opened)
     (changes_between b f.opened (length b.changes)) 1))
 
 -- after the mark it is the whole list up to its change
@@ -255,12 +255,12 @@ answers_told folds wholes first last answers empty none h told =
             let more = updates_read rest ++ told.prefix.0 in
             let split_is : updates_read front ++ more ≡ updates_upto f b (length b.changes) =
             grind (arith, append_assoc, updates_read-append, got, told.prefix.1) in
-            folds (query_of f) f.moved b f.opened (length b.changes) (updates_read front)
+            folds (query_of f) f.flags b f.opened (length b.changes) (updates_read front)
             told.book.start told.book.lawful (omega arith) (omega arith) (more, split_is) settled;
         closing = λ front rest k is.
             let m = (marks front rest k is).0 in
             ap (folded (result_after f b f.opened)) m.all
-            ∙ wholes (query_of f) f.moved b f.opened k.change told.book.start told.book.lawful
+            ∙ wholes (query_of f) f.flags b f.opened k.change told.book.start told.book.lawful
             (omega arith) m.opened;
       },
     )

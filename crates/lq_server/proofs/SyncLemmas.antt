@@ -155,7 +155,7 @@ module _ (s : Subscription) (old : ReaderHold) (seat : SeatToken Identity) (read
 
   -- that is the whole list up to the mark
   listed : received reading ++ w ++ h.messages
-      ≡ updates (query_of e.floor) e.floor.moved seat.book e.floor.opened
+      ≡ updates (query_of e.floor) e.floor.flags seat.book e.floor.opened
       (upto h.mark (length seat.book.changes))
   listed = grind (arith, given_is)
 
@@ -308,7 +308,7 @@ module _ (s : Subscription) (old : ReaderHold) (seat : SeatToken Identity) (read
             at_name (λ t. FirstCloseFits t.first_close h.mark) lv.stands.first_close;
         overrun = at_name (λ t. IfSome h.mark (λ k.
             k.cause ≡ Overrun
-            → IsOverrun t.query t.moved t.opened t.places t.backlog (seen_of t.last_report)
+            → IsOverrun t.query t.flags t.opened t.places t.backlog (seen_of t.last_report)
             seat.book
             k.change)) lv.stands.overrun;
       })

@@ -20,7 +20,7 @@ use Rattle.lq_server_slots.specs.Hold.{ReaderHold}
 
 -- the query's update list over a book, from the opening up to change n
 abbrev pub updates_upto : Opening → Book → ℕ → List Message
-updates_upto f b n = updates_of (query_of f) f.moved b f.opened n
+updates_upto f b n = updates_of (query_of f) f.flags b f.opened n
 
 -- the query's result over a book after change n
 abbrev pub result_after : Opening → Book → ℕ → List Entry

@@ -23,7 +23,7 @@ WaitingReadsAnswer =
 -- the subscription with this name has overrun over this book
 pub record HasOverrun (t : Identity) (book : Book) : Type 0 where
   pub change : ℕ
-  pub overrun : IsOverrun t.query t.moved t.opened t.places t.backlog (seen_of t.last_report) book
+  pub overrun : IsOverrun t.query t.flags t.opened t.places t.backlog (seen_of t.last_report) book
       change
 
 -- A first close is refused only where the reader asked for the end, or where its subscription has

@@ -1,10 +1,11 @@
 -- A reader that was just opened.
-use Rattle.std.specs.Prelude.{◌≡◌, ◌≤◌, ◌<◌, ◌-◌, ℕ, Bool, false, Option, None, IfOk, IsSome, Result}
+use Rattle.std.specs.Prelude.{◌≡◌, ◌≤◌, ◌<◌, ◌-◌, ℕ, false, Option, None, IfOk, IsSome, Result}
 use Rattle.lq_value.specs.declared.refusal.Refusal.{Refusal}
 use Rattle.lq_value.specs.Refusal.{first_refusal}
 use Rattle.lq_predicate.specs.Query.{Query}
 use Rattle.lq_volume.specs.State.{State}
 use Rattle.lq_volume.specs.Book.{Book}
+use Rattle.lq_update.specs.declared.open_options.Flags.{Flags}
 use Rattle.lq_board.specs.Token.{BoardName, SeatToken}
 use Rattle.lq_server_slots.specs.declared.identity.Identity.{Identity}
 use Rattle.lq_server_slots.specs.declared.open.Opened.{Opened}
@@ -21,11 +22,11 @@ abbrev pub opened_of : ReaderHold → Opened
 opened_of r = record { reading = r.reading; seat = r.seat; slot = r.slot }
 
 -- its subscription was just opened over this book, and nobody asked for its end
-pub record IsNewReader (r : ReaderHold) (board : BoardName) (book : Book) (q : Query) (mv : Bool)
-    (port backlog : ℕ) : Type 0 where
+pub record IsNewReader (r : ReaderHold) (board : BoardName) (book : Book) (q : Query)
+    (flags : Flags) (port backlog : ℕ) : Type 0 where
   pub own : IsOwn r
   pub hang_up_asked : r.hang_up_asked ≡ false
-  pub opened : IsOpened (opened_of r) board book q mv port backlog
+  pub opened : IsOpened (opened_of r) board book q flags port backlog
 
 -- why the first opening at a server over this volume is refused: no slot is taken
 abbrev pub first_opening_refusal : State → ℕ → ℕ → Option Refusal

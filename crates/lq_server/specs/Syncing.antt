@@ -33,7 +33,7 @@ pub record ListsMessages (r : ReaderHold) (x : Synced) (w h : List Message) : Ty
   pub wait : length w ≡ x.waiting
   pub hold : length h ≡ x.held
   pub all : received r.reading ++ w ++ h
-      ≡ updates (query_of r.reading.port.floor) r.reading.port.floor.moved r.seat.book
+      ≡ updates (query_of r.reading.port.floor) r.reading.port.floor.flags r.seat.book
       r.reading.port.floor.opened (upto x.mark x.change)
   pub rest : List Parcel
   pub front : ready r.reading ≡ map (λ m. Update m) w ++ rest
@@ -87,7 +87,7 @@ pub record IsSynced (old new : ReaderHold) (x : Synced) : Type 0 where
   pub first_close : IsSomeAnd old.seat.name (λ t. FirstCloseFits t.first_close x.mark)
   pub overrun : IsSomeAnd old.seat.name (λ t. IfSome x.mark (λ k.
       k.cause ≡ Overrun
-      → IsOverrun t.query t.moved t.opened t.places t.backlog (seen_of t.last_report) new.seat.book
+      → IsOverrun t.query t.flags t.opened t.places t.backlog (seen_of t.last_report) new.seat.book
       k.change))
 
 -- the mark is in the port where it was put and wasn't read

@@ -8,6 +8,7 @@ ghost use Rattle.lq_volume.specs.Change.{refused};
 ghost use Rattle.lq_volume.specs.Lookup.{entry_refusals, find_refusals, listed};
 ghost use Rattle.lq_volume.specs.Result.{result_of};
 ghost use Rattle.lq_volume.specs.State.{node_in, record_at};
+ghost use Rattle.lq_update.specs.Options.{no_values};
 ghost use Rattle.lq_board.specs.Author.{leader, with_roll};
 ghost use Rattle.lq_board.specs.Roll.{numbers};
 ghost use Rattle.lq_server_slots.specs.Applied.{IsAdded};
@@ -20,6 +21,7 @@ use crate::own_reader::OwnReader;
 use crate::server::{Retired, Server};
 use lq_predicate::Predicate;
 use lq_server_slots::{Found, Named, Seat};
+use lq_update::OpenOptions;
 use lq_value::{Name, Refusal};
 use lq_volume::{Applied, Change, Listing};
 use std::marker::{Model, PhantomData};
@@ -106,11 +108,33 @@ impl<N: Named> OwnSeat<N> {
     ) -> Result<OwnReader<N>, Refusal>
         ensures made { MakesMore self.old self.new [] }
         ensures opened { IfOk result (λ r.
-            IsNewReader r N.board self.new.book predicate.now moved port backlog) }
+            IsNewReader r N.board self.new.book predicate.now (no_values moved) port backlog) }
         ensures refused { IfSome (size_refusal port backlog) (λ e. result ≡ Err e) }
         ensures others { IfNone (size_refusal port backlog) (IfErr result IsOpeningRefused) }
     {
-        let reader = server.open(rt, &mut self.seat, predicate, port, backlog, moved)?;
+        let options = OpenOptions::without_values(port, backlog, moved);
+        self.open_by(rt, server, predicate, &options)
+    }
+
+    /// Opens a live query with these options, with the clauses of `Server::open_by` that speak of
+    /// the answer alone.
+    #[tactic(auto, using(crate::proofs::MadeLemmas::made_moments))]
+    pub fn open_by<R: Wait>(
+        &mut self,
+        rt: &R,
+        server: &Server<N>,
+        predicate: &Predicate,
+        options: &OpenOptions,
+    ) -> Result<OwnReader<N>, Refusal>
+        ensures made { MakesMore self.old self.new [] }
+        ensures opened { IfOk result (λ r. IsNewReader r N.board self.new.book predicate.now
+            options.now.flags options.now.port options.now.backlog) }
+        ensures refused { IfSome (size_refusal options.now.port options.now.backlog) (λ e.
+            result ≡ Err e) }
+        ensures others { IfNone (size_refusal options.now.port options.now.backlog)
+            (IfErr result IsOpeningRefused) }
+    {
+        let reader = server.open_by(rt, &mut self.seat, predicate, options)?;
         Ok(OwnReader {
             reader,
             of: PhantomData,

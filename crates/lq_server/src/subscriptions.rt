@@ -3,6 +3,7 @@ ghost use Rattle.std.specs.Prelude.{◌≡◌, ◌+◌, ◌-◌, ◌<◌, ◌^�
 ghost use Rattle.lq_value.specs.declared.refusal.Refusal.TheVariants.{StillOpen};
 ghost use Rattle.lq_value.specs.Refusal.{IsRefusedBy};
 ghost use Rattle.lq_volume.specs.Book.{Extends};
+ghost use Rattle.lq_update.specs.Options.{no_values};
 ghost use Rattle.lq_board.specs.Token.{counted_board};
 ghost use Rattle.lq_server_slots.specs.Reading.{is_marked};
 ghost use Rattle.lq_server_slots.specs.Opening.{IsOpeningRefused, size_refusal};
@@ -51,8 +52,8 @@ impl<N: Named> Server<N> {
         ensures signs { IfOk result (λ r. r.1.seat.author.signs ≡ false) }
         ensures start { IfOk result (λ r. r.1.seat.book.start ≡ N.start) }
         ensures opened { IfOk result (λ r.
-            IsNewReader r.1.reader N.board (leading_seat N.board N.start).book predicate.now moved
-            port backlog) }
+            IsNewReader r.1.reader N.board (leading_seat N.board N.start).book predicate.now
+            (no_values moved) port backlog) }
         ensures refused { IsRefusedBy result (first_opening_refusal N.start port backlog) }
     {
         let (board, mut locked, head) = base.into_counted();
@@ -60,11 +61,7 @@ impl<N: Named> Server<N> {
         let Ok(mut seat) = locked.seat(&board) else {
             unreachable!()
         };
-        let options = OpenOptions {
-            port,
-            backlog,
-            moved,
-        };
+        let options = OpenOptions::without_values(port, backlog, moved);
         let opened = locked.open(&board, &mut seat, predicate, &options)?;
         let reader = Reader {
             reading: opened.reading,
@@ -81,10 +78,11 @@ impl<N: Named> Server<N> {
     ///
     /// The port has `port` places, 1 to 1,024. At most `backlog` messages are held before it, up to
     /// 65,536. With `moved`, one message reports a move of an entry that matches before and after
-    /// it. The seat then knows the book that the reader begins with, and has noted which slots were
-    /// out and how many openings there were. Refused, the first that fits by what it has noted:
-    /// `BadPort`, `BadBacklog`, `NoSlot` where 64 are taken, `Exhausted` where the openings have
-    /// reached the volume's limit on changes, `NoMemory`.
+    /// it. There are no messages of values, which `open_by` can ask for. The seat then knows the
+    /// book that the reader begins with, and has noted which slots were out and how many openings
+    /// there were. Refused, the first that fits by what it has noted: `BadPort`, `BadBacklog`,
+    /// `NoSlot` where 64 are taken, `Exhausted` where the openings have reached the volume's limit on
+    /// changes, `NoMemory`.
     pub fn open<R: Wait>(
         &self,
         rt: &R,
@@ -102,7 +100,7 @@ impl<N: Named> Server<N> {
         ensures own { StaysOwn seat.old seat.new }
         ensures later { Extends seat.new.book seat.old.book }
         ensures opened { IfOk result (λ r.
-            IsNewReader r N.board seat.new.book predicate.now moved port backlog) }
+            IsNewReader r N.board seat.new.book predicate.now (no_values moved) port backlog) }
 
         // The numbers are checked first, by their bounds alone.
         ensures refused { IfSome (size_refusal port backlog) (λ e. result ≡ Err e) }
@@ -113,15 +111,44 @@ impl<N: Named> Server<N> {
         ensures table { (under : SlotsOf)
             × IsAnsweredOver under N.start seat.old seat.new port backlog result }
     {
-        let options = OpenOptions {
-            port,
-            backlog,
-            moved,
-        };
+        let options = OpenOptions::without_values(port, backlog, moved);
+        self.open_by(rt, seat, predicate, &options)
+    }
+
+    /// Opens a live query with these options in the lowest free slot: as `open`, and with
+    /// `options.flags.values` also with messages of values.
+    pub fn open_by<R: Wait>(
+        &self,
+        rt: &R,
+        seat: &mut Seat,
+        predicate: &Predicate,
+        options: &OpenOptions,
+    ) -> Result<Reader, Refusal>
+        requires { seat.old.board ≡ N.board }
+        ensures seat { seat.new ≡ record seat.old {
+          book = seat.new.book;
+          moments = seat.new.moments;
+        } }
+        ensures own { StaysOwn seat.old seat.new }
+        ensures later { Extends seat.new.book seat.old.book }
+        ensures opened { IfOk result (λ r. IsNewReader r N.board seat.new.book predicate.now
+            options.now.flags options.now.port options.now.backlog) }
+
+        // The numbers are checked first, by their bounds alone.
+        ensures refused { IfSome (size_refusal options.now.port options.now.backlog) (λ e.
+            result ≡ Err e) }
+        ensures others { IfNone (size_refusal options.now.port options.now.backlog)
+            (IfErr result IsOpeningRefused) }
+
+        // The first that fits and no other, by the slots that stood under the lock in this call:
+        // the seat has noted their keeper, also where it is refused.
+        ensures table { (under : SlotsOf) × IsAnsweredOver under N.start seat.old seat.new
+            options.now.port options.now.backlog result }
+    {
         let opened = self
             .state
             .lock(rt)
-            .open(&self.board, seat, predicate, &options)?;
+            .open(&self.board, seat, predicate, options)?;
         Ok(Reader {
             reading: opened.reading,
             seat: opened.seat,

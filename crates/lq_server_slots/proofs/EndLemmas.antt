@@ -7,6 +7,7 @@ use Rattle.lq_volume.specs.declared.change.Change.{Change}
 use Rattle.lq_volume.specs.State.{State}
 use Rattle.lq_volume.specs.Book.{Book, Extends, grown, state_of}
 use Rattle.lq_board.specs.Book.{IsFullBook}
+use Rattle.lq_update.specs.declared.open_options.Flags.{Flags}
 use Rattle.lq_update.specs.declared.message.Message.{Message}
 use Rattle.lq_update.specs.declared.mark.Mark.{Mark}
 use Rattle.lq_update.specs.declared.mark.Cause.TheVariants.{Overrun}
@@ -39,13 +40,13 @@ room_left : (h : Held) (more : List Message) → overruns h more ≡ false
 room_left h more test few = grind (arith, nat_tests)
 
 -- an overrun stays one over each longer book
-over_longer : (q : Query) (mv : Bool) (o places backlog seen : ℕ) (book book' : Book) (e : ℕ)
-    → IsFullBook book → Extends book' book → o ≤ e → IsOverrun q mv o places backlog seen book e
-    → IsOverrun q mv o places backlog seen book' e
-over_longer q mv o places backlog seen book book' e full p le over =
+over_longer : (q : Query) (flags : Flags) (o places backlog seen : ℕ) (book book' : Book) (e : ℕ)
+    → IsFullBook book → Extends book' book → o ≤ e → IsOverrun q flags o places backlog seen book e
+    → IsOverrun q flags o places backlog seen book' e
+over_longer q flags o places backlog seen book book' e full p le over =
     let at = over.within in
-    let one = updates-same q mv book book' o e full.first p le (omega arith) in
-    let two = updates-same q mv book book' o (e + 1) full.first p (omega arith) (omega arith) in
+    let one = updates-same q flags book book' o e full.first p le (omega arith) in
+    let two = updates-same q flags book book' o (e + 1) full.first p (omega arith) (omega arith) in
     let long = extends_length book book' p in
     grind arith
 
@@ -61,17 +62,17 @@ module _ (h : Held) (e : End Delivery Opening) (places : ℕ) (last_report : Las
         let long = extends_length book book' p in
         let later = extends_trans (known_by e.floor (all_put e)) book book' s.later p in
         let same =
-        updates-same h.query h.moved book book' h.opened k.change s.full.first p opened fits.1 in
+        updates-same h.query h.flags book book' h.opened k.change s.full.first p opened fits.1 in
         let over : k.cause ≡ Overrun
-        → IsOverrun h.query h.moved h.opened places h.backlog (seen_of last_report) book' k.change =
-        λ c. over_longer h.query h.moved h.opened places h.backlog (seen_of last_report) book book'
+        → IsOverrun h.query h.flags h.opened places h.backlog (seen_of last_report) book' k.change =
+        λ c. over_longer h.query h.flags h.opened places h.backlog (seen_of last_report) book book'
         k.change
         s.full p opened ((rw mark at s.overrun) c) in
         grind arith
 
     module _ (live : h.mark ≡ None) where
       -- what was given is all updates of the book so far
-      old_is : messages_given h e ≡ updates h.query h.moved book h.opened (length book.changes)
+      old_is : messages_given h e ≡ updates h.query h.flags book h.opened (length book.changes)
       old_is = rw live at s.list
 
       -- the opening is within the book
@@ -80,24 +81,24 @@ module _ (h : Held) (e : End Delivery Opening) (places : ℕ) (last_report : Las
 
       -- it ends by an overrun, in a book that goes on from this one
       overran : (book' : Book) → Extends book' book → IsFullBook book'
-          → IsOverrun h.query h.moved h.opened places h.backlog (seen_of last_report) book'
+          → IsOverrun h.query h.flags h.opened places h.backlog (seen_of last_report) book'
           (length book.changes)
           → Stands (ended_by h Overrun (length book.changes)) e places last_report first_close book'
       overran book' p full over =
           let long = extends_length book book' p in
           let later = extends_trans (known_by e.floor (all_put e)) book book' s.later p in
           let same =
-          updates-same h.query h.moved book book' h.opened (length book.changes) s.full.first p
+          updates-same h.query h.flags book book' h.opened (length book.changes) s.full.first p
           opened_is (omega arith) in
           let old = old_is in
           let opened = opened_is in
           grind arith
 
       module _ (c : Change) (full' : IsFullBook (grown book (c ∷ [])))
-          (three : length (step_of h.query h.moved (state_of book) c (h.sent + 1)) ≤ 3) where
+          (three : length (step_of h.query h.flags (state_of book) c (h.sent + 1)) ≤ 3) where
         -- the updates of the change
         abbrev more : List Message
-        more = step_of h.query h.moved (state_of book) c (h.sent + 1)
+        more = step_of h.query h.flags (state_of book) c (h.sent + 1)
 
         -- the book with the change
         abbrev book' : Book
@@ -108,10 +109,14 @@ module _ (h : Held) (e : End Delivery Opening) (places : ℕ) (last_report : Las
         long = length-append book.changes (c ∷ [])
 
         -- the updates of the longer book are what was given and those of the change
-        now : updates h.query h.moved book' h.opened (length book.changes + 1)
+        now : updates h.query h.flags book' h.opened (length book.changes + 1)
             ≡ messages_given h e ++ more
         now =
-            rw (updates-add h.query h.moved book c h.opened s.full.first opened_is, ← old_is, s.sent)
+            rw (
+              updates-add h.query h.flags book c h.opened s.full.first opened_is,
+              ← old_is,
+              s.sent,
+            )
 
         -- with the change's updates held, the subscription stands over the longer book
         goes_on : length h.messages + length more ≤ h.backlog
@@ -132,11 +137,11 @@ module _ (h : Held) (e : End Delivery Opening) (places : ℕ) (last_report : Las
             → places + seen_of last_report ≤ length (messages_in (all_put e))) where
           -- more updates than the backlog takes are an overrun
           over_is : 0 < length more → h.backlog < length h.messages + length more
-              → IsOverrun h.query h.moved h.opened places h.backlog (seen_of last_report) book'
+              → IsOverrun h.query h.flags h.opened places h.backlog (seen_of last_report) book'
               (length book.changes)
           over_is some many =
               let front =
-              updates-same h.query h.moved book book' h.opened (length book.changes) s.full.first
+              updates-same h.query h.flags book book' h.opened (length book.changes) s.full.first
               (c ∷ [], refl) opened_is (omega arith) ∙ sym old_is in
               let count = length-append (messages_in (all_put e)) h.messages in
               let after = length-append (messages_given h e) more in
@@ -155,16 +160,16 @@ module _ (h : Held) (e : End Delivery Opening) (places : ℕ) (last_report : Las
           by_test false test = goes_on (room_left h more test s.bounded)
 
 -- a new one
-pub stands_new : (q : Query) (mv : Bool) (backlog : ℕ) (e : End Delivery Opening) (places : ℕ)
+pub stands_new : (q : Query) (flags : Flags) (backlog : ℕ) (e : End Delivery Opening) (places : ℕ)
     (book : Book) → e.taken ≡ [] → e.ahead ≡ [] → floor_of e.floor ≡ book → query_of e.floor ≡ q
-    → e.floor.moved ≡ mv
+    → e.floor.flags ≡ flags
     → e.floor.opened ≡ length book.changes → e.places ≡ places → IsFullBook book
-    → Stands (opened_with q mv (length book.changes) backlog) e places
+    → Stands (opened_with q flags (length book.changes) backlog) e places
     (Live (length book.changes) 0) Never book
-stands_new q mv backlog e places book taken ahead floor query moves opening port full =
+stands_new q flags backlog e places book taken ahead floor query moves opening port full =
     let put : all_put e ≡ [] = rw (taken, ahead) in
     let later : Extends book (known_by e.floor (all_put e)) = rw (put, floor) (extends_self book) in
-    let none = updates-none q mv book (length book.changes) in
+    let none = updates-none q flags book (length book.changes) in
     grind arith
 
 -- there is a mark, where the test says so
@@ -196,8 +201,8 @@ committed_stands p q e places last_report first_close book c live is few filled 
     (sym (ap (λ (z : Prepared). z.held) is
     ∙ (λ i. after_messages p.held (r.0 i) ((r.1 ∙ s.full.number) i))))
     (by_test p.held e places last_report first_close book s live c full
-    (few p.held.query p.held.moved (state_of book) c (p.held.sent + 1) s.full.state lawful) filled
-    (overruns p.held (step_of p.held.query p.held.moved (state_of book) c (p.held.sent + 1))) refl)
+    (few p.held.query p.held.flags (state_of book) c (p.held.sent + 1) s.full.state lawful) filled
+    (overruns p.held (step_of p.held.query p.held.flags (state_of book) c (p.held.sent + 1))) refl)
 
 -- a subscription stands on once its reader is told
 pub told_now : (h : Held) (e : End Delivery Opening) (places : ℕ) (last_report : LastReport)

@@ -13,6 +13,7 @@ use Rattle.lq_board.specs.Known.{KnownSlot}
 use Rattle.lq_board.specs.Book.{IsFullBook}
 use Rattle.lq_board.specs.Slot.{slot_at, unused, gone_out, counted}
 use Rattle.lq_board.specs.Token.{BoardName, KeeperToken, SeatToken, moment_of}
+use Rattle.lq_update.specs.declared.open_options.Flags.{Flags}
 use Rattle.lq_update.specs.Fold.{opened_at}
 use Rattle.lq_desk_sub.specs.Held.{opened_with}
 use Rattle.lq_desk_world.specs.Events.{size_refusals, opening_refusals}
@@ -38,29 +39,29 @@ use Rattle.lq_server_slots.proofs.TableLemmas.{counted_here, only_set, slots_set
 
 -- a subscription that was just made, and the end that reads
 pub begun_new : NewSubscriptionsStand → (s : Subscription) (r : ReadingHold) (book : Book)
-    (q : Query) (mv : Bool) (port backlog at : ℕ) (g : Opening)
-    → s.sub.held ≡ opened_with q mv at backlog
+    (q : Query) (flags : Flags) (port backlog at : ℕ) (g : Opening)
+    → s.sub.held ≡ opened_with q flags at backlog
     → at ≡ length book.changes → s.places ≡ port → s.last_report.value ≡ Live at 0
     → s.first_close ≡ Never
-    → s.input.places ≡ port → s.input.floor ≡ g → query_of g ≡ q → g.moved ≡ mv → g.opened ≡ at
+    → s.input.places ≡ port → s.input.floor ≡ g → query_of g ≡ q → g.flags ≡ flags → g.opened ≡ at
     → floor_of g ≡ book → s.input.taken ≡ [] → s.input.ahead ≡ [] → IsFullBook book
     → r.port ≡ s.input → r.hand ≡ None → r.result ≡ opened_at at (result_of q (state_of book))
-    → IsNewSubscription s r book q mv port backlog
-begun_new stand s r book q mv port backlog at g held number places last_report first_close ports
+    → IsNewSubscription s r book q flags port backlog
+begun_new stand s r book q flags port backlog at g held number places last_report first_close ports
     opening_at
-    query moved opened floor taken ahead full end hand result =
+    query flags_are opened floor taken ahead full end hand result =
     let stands : IsConsistentAt s book =
     rw (held, last_report, first_close, number)
-    (stand q mv backlog s.input s.places book taken ahead (rw opening_at floor)
-    (rw opening_at query) (rw opening_at moved) (rw (opening_at, ← number) opened)
+    (stand q flags backlog s.input s.places book taken ahead (rw opening_at floor)
+    (rw opening_at query) (rw opening_at flags_are) (rw (opening_at, ← number) opened)
     (ports ∙ sym places) full) in
     grind arith
 
 -- a subscription that was just made is so for what it was made for
-pub begun_own : (s : Subscription) (r : ReadingHold) (book : Book) (q : Query) (mv : Bool)
-    (port backlog : ℕ) → IsNewSubscription s r book q mv port backlog
-    → IsNewSubscription s r book s.sub.held.query s.sub.held.moved s.places s.sub.held.backlog
-begun_own s r book q mv port backlog b = grind arith
+pub begun_own : (s : Subscription) (r : ReadingHold) (book : Book) (q : Query) (flags : Flags)
+    (port backlog : ℕ) → IsNewSubscription s r book q flags port backlog
+    → IsNewSubscription s r book s.sub.held.query s.sub.held.flags s.places s.sub.held.backlog
+begun_own s r book q flags port backlog b = grind arith
 
 -- a subscription takes a free slot
 pub settled : (slots : ServerSlots) (one two : KeeperToken Identity) (i n : ℕ) (s : Subscription)
@@ -123,9 +124,9 @@ pub opening_fits : (full : Bool) (openings limit port backlog : ℕ) → port �
 opening_fits full openings limit port backlog some high few free less = grind (arith, nat_tests)
 
 -- of a subscription that was just made nothing had been taken
-pub begun_seen : (s : Subscription) (r : ReadingHold) (book : Book) (q : Query) (mv : Bool)
-    (port backlog : ℕ) → IsNewSubscription s r book q mv port backlog → IsSeen s
-begun_seen s r book q mv port backlog b = rw b.last_report (omega arith)
+pub begun_seen : (s : Subscription) (r : ReadingHold) (book : Book) (q : Query) (flags : Flags)
+    (port backlog : ℕ) → IsNewSubscription s r book q flags port backlog → IsSeen s
+begun_seen s r book q flags port backlog b = rw b.last_report (omega arith)
 
 -- ---- an answer of a slot, and that of the opening
 

@@ -70,7 +70,7 @@ legal_list-what : (f : Opening) (messages : List Message) (book : Book) (w : Par
 legal_list-what f messages book (Update m) t = (t, tt)
 legal_list-what f messages book (Fin k) t = (
   rw (append-nil, t.all)
-      (updates-front (query_of f) f.moved book f.opened k.change (length book.changes) t.within),
+      (updates-front (query_of f) f.flags book f.opened k.change (length book.changes) t.within),
   rw append-nil t,
 )
 

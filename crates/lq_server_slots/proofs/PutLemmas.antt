@@ -60,7 +60,7 @@ module _ (h : Held) (d : End Delivery Opening) (places : ℕ) (last_report : Las
     tells_update m held =
         rw (s.query, s.moves, s.opening)
         (prefix_trans _ _ _ (drop 1 h.messages, rw append_assoc (rw held at s.list))
-        (updates-front h.query h.moved book h.opened (upto h.mark (length book.changes))
+        (updates-front h.query h.flags book h.opened (upto h.mark (length book.changes))
         (length book.changes) upto_within))
 
     -- a mark that is held, with no message before it, is the mark of what was put

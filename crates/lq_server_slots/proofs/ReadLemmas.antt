@@ -84,7 +84,7 @@ fold_fits law f ps got m list all =
     let zero : b.start.number ≡ 0 = list.full.first in
     let within = opened_within f ps list in
     rw (← opening_state f ps list)
-    (law (query_of f) f.moved b f.opened (length b.changes) got list.front.0 m list.full.start
+    (law (query_of f) f.flags b f.opened (length b.changes) got list.front.0 m list.full.start
     list.full.lawful (omega arith) (omega arith) (rw (all, append_assoc) at list.front.1))
 
 -- the fold by one message more
@@ -263,7 +263,7 @@ settled_result law follow test r told settled =
     let within = opened_within f r.port.taken told.legal_list in
     let by = follow (opening_of f) (received r) in
     rw (told.folds, by.0, by.1, ← opening_state f r.port.taken told.legal_list)
-    (law (query_of f) f.moved b f.opened (length b.changes) (received r) full.start full.lawful
+    (law (query_of f) f.flags b f.opened (length b.changes) (received r) full.start full.lawful
     (omega arith) (omega arith) (received_front r told)
     ((test (received r)).1 (rw (told.folds, by.2) at settled)))
 
@@ -307,5 +307,5 @@ marked_result law follow r told shown now (Some k) is =
       fits.all,
       ← opening_state f r.port.taken told.legal_list,
     )
-    (law (query_of f) f.moved (known_book r) f.opened k.change full.start full.lawful (omega arith)
+    (law (query_of f) f.flags (known_book r) f.opened k.change full.start full.lawful (omega arith)
     fits.opened)

@@ -27,8 +27,8 @@ use Rattle.lq_server_slots.proofs.SlotLemmas.{told_length}
 
 -- the opaque list is the query's update list
 opened_list : (s : Subscription) (book : Book) (n : ℕ)
-    → updates s.sub.held.query s.sub.held.moved book s.sub.held.opened n
-    ≡ updates_of s.sub.held.query s.sub.held.moved book s.sub.held.opened n
+    → updates s.sub.held.query s.sub.held.flags book s.sub.held.opened n
+    ≡ updates_of s.sub.held.query s.sub.held.flags book s.sub.held.opened n
 unfolding updates
 opened_list s book n = refl
 
@@ -44,7 +44,7 @@ dues : (asked : Bool) (taken : ℕ) (s : Subscription) (book : Book) → IsFullB
     ≡ messages_in (all_put s.input) ++ s.sub.held.messages
 dues asked taken s book full stands =
     sym (stands.list
-    ∙ ap (updates s.sub.held.query s.sub.held.moved book s.sub.held.opened)
+    ∙ ap (updates s.sub.held.query s.sub.held.flags book s.sub.held.opened)
     (covers s.sub.held.mark book full.first)
     ∙ opened_list s book (covered_by book (mark_ending s.sub.held.mark)))
 

@@ -23,7 +23,7 @@ abbrev pub identity_of : Subscription → Identity
 identity_of s =
     record {
       query = s.sub.held.query;
-      moved = s.sub.held.moved;
+      flags = s.sub.held.flags;
       opened = s.sub.held.opened;
       places = s.places;
       backlog = s.sub.held.backlog;

@@ -1,8 +1,9 @@
 -- What holds for each book and each new subscription.
-use Rattle.std.specs.Prelude.{◌≡◌, ℕ, ◌≤◌, Bool, [], length}
+use Rattle.std.specs.Prelude.{◌≡◌, ℕ, ◌≤◌, [], length}
 use Rattle.lq_predicate.specs.Query.{Query}
 use Rattle.lq_volume.specs.Book.{Book, Extends, number_of, state_at}
 use Rattle.lq_board.specs.Book.{IsFullBook}
+use Rattle.lq_update.specs.declared.open_options.Flags.{Flags}
 use Rattle.lq_update.specs.Updates.{updates_of}
 use Rattle.lq_desk_sub.specs.Held.{opened_with}
 use Rattle.lq_port.specs.End.{End}
@@ -31,20 +32,20 @@ StatesStay =
 -- the update list of a port's rule is the query's update list
 abbrev pub UpdatesAreUpdateLists : Type 0
 UpdatesAreUpdateLists =
-    (q : Query) (moved : Bool) (b : Book) (m n : ℕ)
-    → updates q moved b m n ≡ updates_of q moved b m n
+    (q : Query) (flags : Flags) (b : Book) (m n : ℕ)
+    → updates q flags b m n ≡ updates_of q flags b m n
 
 -- a subscription that is opened over a book, with an empty port, stands over it
 abbrev pub NewSubscriptionsStand : Type 0
 NewSubscriptionsStand =
-    (q : Query) (moved : Bool) (backlog : ℕ) (e : End Delivery Opening) (places : ℕ) (book : Book)
+    (q : Query) (flags : Flags) (backlog : ℕ) (e : End Delivery Opening) (places : ℕ) (book : Book)
     → e.taken ≡ []
     → e.ahead ≡ []
     → floor_of e.floor ≡ book
     → query_of e.floor ≡ q
-    → e.floor.moved ≡ moved
+    → e.floor.flags ≡ flags
     → e.floor.opened ≡ length book.changes
     → e.places ≡ places
     → IsFullBook book
-    → Stands (opened_with q moved (length book.changes) backlog) e places
+    → Stands (opened_with q flags (length book.changes) backlog) e places
     (Live (length book.changes) 0) Never book

@@ -7,6 +7,8 @@ use Rattle.lq_value.specs.Refusal.{IsRefusedBy, first_refusal}
 use Rattle.lq_predicate.specs.Query.{Query, And, no_more}
 use Rattle.lq_volume.specs.Book.{Book, state_of}
 use Rattle.lq_volume.specs.Result.{result_of}
+use Rattle.lq_update.specs.declared.open_options.Flags.{Flags}
+use Rattle.lq_update.specs.Options.{no_values}
 use Rattle.lq_update.specs.Fold.{opened_at}
 use Rattle.lq_desk_world.specs.Events.{opening_refusals, size_refusals}
 use Rattle.lq_desk_sub.specs.SlotTable.{first_free}
@@ -29,7 +31,7 @@ use Rattle.lq_server_slots.specs.Slots.{slot_in}
 -- the name belongs to the port
 pub record IdentityFits (t : Identity) (e : End Delivery Opening) : Type 0 where
   pub query : t.query ≡ query_of e.floor
-  pub moved : t.moved ≡ e.floor.moved
+  pub flags : t.flags ≡ e.floor.flags
   pub opened : t.opened ≡ e.floor.opened
   pub places : t.places ≡ e.places
   pub port : t.port ≡ port_id e.port
@@ -41,13 +43,12 @@ asks_after n true = n + 1
 
 -- a subscription that was just made, and its reading end
 pub record IsNewSubscription (s : Subscription) (r : ReadingHold) (book : Book) (q : Query)
-    (mv : Bool)
-    (port backlog : ℕ) : Type 0 where
+    (flags : Flags) (port backlog : ℕ) : Type 0 where
   pub stands : IsConsistentAt s book
   pub messages : s.sub.held.messages ≡ []
   pub live : s.sub.held.mark ≡ None
   pub query : s.sub.held.query ≡ q
-  pub moved : s.sub.held.moved ≡ mv
+  pub flags_are : s.sub.held.flags ≡ flags
   pub opened : s.sub.held.opened ≡ length book.changes
   pub backlog_is : s.sub.held.backlog ≡ backlog
   pub places : s.places ≡ port
@@ -71,7 +72,7 @@ pub record IsOpenedName (t : Identity) (o : Opened) (backlog : ℕ) : Type 0 whe
 
 -- A subscription that was just opened over this book: nothing was read, and the result is the
 -- query's. Its seat made no change, and may make changes where each seat of the board may.
-pub record IsOpened (o : Opened) (board : BoardName) (book : Book) (q : Query) (mv : Bool)
+pub record IsOpened (o : Opened) (board : BoardName) (book : Book) (q : Query) (flags : Flags)
     (port backlog : ℕ) : Type 0 where
   pub low : 0 < o.slot
   pub high : o.slot < 65
@@ -83,7 +84,7 @@ pub record IsOpened (o : Opened) (board : BoardName) (book : Book) (q : Query) (
   pub named : IsSomeAnd o.seat.name (λ t. IsOpenedName t o backlog)
   pub floor : floor_of o.reading.port.floor ≡ book
   pub query : query_of o.reading.port.floor ≡ q
-  pub moved : o.reading.port.floor.moved ≡ mv
+  pub flags_are : o.reading.port.floor.flags ≡ flags
   pub opened : o.reading.port.floor.opened ≡ length book.changes
   pub places : o.reading.port.places ≡ port
   pub taken : o.reading.port.taken ≡ []
@@ -126,7 +127,7 @@ pub record IsOpeningAnswer {T : Type 0} (slot_of : T → ℕ) (slots : ServerSlo
 abbrev pub no_identity : Identity
 no_identity = record {
   query = And no_more;
-  moved = false;
+  flags = no_values false;
   opened = 0;
   places = 0;
   backlog =

@@ -6,6 +6,7 @@ use Rattle.lq_volume.specs.Book.{Book, Extends}
 use Rattle.lq_board.specs.Author.{no_register}
 use Rattle.lq_board.specs.Book.{IsFullBook, no_book}
 use Rattle.lq_board.specs.Token.{no_board}
+use Rattle.lq_update.specs.Options.{no_values}
 use Rattle.lq_update.specs.declared.message.Message.{Message}
 use Rattle.lq_update.specs.declared.mark.Mark.{Mark}
 use Rattle.lq_update.specs.declared.parcel.Parcel.{Parcel}
@@ -19,7 +20,7 @@ abbrev pub no_opening : Opening
 no_opening =
     record {
       query = record { marker = record {}; value = And no_more };
-      moved = false;
+      flags = no_values false;
       opened = 0;
       book =
           record {
@@ -68,7 +69,7 @@ last_book book (p ∷ ps) = last_book (book_of p) ps
 
 -- the updates over a book from the opening up to change n
 abbrev pub upto_change : Opening → Book → ℕ → List Message
-upto_change f book n = updates (query_of f) f.moved book f.opened n
+upto_change f book n = updates (query_of f) f.flags book f.opened n
 
 -- and all updates over it
 abbrev pub all_updates : Opening → Book → List Message

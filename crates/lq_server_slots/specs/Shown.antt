@@ -29,7 +29,7 @@ mark_ending (Some k) = Some (record { cause = k.cause; change = k.change })
 abbrev pub shown_subscription : Bool → ℕ → Subscription → Subscribed
 shown_subscription asked taken s = record {
   query = s.sub.held.query;
-  moved = s.sub.held.moved;
+  flags = s.sub.held.flags;
   opened = s.sub.held.opened;
   port = s.places;
   backlog = s.sub.held.backlog;

@@ -5,6 +5,7 @@ use Rattle.lq_volume.specs.State.{State}
 use Rattle.lq_volume.specs.Book.{Book, Extends}
 use Rattle.lq_volume.specs.declared.change.Change.{Change}
 use Rattle.lq_board.specs.Book.{IsFullBook}
+use Rattle.lq_update.specs.declared.open_options.Flags.{Flags}
 use Rattle.lq_update.specs.declared.message.Message.{Message}
 use Rattle.lq_update.specs.declared.mark.Mark.{Mark}
 use Rattle.lq_update.specs.declared.mark.Cause.TheVariants.{Closed, Overrun}
@@ -62,16 +63,16 @@ StaysTrue (Ended k) mark n = mark ≡ Some k
 -- Where its own messages are within the backlog, those up to it are more than port and backlog
 -- together, and those that had been taken when the reader was last told.
 pub record IsOverrun
-    (query : Query) (moved : Bool) (opened places backlog seen : ℕ) (book : Book) (e : ℕ)
+    (query : Query) (flags : Flags) (opened places backlog seen : ℕ) (book : Book) (e : ℕ)
     : Type 0 where
   pub within : e < length book.changes
   pub some :
-      length (updates query moved book opened e) < length (updates query moved book opened (e + 1))
-  pub many : backlog < length (updates query moved book opened (e + 1))
+      length (updates query flags book opened e) < length (updates query flags book opened (e + 1))
+  pub many : backlog < length (updates query flags book opened (e + 1))
   pub more :
-      length (updates query moved book opened (e + 1))
-      ≤ length (updates query moved book opened e) + backlog
-      → places + backlog + seen < length (updates query moved book opened (e + 1))
+      length (updates query flags book opened (e + 1))
+      ≤ length (updates query flags book opened e) + backlog
+      → places + backlog + seen < length (updates query flags book opened (e + 1))
 
 -- A subscription stands over a book: the messages that were put and then those that are held are
 -- its updates over that book, up to its mark or else to the end. A mark is put last and has its
@@ -82,12 +83,12 @@ pub record Stands
     (book : Book)
     : Type 0 where
   pub query : query_of e.floor ≡ h.query
-  pub moves : e.floor.moved ≡ h.moved
+  pub moves : e.floor.flags ≡ h.flags
   pub opening : e.floor.opened ≡ h.opened
   pub port : e.places ≡ places
   pub full : IsFullBook book
   pub later : Extends book (known_by e.floor (all_put e))
-  pub list : messages_given h e ≡ updates h.query h.moved book h.opened
+  pub list : messages_given h e ≡ updates h.query h.flags book h.opened
       (upto h.mark (length book.changes))
   pub sent : h.sent ≡ length (messages_given h e)
   pub few : h.sent ≤ 3 * length book.changes
@@ -101,7 +102,7 @@ pub record Stands
   pub overrun :
       IfSome h.mark
       (λ k. k.cause ≡ Overrun
-      → IsOverrun h.query h.moved h.opened places h.backlog (seen_of last_report) book k.change)
+      → IsOverrun h.query h.flags h.opened places h.backlog (seen_of last_report) book k.change)
 
 -- and for a subscription under the lock
 abbrev pub IsConsistentAt : Subscription → Book → Type 0
@@ -121,7 +122,7 @@ IsSeen s = seen_of s.last_report.value ≤ length s.input.taken
 -- what never changes of a subscription, and its mark and count
 pub record SameHeld (h t : Held) : Type 0 where
   pub query : t.query ≡ h.query
-  pub moved : t.moved ≡ h.moved
+  pub flags : t.flags ≡ h.flags
   pub opened : t.opened ≡ h.opened
   pub backlog : t.backlog ≡ h.backlog
   pub sent : t.sent ≡ h.sent
@@ -169,14 +170,14 @@ IsDrained s waiting = IsOut s.sub.held ⊎ (s.places ≤ waiting)
 abbrev pub HasPrepared : Prepared → State → Change → Type 0
 HasPrepared p s c =
     p.held.mark ≡ None
-    → (p.ready ≡ step_of p.held.query p.held.moved s c (p.held.sent + 1))
+    → (p.ready ≡ step_of p.held.query p.held.flags s c (p.held.sent + 1))
     × (p.before ≡ s.number)
 
 -- everything but the held messages, their count, the mark and the answer of the close stays
 pub record SameButHeld (s t : Subscription) : Type 0 where
   pub input : t.input ≡ s.input
   pub query : t.sub.held.query ≡ s.sub.held.query
-  pub moved : t.sub.held.moved ≡ s.sub.held.moved
+  pub flags : t.sub.held.flags ≡ s.sub.held.flags
   pub opened : t.sub.held.opened ≡ s.sub.held.opened
   pub backlog : t.sub.held.backlog ≡ s.sub.held.backlog
   pub places : t.places ≡ s.places

@@ -4,7 +4,7 @@ use crate::identity::Identity;
 use lq_board::Keeper;
 use lq_port::Follows;
 use lq_predicate::Predicate;
-use lq_update::Parcel;
+use lq_update::{Flags, Parcel};
 
 /// An item of a port: a message or the mark, and the keeper's book when it was put.
 ///
@@ -22,8 +22,8 @@ pub struct Delivery {
 pub struct Opening {
     /// The query.
     pub query: GhostCopy<Predicate>,
-    /// Whether one message reports a node that changed its place within the result.
-    pub moved: bool,
+    /// Which messages there are beside created and removed ones.
+    pub flags: Flags,
     /// The number of changes at the opening.
     pub opened: u64,
     /// The keeper at the opening.

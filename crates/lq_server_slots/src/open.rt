@@ -52,7 +52,7 @@ fn begin(
     requires port { (0 < options.now.port) × (options.now.port ≤ 1024) }
     ensures refused { FailsOnlyForMemory result }
     ensures begun { IfOk result (λ r. IsNewSubscription r.0 r.1 keeper.now.book
-        predicate.now options.now.moved options.now.port options.now.backlog) }
+        predicate.now options.now.flags options.now.port options.now.backlog) }
     ensures keeper { IfOk result (λ r. r.1.port.floor.book.value ≡ keeper.now) }
 {
     // For the proof: a result's nodes rise, and a new subscription stands over the book.
@@ -60,10 +60,10 @@ fn begin(
     new_subscriptions_stand();
     let at = volume.changes();
     let entries = volume.fetch(predicate)?;
-    let sub = Sub::new(alloc, predicate, at, options.backlog, options.moved)?;
+    let sub = Sub::new_by(alloc, predicate, at, options.backlog, options.flags)?;
     let opening_at = Opening {
         query: GhostCopy::of(predicate),
-        moved: options.moved,
+        flags: options.flags,
         opened: at,
         book: GhostCopy::of(keeper),
     };
@@ -113,7 +113,7 @@ fn settle(
     requires free { slot_in slots.old.subscriptions index.index ≡ None }
     requires room { slots.old.openings < 1000000000000 }
     requires begun { IsNewSubscription slot reading slots.old.keeper.book slot.sub.held.query
-        slot.sub.held.moved slot.places slot.sub.held.backlog }
+        slot.sub.held.flags slot.places slot.sub.held.backlog }
     requires holding { AreConsistent slots.old slots.old.keeper.book }
     ensures board { slots.new.keeper.board ≡ slots.old.keeper.board }
     ensures counted { slots.new.keeper.register.openings
@@ -124,7 +124,7 @@ fn settle(
     ensures slot { result.slot ≡ index.index + 1 }
     ensures reading { result.reading ≡ reading }
     ensures opened { IsOpened result slots.old.keeper.board slots.old.keeper.book
-        slot.sub.held.query slot.sub.held.moved slot.places slot.sub.held.backlog }
+        slot.sub.held.query slot.sub.held.flags slot.places slot.sub.held.backlog }
 {
     let number = index.number();
     let asks = board.asks(&mut slots.keeper, number);
@@ -168,10 +168,10 @@ impl<N: Named> ServerState<N> {
     /// notes the moment of the keeper.
     ///
     /// The port has `options.port` places, 1 to 1,024. At most `options.backlog` messages are held
-    /// before it, up to 65,536. `options.moved` asks for moved entries too. Refused, the first that
-    /// fits: `BadPort`, `BadBacklog`, `NoSlot` where 64 are open, `Exhausted` where the openings
-    /// have reached the volume's limit on changes, `NoMemory`. A refused opening changes no slot
-    /// and isn't counted.
+    /// before it, up to 65,536. `options.flags` says which messages there are beside created and
+    /// removed ones. Refused, the first that fits: `BadPort`, `BadBacklog`, `NoSlot` where 64 are
+    /// open, `Exhausted` where the openings have reached the volume's limit on changes, `NoMemory`.
+    /// A refused opening changes no slot and isn't counted.
     pub fn open(
         &mut self,
         board: &Board<Identity>,
@@ -188,7 +188,7 @@ impl<N: Named> ServerState<N> {
         ensures seats { self.new.seats ≡ self.old.seats }
         ensures later { Extends seat.new.book seat.old.book }
         ensures opened { IfOk result (λ o.
-            IsOpened o N.board seat.new.book predicate.now options.now.moved
+            IsOpened o N.board seat.new.book predicate.now options.now.flags
             options.now.port options.now.backlog) }
         ensures counted { OnOk result (self.new.slots.openings ≡ self.old.slots.openings + 1) }
         ensures err { OnErr result (SameButKnown self.old.slots self.new.slots) }

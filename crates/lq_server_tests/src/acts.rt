@@ -1,6 +1,6 @@
 //! The calls in the tables of the scenarios, and the answers that are expected.
 use crate::random_changes::{DrawnOpening, Draws, numbered};
-use lq_update::Cause;
+use lq_update::{Cause, OpenOptions};
 use lq_value::{AttrName, Entry, Kind, Name, Refusal, Value};
 use lq_volume::Change;
 use std::alloc::Global;
@@ -156,12 +156,8 @@ pub fn opening(draws: &mut Draws, act: &Act) -> Option<DrawnOpening> {
         Act::OpenDrawn => return Some(draws.opening()),
         _ => return None,
     };
-    Some(DrawnOpening {
-        query,
-        port,
-        backlog,
-        moved,
-    })
+    let options = OpenOptions::without_values(port, backlog, moved);
+    Some(DrawnOpening { query, options })
 }
 
 /// A change that makes an empty file of this name in the root.

@@ -1,6 +1,7 @@
 //! Changes, openings and numbers drawn from a seed.
 ghost use Rattle.std.specs.Prelude.{◌<◌};
 
+use lq_update::{Flags, OpenOptions};
 use lq_value::{AttrName, Kind, Name, Refusal, Value};
 use lq_volume::Change;
 use std::alloc::Global;
@@ -9,9 +10,7 @@ use std::alloc::Global;
 #[derive(Clone, Copy)]
 pub struct DrawnOpening {
     pub query: &'static str,
-    pub port: u64,
-    pub backlog: u64,
-    pub moved: bool,
+    pub options: OpenOptions,
 }
 
 /// The queries that are compared with the reference, of which all but the last are drawn.
@@ -50,9 +49,14 @@ impl Draws {
         let query = self.below(3) as usize;
         DrawnOpening {
             query: QUERIES.get(query).copied().unwrap_or(""),
-            port: self.below(9) + 1,
-            backlog: self.below(20),
-            moved: self.below(2) == 1,
+            options: OpenOptions {
+                port: self.below(9) + 1,
+                backlog: self.below(20),
+                flags: Flags {
+                    moved: self.below(2) == 1,
+                    values: self.below(2) == 1,
+                },
+            },
         }
     }
 

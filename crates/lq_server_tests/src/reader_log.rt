@@ -35,7 +35,7 @@ impl<N: Named> Model for ReaderLog<N> {
 }
 
 impl<N: Named> ReaderLog<N> {
-    /// As `Server::open`, of a query that is read from its text.
+    /// As `Server::open_by`, of a query that is read from its text.
     pub fn open<R: Wait>(
         rt: &R,
         alloc: Global,
@@ -48,19 +48,14 @@ impl<N: Named> ReaderLog<N> {
         ensures author { seat.new.author ≡ seat.old.author }
         ensures own { StaysOwn seat.old seat.new }
     {
-        let DrawnOpening {
-            query,
-            port,
-            backlog,
-            moved,
-        } = opening;
+        let DrawnOpening { query, options } = opening;
         let predicate = read(alloc, query)?;
         let from = server.latest(seat);
-        let reader = server.open(rt, seat, &predicate, port, backlog, moved)?;
+        let reader = server.open_by(rt, seat, &predicate, &options)?;
         let log = Log {
             alloc,
             query,
-            moved,
+            flags: options.flags,
             from,
             opened: reader.opened(),
             to: server.latest(seat),

@@ -1,11 +1,11 @@
 //! The messages that readers have to read: for each accepted change, the difference of two whole
-//! results.
+//! results, and the value that it writes within.
 use crate::acts::{Answer, Expected};
 use lq_desk_sub::Read;
 use lq_predicate::read;
 use lq_server::Accepted;
-use lq_update::{Mark, Message, Opcode};
-use lq_value::{Entry, Refusal};
+use lq_update::{Flags, Mark, Message, Opcode};
+use lq_value::{AttrName, Entry, Refusal};
 use lq_volume::{Change, Volume};
 use std::alloc::Global;
 use std::fmt::Debug;
@@ -37,7 +37,7 @@ enum Line {
 pub struct Log {
     pub alloc: Global,
     pub query: &'static str,
-    pub moved: bool,
+    pub flags: Flags,
     pub from: u64,
     pub opened: u64,
     pub to: u64,
@@ -104,12 +104,37 @@ pub fn results_of(alloc: Global, query: &str, taken: &[Taken]) -> Result<Vec<Vec
     Ok(results)
 }
 
-/// The entry of the same node in another result.
-fn other<'a>(entries: &'a [Entry], entry: &Entry) -> Option<&'a Entry> {
+/// The entry of a node in a result.
+fn entry_of(entries: &[Entry], node: u64) -> Option<&Entry> {
     let place = entries
-        .binary_search_by_key(&entry.node, |other| other.node)
+        .binary_search_by_key(&node, |other| other.node)
         .ok()?;
     entries.get(place)
+}
+
+/// The node of the value that a change writes, and the attribute, if it is one.
+fn value_of(change: &Change) -> Option<(u64, Option<&AttrName>)> {
+    match change {
+        Change::Write { node, .. } => Some((*node, None)),
+        Change::SetAttr { node, attr, .. } | Change::RemoveAttr { node, attr } => {
+            Some((*node, Some(attr)))
+        }
+        _ => None,
+    }
+}
+
+/// Whether a message tells of this attribute, or of the size and time.
+fn is_value(op: &Opcode, attribute: Option<&AttrName>) -> bool {
+    match (op, attribute) {
+        (Opcode::ValueChanged { attribute: None }, None) => true,
+        (
+            Opcode::ValueChanged {
+                attribute: Some(one),
+            },
+            Some(other),
+        ) => one == other,
+        _ => false,
+    }
 }
 
 /// Whether the entry has a message of this kind, where the other result has `other` for its node.
@@ -162,24 +187,26 @@ impl Log {
 
     /// Whether it began with the result at its opening, read exactly the messages up to its mark,
     /// and ended with the result there.
-    pub fn is_right(&self, results: &[Vec<Entry>]) -> Result<bool, Refusal> {
+    pub fn is_right(&self, taken: &[Taken], results: &[Vec<Entry>]) -> Result<bool, Refusal> {
         let Some(mark) = self.mark else {
             return Ok(false);
         };
         Ok(
             self.from <= self.opened
                 && self.opened <= self.to
-                && self.has_messages(results, mark)
+                && self.has_messages(taken, results, mark)
                 && self.is_result(results, self.opened, &self.begun)?
                 && self.is_result(results, mark.change, &self.ended)?,
         )
     }
 
     /// Whether it read exactly the messages of all changes between its opening and its mark.
-    fn has_messages(&self, results: &[Vec<Entry>], mark: Mark) -> bool {
+    fn has_messages(&self, taken: &[Taken], results: &[Vec<Entry>], mark: Mark) -> bool {
         let mut seen = 0;
         for before in self.opened..mark.change {
-            let Some(count) = self.count(results, before, seen) else {
+            let told = self.count(results, before, seen);
+            let Some(count) = told.and_then(|told| self.count_value(taken, results, before, told))
+            else {
                 return false;
             };
             seen = count;
@@ -208,8 +235,8 @@ impl Log {
     ) -> Option<usize> {
         let mut count = seen;
         for entry in entries {
-            let other = other(others, entry);
-            if is_line(line, self.moved, entry, other) {
+            let other = entry_of(others, entry.node);
+            if is_line(line, self.flags.moved, entry, other) {
                 let message = self.message(count, change)?;
                 if !is_message_of(message, line, entry, other) {
                     return None;
@@ -218,6 +245,32 @@ impl Log {
             }
         }
         Some(count)
+    }
+
+    /// How many there were with that of the value that the change after this one writes, if values
+    /// were asked for and its entry is in both results.
+    fn count_value(
+        &self,
+        taken: &[Taken],
+        results: &[Vec<Entry>],
+        before: u64,
+        seen: usize,
+    ) -> Option<usize> {
+        let change = before.saturating_add(1);
+        let one = taken.get(before as usize)?;
+        let Some((node, attribute)) = value_of(&one.change) else {
+            return Some(seen);
+        };
+        let was_in = entry_of(results.get(before as usize)?, node).is_some();
+        let Some(entry) = entry_of(results.get(change as usize)?, node) else {
+            return Some(seen);
+        };
+        if !self.flags.values || !was_in {
+            return Some(seen);
+        }
+        let message = self.message(seen, change)?;
+        let is_at = message.dir == entry.dir && message.name == entry.name && message.node == node;
+        (is_at && is_value(&message.op, attribute)).then_some(seen.saturating_add(1))
     }
 
     /// The message at this place, if it is of this change, has the next number, and is marked as

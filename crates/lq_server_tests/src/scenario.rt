@@ -64,7 +64,7 @@ impl Acted {
     fn are_right(&self, alloc: Global, query: &str) -> Result<bool, Refusal> {
         let results = results_of(alloc, query, &self.taken)?;
         for log in &self.logs {
-            if log.query == query && !log.is_right(&results)? {
+            if log.query == query && !log.is_right(&self.taken, &results)? {
                 return Ok(false);
             }
         }

@@ -3,7 +3,7 @@
 use crate::act::Act;
 use crate::plain_step::is_same;
 use lq_predicate::{Predicate, read};
-use lq_update::{Rebuild, step_planned};
+use lq_update::{Flags, Rebuild, step_planned};
 use lq_value::{Entry, Refusal};
 use lq_volume::{Change, Volume};
 use std::alloc::Global;
@@ -92,7 +92,8 @@ fn follow(
 ) -> Result<u32, Refusal> {
     let change = again!(act.change(alloc))?;
     let planned = volume.plan(&change)?;
-    let messages = again!(step_planned(alloc, predicate, &planned, u64::from(seq), true))?;
+    let flags = Flags::without_values(true);
+    let messages = again!(step_planned(alloc, predicate, &planned, u64::from(seq), flags))?;
     let mut next = seq;
     for message in &messages {
         again!(rebuild.apply(message))?;

@@ -4,7 +4,8 @@ ghost use Rattle.lq_volume.specs.Change.{IsLawful};
 use crate::act::{Act, Draws};
 use crate::plain_step;
 use lq_predicate::{Predicate, read};
-use lq_update::{Message, Opcode, matches_of, step, step_planned};
+use lq_update::{Flags, Message, Opcode, matches_of, step, step_by, step_planned};
+use lq_value::AttrName;
 use lq_volume::{Change, Planned, Volume};
 use std::alloc::Global;
 use std::test::Fail;
@@ -45,6 +46,14 @@ const FORMULAS: [&str; 5] = [
     "!(x>1)&&size<2",
 ];
 
+fn is_same_attribute(one: Option<&AttrName>, two: Option<&AttrName>) -> bool {
+    match (one, two) {
+        (Some(one), Some(two)) => one == two,
+        (None, None) => true,
+        _ => false,
+    }
+}
+
 fn is_same_op(a: &Opcode, b: &Opcode) -> bool {
     match (a, b) {
         (Opcode::Created, Opcode::Created) | (Opcode::Removed, Opcode::Removed) => true,
@@ -58,6 +67,9 @@ fn is_same_op(a: &Opcode, b: &Opcode) -> bool {
                 from_name: name,
             },
         ) => from_dir == dir && from_name == name,
+        (Opcode::ValueChanged { attribute: one }, Opcode::ValueChanged { attribute: two }) => {
+            is_same_attribute(one.as_ref(), two.as_ref())
+        }
         _ => false,
     }
 }
@@ -72,9 +84,55 @@ fn are_same(one: &[Message], other: &[Message]) -> bool {
 }
 
 /// Whether `may_have_messages` says no just where there is no message and nothing is clobbered.
-fn is_foreseen(predicate: &Predicate, planned: &Planned<'_>, plain: &[Message]) -> bool {
+fn is_foreseen(
+    predicate: &Predicate,
+    planned: &Planned<'_>,
+    flags: Flags,
+    plain: &[Message],
+) -> bool {
     let is_quiet = plain.is_empty() && planned.clobbered().is_none();
-    matches_of(predicate, planned).may_have_messages() != is_quiet
+    matches_of(predicate, planned).may_have_messages(flags) != is_quiet
+}
+
+/// The message of the value that a change writes, where its entry is in the result before the
+/// change and after it: found by whole results.
+fn plain_value(
+    alloc: Global,
+    predicate: &Predicate,
+    volume: &Volume,
+    change: &Change,
+) -> Result<Vec<Message>, Fail>
+    requires { IsLawful volume.now change.now }
+{
+    let mut messages = Vec::new(alloc);
+    let (node, attribute) = match change {
+        Change::Write { node, .. } => (*node, None),
+        Change::SetAttr { node, attr, .. } | Change::RemoveAttr { node, attr } => {
+            (*node, Some(attr.copy(alloc)?))
+        }
+        _ => return Ok(messages),
+    };
+    let mut after = volume.copy()?;
+    after.apply(change)?;
+    let is_before = volume
+        .fetch(predicate)?
+        .iter()
+        .any(|entry| entry.node == node);
+    for entry in after.fetch(predicate)? {
+        if is_before && entry.node == node {
+            messages.push(Message {
+                seq: 7,
+                change: after.changes(),
+                last: true,
+                op: Opcode::ValueChanged { attribute },
+                dir: entry.dir,
+                name: entry.name,
+                node,
+            })?;
+            return Ok(messages);
+        }
+    }
+    Ok(messages)
 }
 
 /// How many messages a change has for a predicate; an error where the two bodies differ.
@@ -83,30 +141,44 @@ fn compare(
     predicate: &Predicate,
     volume: &Volume,
     change: &Change,
-    moved: bool,
+    flags: Flags,
 ) -> Result<u64, Fail>
     requires { IsLawful volume.now change.now }
 {
     let planned = volume.plan(change)?;
-    let fast = step_planned(alloc, predicate, &planned, 7, moved)?;
-    let plain = plain_step::step(alloc, predicate, volume, change, 7, moved)?;
-    if !are_same(&fast, &plain) || !is_foreseen(predicate, &planned, &plain) {
+    let fast = step_planned(alloc, predicate, &planned, 7, flags)?;
+    let mut plain = plain_step::step(alloc, predicate, volume, change, 7, flags.moved)?;
+    if flags.values && plain.is_empty() {
+        plain = plain_value(alloc, predicate, volume, change)?;
+    }
+    if !are_same(&fast, &plain) || !is_foreseen(predicate, &planned, flags, &plain) {
         return Err(Fail::from("the bodies differ"));
     }
-    Ok(step(alloc, predicate, volume, change, 7, moved)?.len() as u64)
+    if !flags.values {
+        let promised = step(alloc, predicate, volume, change, 7, flags.moved)?;
+        return Ok(promised.len() as u64);
+    }
+    Ok(step_by(alloc, predicate, volume, change, 7, flags)?.len() as u64)
 }
 
-/// How many messages an act has for a predicate, with moved messages and without, if it is
-/// accepted; then it is made.
+fn flags(moved: bool, values: bool) -> Flags {
+    Flags { moved, values }
+}
+
+/// How many messages an act has for a predicate with each of the flags, if it is accepted; then it
+/// is made.
 fn make(alloc: Global, predicate: &Predicate, volume: &mut Volume, act: &Act) -> Result<u64, Fail> {
     let change = act.change(alloc)?;
     if volume.check(&change).is_err() {
         return Ok(0);
     }
-    let plainly = compare(alloc, predicate, volume, &change, false)?;
-    let with_moved = compare(alloc, predicate, volume, &change, true)?;
+    let plain = compare(alloc, predicate, volume, &change, flags(false, false))?;
+    let moves = compare(alloc, predicate, volume, &change, flags(true, false))?;
+    let values = compare(alloc, predicate, volume, &change, flags(false, true))?;
+    let both = compare(alloc, predicate, volume, &change, flags(true, true))?;
     volume.apply(&change)?;
-    Ok(plainly.saturating_add(with_moved))
+    let told = plain.saturating_add(moves);
+    Ok(told.saturating_add(values).saturating_add(both))
 }
 
 /// Makes the examples, each in a new volume.

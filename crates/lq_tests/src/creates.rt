@@ -1,7 +1,7 @@
 //! Creations that send no message to a query that needs an attribute.
 use crate::act::creation;
 use lq_predicate::{needs_attribute, read};
-use lq_update::step_planned;
+use lq_update::{Flags, step_planned};
 use lq_value::{Kind, Refusal};
 use lq_volume::Volume;
 use std::alloc::Global;
@@ -25,7 +25,11 @@ fn asked(alloc: Global, formula: &str) -> Result<(bool, usize), Refusal> {
     let volume = Volume::new(alloc, 9);
     let change = creation(alloc, 1, "a", Kind::File, (5, 0))?;
     let planned = volume.plan(&change)?;
-    let messages = step_planned(alloc, &predicate, &planned, 1, false)?;
+    let flags = Flags {
+        moved: true,
+        values: true,
+    };
+    let messages = step_planned(alloc, &predicate, &planned, 1, flags)?;
     Ok((needs_attribute(&predicate), messages.len()))
 }
 

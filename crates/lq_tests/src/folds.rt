@@ -62,6 +62,35 @@ fn an_indexed_rebuild_keeps_its_entries(rt: HostRuntime) -> Result<(), Fail> {
     Ok(())
 }
 
+// A message of a write to the file.
+fn written(alloc: Global, seq: u64, change: u64) -> Result<Message, Refusal> {
+    message(
+        alloc,
+        (seq, change),
+        true,
+        Opcode::ValueChanged { attribute: None },
+    )
+}
+
+#[test]
+fn a_message_of_a_value_leaves_the_entries(rt: HostRuntime) -> Result<(), Fail> {
+    let alloc = rt.alloc();
+    let mut rebuild = Rebuild::new(alloc, 0, Vec::new(alloc));
+    let mut indexed = IndexedRebuild::new(alloc, 0, &[])?;
+    let early = written(alloc, 1, 1)?;
+    assert!(rt; rebuild.apply(&early).err() == Some(Refusal::Mismatch));
+    assert!(rt; indexed.apply(&early).err() == Some(Refusal::Mismatch));
+    let created = message(alloc, (1, 1), true, Opcode::Created)?;
+    rebuild.apply(&created)?;
+    indexed.apply(&created)?;
+    let write = written(alloc, 2, 5)?;
+    rebuild.apply(&write)?;
+    indexed.apply(&write)?;
+    assert!(rt; is_kept(rebuild.result()) && rebuild.last_change() == 5);
+    assert!(rt; is_kept(&indexed.entries()?) && indexed.last_change() == 5);
+    Ok(())
+}
+
 // The canonical text of `a<=` and a number, which is pushed as one of 64 bits or of 32.
 fn at_most(alloc: Global, is_wide: bool) -> Result<String, Refusal> {
     let mut stack = Stack::new(alloc);
@@ -113,7 +142,7 @@ fn is_told(message: &Message, numbers: (u64, u64), name: &str, comes: bool) -> b
     let is_right = match &message.op {
         Opcode::Created => comes,
         Opcode::Removed => !comes,
-        Opcode::Moved { .. } => false,
+        Opcode::Moved { .. } | Opcode::ValueChanged { .. } => false,
     };
     is_right
         && message.change == 3

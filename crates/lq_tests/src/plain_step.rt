@@ -7,6 +7,7 @@ ghost use Rattle.lq_volume.specs.Change.{after, IsLawful};
 ghost use Rattle.lq_volume.specs.Result.{result_of};
 ghost use Rattle.lq_update.specs.declared.message.Opcode.TheVariants.{Created, Moved, Removed};
 ghost use Rattle.lq_update.specs.Diff.{as_moved, is_move, missing, messages_of, same_entry, with_moves};
+ghost use Rattle.lq_update.specs.Options.{no_values};
 ghost use Rattle.lq_update.specs.Updates.{numbered, step_of};
 
 use lq_predicate::Predicate;
@@ -32,7 +33,8 @@ pub fn step(
     requires room { first_seq + 2 < 2 ^ 64 }
     ensures refused { FailsOnlyForMemory result }
     ensures messages { IfOk result (λ messages.
-        messages.items ≡ step_of predicate.now moved before.now change.now first_seq) }
+        messages.items ≡ step_of predicate.now (no_values moved) before.now change.now
+        first_seq) }
     ensures few { IfOk result (λ messages. vec_len messages ≤ 3) }
 {
     steps_are_few();
@@ -235,6 +237,12 @@ fn copy_of_opcode(alloc: Global, op: &Opcode) -> Result<Opcode, Refusal>
         } => Opcode::Moved {
             from_dir: *from_dir,
             from_name: from_name.copy(alloc)?,
+        },
+        Opcode::ValueChanged { attribute: None } => Opcode::ValueChanged { attribute: None },
+        Opcode::ValueChanged {
+            attribute: Some(attribute),
+        } => Opcode::ValueChanged {
+            attribute: Some(attribute.copy(alloc)?),
         },
     })
 }

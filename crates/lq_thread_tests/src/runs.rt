@@ -55,7 +55,8 @@ const SLOT_BY_SLOT_READ: &str = concat!(
 );
 
 // Each kind of line, with reads of several slots, one that is free, and an empty line among them.
-const MIXED: &str = r#"{"do":"open","query":"name=*","port":1,"backlog":2,"moved":true}
+const MIXED: &str =
+    r#"{"do":"open","query":"name=*","port":1,"backlog":8,"moved":true,"values":true}
 {"do":"open","query":"size>0","port":1,"backlog":1}
 {"do":"create","name":"a","size":1}
 {"do":"create","name":"b","size":2}

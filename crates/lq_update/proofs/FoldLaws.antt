@@ -1,6 +1,6 @@
 -- Folding an update list gives a result, and no message of one fails to fit.
-use Rattle.std.proofs.Common.{◌≡◌, ℕ, suc, zero, ◌+◌, ◌-◌, ◌<◌, ◌≤◌, List, [], ◌∷◌, ◌++◌, length, take, drop, refl, sym, ap, ◌∙◌, Bool, true, false, arith, inl, inr}
-use Rattle.std.specs.Prelude.{map, filter, ◌==◌, nat_eq, cond, Some, None, option_and_then}
+use Rattle.std.proofs.Common.{◌≡◌, ℕ, suc, zero, ◌+◌, ◌-◌, ◌<◌, ◌≤◌, List, [], ◌∷◌, ◌++◌, length, take, drop, refl, sym, ap, subst, ◌∙◌, Bool, true, false, arith, inl, inr}
+use Rattle.std.specs.Prelude.{map, filter, ◌==◌, nat_eq, cond, Option, Some, None, option_and_then, if◌then◌else◌}
 use Rattle.std.specs.Map.{lookup}
 use Rattle.std.proofs.lemmas.Bool.{cases_eq}
 use Rattle.std.specs.List.{AllByRecursion}
@@ -12,18 +12,21 @@ use Rattle.lq_predicate.specs.Query.{Query}
 use Rattle.lq_predicate.specs.Truth.{truth}
 use Rattle.lq_volume.specs.declared.change.Change.{Change}
 use Rattle.lq_volume.specs.State.{State, Record, Rises, IsVolume}
-use Rattle.lq_volume.specs.Change.{after}
+use Rattle.lq_volume.specs.Change.{after, node_of}
 use Rattle.lq_volume.specs.Book.{Book, number_of, after_all, state_at, changes_between, AreLawful, IsBook}
 use Rattle.lq_volume.specs.Result.{result_of, match_at, entry_of, shown}
 use Rattle.lq_volume.specs.Laws.{ChangesKeepTrees, ChangesCount}
 use Rattle.lq_update.specs.declared.message.Message.{Message}
+use Rattle.lq_update.specs.declared.open_options.Flags.{Flags}
+use Rattle.lq_update.specs.declared.message.Opcode.TheVariants.{ValueChanged}
 use Rattle.lq_update.specs.Diff.{diff}
-use Rattle.lq_update.specs.Updates.{step_of, updates_from, updates_of}
+use Rattle.lq_update.specs.Values.{told_within, value_written, values_told}
+use Rattle.lq_update.specs.Updates.{step_of, told_by, updates_from, updates_of}
 use Rattle.lq_update.specs.Fold.{EntriesRise, folded, folded_one, fits_in}
 use Rattle.lq_update.specs.Laws.{ResultsRise, WholeFoldsGiveResults, MessagesFitIn}
 use Rattle.lq_update.proofs.Lists.{after_all-append}
-use Rattle.lq_update.proofs.EntryLemmas.{Above, entry_at, at-above}
-use Rattle.lq_update.proofs.FoldLemmas.{told-folds, told-fits, MessagesFit, Leads, leads-append, leads-numbered}
+use Rattle.lq_update.proofs.EntryLemmas.{Above, entry_at, at-above, at-node}
+use Rattle.lq_update.proofs.FoldLemmas.{Op, OpsFit, ops_folded, ops_folded-append, fit-append, fits-needs, told-folds, told-fits, MessagesFit, Leads, leads-append, leads-numbered}
 
 -- ---- results rise by node
 
@@ -82,24 +85,54 @@ at-result q s n v = at-records (λ e. truth q (shown e.1)) n s.records v.numbere
 
 -- ---- changes
 
+-- the message of a value fits a set that has its entry, and leaves the set as it is
+within-fits : (r : List Entry) (n : ℕ) (w : Option (Option (List ℕ))) (o p : Option Entry)
+    → EntriesRise r → entry_at n r ≡ p
+    → OpsFit r (told_within w o p) × (ops_folded r (told_within w o p) ≡ r)
+within-fits r n None o p h is = (tt, refl)
+within-fits r n (Some a) None p h is = (tt, refl)
+within-fits r n (Some a) (Some e) None h is = (tt, refl)
+within-fits r n (Some a) (Some e) (Some f) h is =
+    ((fits-needs (ValueChanged a) f r h (ap (λ k. entry_at k r) (at-node n r f is) ∙ is), tt), refl)
+
+-- and so do the messages of values, where they are asked for
+values-fit : (q : Query) (b : Bool) (s : State) (c : Change) → IsVolume (after s c)
+    → OpsFit (result_of q (after s c)) (if b then values_told q s c else [])
+    × (ops_folded (result_of q (after s c)) (if b then values_told q s c else [])
+    ≡ result_of q (after s c))
+values-fit q false s c w = (tt, refl)
+values-fit q true s c w =
+    within-fits (result_of q (after s c)) (node_of s c) (value_written c)
+    (match_at q s (node_of s c)) (match_at q (after s c) (node_of s c)) (results-rise q (after s c) w)
+    (at-result q (after s c) (node_of s c) w)
+
 -- the messages of one change lead from the result before to the result after
-pub leads-step : (q : Query) (moved : Bool) (s : State) (c : Change) (seq : ℕ) → IsVolume s
+pub leads-step : (q : Query) (flags : Flags) (s : State) (c : Change) (seq : ℕ) → IsVolume s
     → IsVolume (after s c)
-    → Leads (result_of q s) (step_of q moved s c seq) (result_of q (after s c))
-leads-step q moved s c seq v w = leads-numbered seq (s.number + 1) (result_of q s)
-    (diff q moved s (after s c)) (result_of q (after s c))
-    (told-fits moved _ _ (results-rise q s v) (results-rise q (after s c) w))
-    (told-folds moved _ _ (results-rise q s v) (results-rise q (after s c) w))
+    → Leads (result_of q s) (step_of q flags s c seq) (result_of q (after s c))
+leads-step q flags s c seq v w =
+    let t = after s c in
+    let moves : List Op = diff q flags.moved s t in
+    let values : List Op = if flags.values then values_told q s c else [] in
+    let folds : ops_folded (result_of q s) moves ≡ result_of q t =
+    told-folds flags.moved _ _ (results-rise q s v) (results-rise q t w) in
+    let fit = values-fit q flags.values s c w in
+    leads-numbered seq (s.number + 1) (result_of q s) (told_by q flags s c) (result_of q t)
+    (fit-append (result_of q s) moves values
+    (told-fits flags.moved _ _ (results-rise q s v) (results-rise q t w))
+    (subst (λ r. OpsFit r values) (sym folds) fit.0))
+    (ops_folded-append (result_of q s) moves values
+    ∙ (ap (λ r. ops_folded r values) folds ∙ fit.1))
 
 -- so do the messages of many changes, each of which keeps the tree
-leads-all : ChangesKeepTrees → (q : Query) (moved : Bool) (s : State) (cs : List Change) (seq : ℕ)
+leads-all : ChangesKeepTrees → (q : Query) (flags : Flags) (s : State) (cs : List Change) (seq : ℕ)
     → IsVolume s → AreLawful s cs
-    → Leads (result_of q s) (updates_from q moved s cs seq) (result_of q (after_all s cs))
-leads-all keep q moved s [] seq v l = record { fit = tt; folds = refl }
-leads-all keep q moved s (c ∷ cs) seq v l =
+    → Leads (result_of q s) (updates_from q flags s cs seq) (result_of q (after_all s cs))
+leads-all keep q flags s [] seq v l = record { fit = tt; folds = refl }
+leads-all keep q flags s (c ∷ cs) seq v l =
     let w = keep s c v l.0 in
-    leads-append (result_of q s) (step_of q moved s c seq) _ (result_of q (after s c)) _
-    (leads-step q moved s c seq v w) (leads-all keep q moved (after s c) cs _ w l.1)
+    leads-append (result_of q s) (step_of q flags s c seq) _ (result_of q (after s c)) _
+    (leads-step q flags s c seq v w) (leads-all keep q flags (after s c) cs _ w l.1)
 
 -- if messages fit, each of them fits what those before it leave
 fits-at : (r : List Entry) (front rest : List Message) (m : Message)
@@ -173,22 +206,22 @@ number-at count b m low high =
     omega arith
 
 -- the messages of an update list lead from the result at one number to that behind its changes
-leads-between : ChangesKeepTrees → (q : Query) (moved : Bool) (b : Book) (m n : ℕ)
-    → IsVolume b.start → IsBook b → Leads (result_of q (state_at b m)) (updates_of q moved b m n)
+leads-between : ChangesKeepTrees → (q : Query) (flags : Flags) (b : Book) (m n : ℕ)
+    → IsVolume b.start → IsBook b → Leads (result_of q (state_at b m)) (updates_of q flags b m n)
     (result_of q (after_all (state_at b m) (changes_between b m n)))
-leads-between keep q moved b m n v l =
-    leads-all keep q moved (state_at b m) (changes_between b m n) 1 (volume-at keep b m n v l)
+leads-between keep q flags b m n v l =
+    leads-all keep q flags (state_at b m) (changes_between b m n) 1 (volume-at keep b m n v l)
     (lawful-between keep b m n v l)
 
 -- folding a whole update list gives the result at its end
 pub whole-folds-give : ChangesKeepTrees → WholeFoldsGiveResults
-whole-folds-give keep q moved b m n v l low le =
+whole-folds-give keep q flags b m n v l low le =
     let end : m + (n - m) ≡ n = omega arith in
-    (leads-between keep q moved b m n v l).folds
+    (leads-between keep q flags b m n v l).folds
     ∙ (ap (result_of q) (state-on b m (n - m) low) ∙ ap (λ k. result_of q (state_at b k)) end)
 
 -- each message of an update list fits the fold of those before it
 pub messages-fit : ChangesKeepTrees → MessagesFitIn
-messages-fit keep q moved b m n front rest message v l is =
+messages-fit keep q flags b m n front rest message v l is =
     fits-at (result_of q (state_at b m)) front rest message
-    (rw is (leads-between keep q moved b m n v l).fit)
+    (rw is (leads-between keep q flags b m n v l).fit)

@@ -9,7 +9,7 @@ use Rattle.std.proofs.lemmas.Bool.Decides.{nat_tests}
 use Rattle.std.proofs.lemmas.Slice.Eq.{bytes_eq-Decides}
 use Rattle.lq_value.specs.declared.entry.Entry.{Entry}
 use Rattle.lq_update.specs.declared.message.Opcode.{Opcode}
-use Rattle.lq_update.specs.declared.message.Opcode.TheVariants.{Created, Removed, Moved}
+use Rattle.lq_update.specs.declared.message.Opcode.TheVariants.{Created, Removed, Moved, ValueChanged}
 use Rattle.lq_update.specs.declared.message.Message.{Message}
 use Rattle.lq_update.specs.Diff.{same_entry, missing, has_node, messages_of}
 use Rattle.lq_update.specs.Touched.{left, told_first, told_last}
@@ -25,12 +25,14 @@ abbrev pub needs : Opcode → Entry → Option Entry
 needs Created e = None
 needs Removed e = Some e
 needs (Moved dir name) e = Some (old_entry dir name e)
+needs (ValueChanged attribute) e = Some e
 
 -- what a message leaves at its node
 abbrev pub gives : Opcode → Entry → Option Entry
 gives Created e = Some e
 gives Removed e = None
 gives (Moved dir name) e = Some e
+gives (ValueChanged attribute) e = Some e
 
 -- a message fits where its node has what it needs
 pub fits-needs : (op : Opcode) (e : Entry) (r : List Entry) → EntriesRise r
@@ -39,6 +41,7 @@ fits-needs Created e r h is = rw (has_node-at e.node r, is) refl
 fits-needs Removed e r h is = has_entry-at e r h ∙ rw is (same-self e)
 fits-needs (Moved dir name) e r h is = has_entry-at (old_entry dir name e) r h
     ∙ rw is (same-self (old_entry dir name e))
+fits-needs (ValueChanged attribute) e r h is = has_entry-at e r h ∙ rw is (same-self e)
 
 -- a message that finds what it needs leaves nodes that rise
 pub rises-folded : (op : Opcode) (e : Entry) (r : List Entry) → EntriesRise r
@@ -47,6 +50,7 @@ rises-folded Created e r h is = rises-put_in e r h is
 rises-folded Removed e r h is = rises-filter _ r h
 rises-folded (Moved dir name) e r h is = rises-put_in e (taken_out (old_entry dir name e) r)
     (rises-filter _ r h) (at-taken_out r (old_entry dir name e) h is)
+rises-folded (ValueChanged attribute) e r h is = h
 
 -- another node has what it had
 at-others : (e : Entry) (n : ℕ) (r : List Entry) → EntriesRise r → (e.node ≡ n → ⊥)
@@ -68,6 +72,10 @@ at-folded (Moved dir name) e r h is n =
     let gone = at-taken_out r (old_entry dir name e) h is in
     let put = at-put_in e n (taken_out (old_entry dir name e) r) gone in
     grind (arith, nat_tests, at-others (old_entry dir name e) n r h)
+at-folded (ValueChanged attribute) e r h is n = elim (cases_eq e.node n) [
+  | inl same ↦ grind (arith, nat_tests)
+  | inr differs ↦ grind (arith, nat_tests)
+]
 
 -- ---- messages of rising nodes
 
@@ -225,7 +233,7 @@ alone-at true n es fs h = at-filter _ n es h ∙ at (entry_at n es) refl (entry_
 -- ---- at one node, of what left there and what came
 
 -- the removed message of a node, by what left there and what came
-abbrev removed_op : Bool → Option Entry → Option Entry → Option Op
+abbrev pub removed_op : Bool → Option Entry → Option Entry → Option Op
 removed_op moved old new = option_map (λ e. (Removed, e)) (told_first moved old new)
 
 -- from what the node had to what it has, by a removed message and what is told last
@@ -283,13 +291,13 @@ turns moved (Some e) (Some f) s = both (same_entry e f) refl
 -- ---- all of a difference
 
 -- a fold by two lists is one by the first and then one by the second
-ops_folded-append : (r : List Entry) (xs ys : List Op)
+pub ops_folded-append : (r : List Entry) (xs ys : List Op)
     → ops_folded r (xs ++ ys) ≡ ops_folded (ops_folded r xs) ys
 ops_folded-append r [] ys = refl
 ops_folded-append r (x ∷ xs) ys = ops_folded-append (folded_by x.0 x.1 r) xs ys
 
 -- messages fit where the first list fits, and the second fits what that leaves
-fit-append : (r : List Entry) (xs ys : List Op) → OpsFit r xs → OpsFit (ops_folded r xs) ys
+pub fit-append : (r : List Entry) (xs ys : List Op) → OpsFit r xs → OpsFit (ops_folded r xs) ys
     → OpsFit r (xs ++ ys)
 fit-append r [] ys p q = q
 fit-append r (x ∷ xs) ys p q = (p.0, fit-append (folded_by x.0 x.1 r) xs ys p.1 q)
@@ -307,11 +315,11 @@ same-nodes n es fs = at (entry_at n es) refl (entry_at n fs) refl
 -- of two lists of entries that rise
 module _ (moved : Bool) (es fs : List Entry) (h : EntriesRise es) (k : EntriesRise fs) where
   -- the removed messages of their difference
-  abbrev removed_ops : List Op
+  abbrev pub removed_ops : List Op
   removed_ops = map (λ e. (Removed, e)) (alone_if moved (missing es fs) (missing fs es))
 
   -- the messages of what came
-  abbrev came_ops : List Op
+  abbrev pub came_ops : List Op
   came_ops = map (λ f. (came_op moved (missing es fs) f, f)) (missing fs es)
 
   -- what left at a node
@@ -331,13 +339,13 @@ module _ (moved : Bool) (es fs : List Entry) (h : EntriesRise es) (k : EntriesRi
   came-rises = rises-filter _ fs k
 
   -- the removed message of a node is the one by what left there and what came
-  removed-at : (n : ℕ) → op_at n removed_ops ≡ removed_op moved (gone_at n) (came_at n)
+  pub removed-at : (n : ℕ) → op_at n removed_ops ≡ removed_op moved (gone_at n) (came_at n)
   removed-at n = op_at-map (λ _. Removed) n (alone_if moved (missing es fs) (missing fs es))
       ∙ ap (option_map (λ e. (Removed, e))) (alone-at moved n (missing es fs)
       (missing fs es) gone-rises ∙ rw (missing-at n es fs h k, missing-at n fs es k h) refl)
 
   -- and so is the one that is told last
-  came-at : (n : ℕ) → op_at n came_ops ≡ told_last moved (gone_at n) (came_at n)
+  pub came-at : (n : ℕ) → op_at n came_ops ≡ told_last moved (gone_at n) (came_at n)
   came-at n = op_at-map (came_op moved (missing es fs)) n (missing fs es)
       ∙ (came-told moved n (missing es fs) (missing fs es)
       ∙ rw (missing-at n es fs h k, missing-at n fs es k h) refl)

@@ -1,7 +1,8 @@
 -- Read in this order. Update lists: Lists. A set of entries: EntryLemmas, PlaceLemmas,
 -- LocationLemmas (in a map). Folding: ToldLemmas and FoldLemmas (one difference), FoldLaws (many
 -- changes), FollowLemmas and Taking (what a rebuild refuses, and settled fronts). What a change
--- tells: TouchedLemmas. Changes that tell nothing: PassingOver. Example has books.
+-- tells: TouchedLemmas. Changes that tell nothing: PassingOver. Messages of values: ValueLemmas and
+-- ValueLaws. Example has books.
 pub mod Lists
 pub mod ToldLemmas
 pub mod TouchedLemmas
@@ -13,4 +14,6 @@ pub mod FoldLaws
 pub mod FollowLemmas
 pub mod Taking
 pub mod PassingOver
+pub mod ValueLemmas
+pub mod ValueLaws
 mod Example

@@ -29,7 +29,7 @@ use Rattle.lq_update.specs.Touched.{is_match}
 use Rattle.lq_update.proofs.EntryLemmas.{entry_at, entries-same, rises-filter}
 use Rattle.lq_update.proofs.FoldLaws.{results-rise}
 use Rattle.lq_update.proofs.FoldLemmas.{missing-at}
-use Rattle.lq_update.proofs.TouchedLemmas.{TouchFew, left-same, told-unmatched}
+use Rattle.lq_update.proofs.TouchedLemmas.{TouchFew, left-same, step-plain, told-unmatched}
 
 -- another name of the predicate has the test's answer too
 same-name : (names : List (List ℕ)) (name other : List ℕ) → list_any (bytes_eq name) names ≡ true
@@ -133,7 +133,7 @@ changes-pass found q moved s (RemoveAttr node attr) names altered v by is off =
 -- ---- a write of numbers that stay beside those of the query
 
 -- what is looked up under an altered node
-lookup-altered : (node : ℕ) (f : Record → Record) (es : List (ℕ × Record))
+pub lookup-altered : (node : ℕ) (f : Record → Record) (es : List (ℕ × Record))
     → lookup (nat_eq node) (altered node f es) ≡ option_map f (lookup (nat_eq node) es)
 lookup-altered node f [] = refl
 lookup-altered node f (e ∷ es) = grind (arith, nat_tests, lookup-altered node f es)
@@ -210,7 +210,7 @@ match-numbers law q s c w are sizes times = by (record_at s (node_of s c)) refl 
 -- ---- a creation, where the query needs an attribute
 
 -- a new node has no record, and then the one that is put last
-created-last : (es : List (ℕ × Record)) (k : ℕ) (r : Record) → AllByRecursion (λ e. e.0 < k) es
+pub created-last : (es : List (ℕ × Record)) (k : ℕ) (r : Record) → AllByRecursion (λ e. e.0 < k) es
     → (lookup (nat_eq k) es ≡ None) × (lookup (nat_eq k) (es ++ (k, r) ∷ []) ≡ Some r)
 created-last [] k r below = grind (arith, nat_tests)
 created-last (e ∷ es) k r below =
@@ -224,10 +224,11 @@ shown-bare r bare name is = grind (arith, nat_tests)
 
 -- a creation tells nothing to a query that needs an attribute
 pub bare-creates : BareRowsFail → TouchFew → BareCreatesTellNothing
-bare-creates fail laws q moved s dir name kind size time seq v lawful needs =
+bare-creates fail laws q flags s dir name kind size time seq v lawful needs =
     let r : Record =
     record { dir = dir; name = name; kind = kind; size = size; time = time; attrs = [] } in
     let last = created-last s.records s.next r v.numbered.below in
-    told-unmatched laws q moved s (Create dir name kind size time) seq v lawful refl
+    step-plain q flags s (Create dir name kind size time) seq (inr refl)
+    ∙ told-unmatched laws q flags.moved s (Create dir name kind size time) seq v lawful refl
     (ap (is_match q) last.0)
     (ap (is_match q) last.1 ∙ fail q (shown r) needs (shown-bare r refl))

@@ -13,9 +13,9 @@ use Rattle.lq_volume.specs.Book.{Book, AreLawful, IsBook, after_all, number_of, 
 use Rattle.lq_volume.specs.Result.{result_of}
 use Rattle.lq_volume.specs.Laws.{ChangesKeepTrees, ChangesCount}
 use Rattle.lq_update.specs.declared.message.Message.{Message}
+use Rattle.lq_update.specs.declared.open_options.Flags.{Flags}
 use Rattle.lq_update.specs.declared.message.Opcode.{Opcode}
-use Rattle.lq_update.specs.Diff.{diff}
-use Rattle.lq_update.specs.Updates.{numbered, step_of, updates_from, updates_of}
+use Rattle.lq_update.specs.Updates.{numbered, step_of, told_by, updates_from, updates_of}
 use Rattle.lq_update.specs.Fold.{Folding, fits_in, fold_refusals, folding_after, folding_after_all, opened_at}
 use Rattle.lq_update.specs.Laws.{FoldingsFollow, FoldsGiveResults, RebuildsTakeAll, SettledIsTested}
 use Rattle.lq_update.proofs.FoldLemmas.{Leads}
@@ -138,24 +138,24 @@ module _ (result_at : ℕ → List Entry) where
 
   -- a fold that is ready takes the messages of many changes, each of which keeps the tree and
   -- counts one
-  takes-all : ChangesKeepTrees → ChangesCount → (q : Query) (moved : Bool) (f : Folding) (s : State)
-      (cs : List Change) (seq : ℕ) → IsVolume s → AreLawful s cs
+  takes-all : ChangesKeepTrees → ChangesCount → (q : Query) (flags : Flags) (f : Folding)
+      (s : State) (cs : List Change) (seq : ℕ) → IsVolume s → AreLawful s cs
       → ((j : ℕ) → j ≤ length cs
       → result_at (s.number + j) ≡ result_of q (after_all s (take j cs)))
-      → IsReady f seq s.number (result_of q s) → Takes f (updates_from q moved s cs seq)
-  takes-all keep count q moved f s [] seq v l gives ready = tt
-  takes-all keep count q moved f s (c ∷ cs) seq v l gives ready =
+      → IsReady f seq s.number (result_of q s) → Takes f (updates_from q flags s cs seq)
+  takes-all keep count q flags f s [] seq v l gives ready = tt
+  takes-all keep count q flags f s (c ∷ cs) seq v l gives ready =
       let w = keep s c v l.0 in
       let next : result_at (s.number + 1) ≡ result_of q (after s c) = gives 1 (omega arith) in
       let below = ready.told in
       let one = count s c in
-      let leads : Leads f.entries (step_of q moved s c seq) (result_at (s.number + 1)) =
-      rw (ready.entries, next) (leads-step q moved s c seq v w) in
-      let first = taken-numbered f seq (s.number + 1) (diff q moved s (after s c)) ready.next
+      let leads : Leads f.entries (step_of q flags s c seq) (result_at (s.number + 1)) =
+      rw (ready.entries, next) (leads-step q flags s c seq v w) in
+      let first = taken-numbered f seq (s.number + 1) (told_by q flags s c) ready.next
       ready.settled (omega arith) leads in
       let then = first.1 in
-      takes-append f (step_of q moved s c seq) _ first.0
-      (takes-all keep count q moved (folding_after_all f (step_of q moved s c seq)) (after s c) cs _
+      takes-append f (step_of q flags s c seq) _ first.0
+      (takes-all keep count q flags (folding_after_all f (step_of q flags s c seq)) (after s c) cs _
       w l.1
       (λ j le. ap result_at (let e : (after s c).number + j ≡ s.number + suc j = omega arith in e)
       ∙ gives (suc j) (omega arith))
@@ -167,15 +167,15 @@ module _ (result_at : ℕ → List Entry) where
       }))
 
 -- a fold from the opening's result takes an update list, and stands after each message
-takes-updates : ChangesKeepTrees → ChangesCount → (q : Query) (moved : Bool) (b : Book) (m n : ℕ)
+takes-updates : ChangesKeepTrees → ChangesCount → (q : Query) (flags : Flags) (b : Book) (m n : ℕ)
     → IsVolume b.start → IsBook b → b.start.number ≤ m → m ≤ number_of b
     → Takes (λ k. result_of q (state_at b k)) (opened_at m (result_of q (state_at b m)))
-    (updates_of q moved b m n)
-takes-updates keep count q moved b m n v l low high =
+    (updates_of q flags b m n)
+takes-updates keep count q flags b m n v l low high =
     let number = number-at count b m low high in
     let changes = drop (m - b.start.number) b.changes in
     let few = take-short (n - m) changes in
-    takes-all (λ k. result_of q (state_at b k)) keep count q moved
+    takes-all (λ k. result_of q (state_at b k)) keep count q flags
     (opened_at m (result_of q (state_at b m))) (state_at b m) (changes_between b m n) 1
     (volume-at keep b m n v l) (lawful-between keep b m n v l)
     (λ j le. ap (result_of q) (ap (λ k. state_at b (k + j)) number ∙ sym
@@ -185,17 +185,17 @@ takes-updates keep count q moved b m n v l low high =
 
 -- it refuses no message of it
 pub rebuilds-take : ChangesKeepTrees → ChangesCount → RebuildsTakeAll
-rebuilds-take keep count q moved b m n front rest message v l low high is =
+rebuilds-take keep count q flags b m n front rest message v l low high is =
     takes-at (λ k. result_of q (state_at b k)) (opened_at m (result_of q (state_at b m))) front rest
-    message (rw is (takes-updates keep count q moved b m n v l low high))
+    message (rw is (takes-updates keep count q flags b m n v l low high))
 
 -- folding a settled front of it gives the result after its last change
 pub folds-give : ChangesKeepTrees → ChangesCount → FoldsGiveResults
-folds-give keep count q moved b m n front v l low high (rest, is) settled =
+folds-give keep count q flags b m n front v l low high (rest, is) settled =
     let f = opened_at m (result_of q (state_at b m)) in
     let follow = foldings-follow f front in
     sym follow.0
     ∙ (stands-at (λ k. result_of q (state_at b k)) f front rest (λ _. refl)
-    (rw is (takes-updates keep count q moved b m n v l low high))
+    (rw is (takes-updates keep count q flags b m n v l low high))
     (follow.2 ∙ (settled-tested front).0 settled)
     ∙ ap (λ k. result_of q (state_at b k)) follow.1)

@@ -9,7 +9,7 @@ use Rattle.std.proofs.lemmas.List.{map-append}
 use Rattle.std.proofs.lemmas.List.Elements.{filter-append}
 use Rattle.lq_value.specs.declared.entry.Entry.{Entry}
 use Rattle.lq_update.specs.declared.message.Opcode.{Opcode}
-use Rattle.lq_update.specs.declared.message.Opcode.TheVariants.{Created, Removed, Moved}
+use Rattle.lq_update.specs.declared.message.Opcode.TheVariants.{Created, Removed, Moved, ValueChanged}
 use Rattle.lq_update.specs.Diff.{as_moved, has_node, is_move, messages_of, without_moves}
 use Rattle.lq_update.proofs.EntryLemmas.{entry_at}
 
@@ -81,6 +81,7 @@ find-none e [] = refl
 find-none e ((Removed, d) ∷ ms) = find-none e ms
 find-none e ((Created, d) ∷ ms) = find-none e ms
 find-none e ((Moved dir name, d) ∷ ms) = find-none e ms
+find-none e ((ValueChanged attribute, d) ∷ ms) = find-none e ms
 
 -- so it becomes no moved one
 removed-stay : (ms : List (Opcode × Entry)) (es : List Entry)

@@ -1,6 +1,6 @@
 -- What a change tells: of its own node, and of the node that a move takes away.
-use Rattle.std.proofs.Common.{◌≡◌, ◌≢◌, ℕ, suc, ◌+◌, ◌<◌, ◌≤◌, length, List, [], ◌∷◌, ◌++◌, refl, sym, arith, ap, ◌∙◌, Bool, true, false, inl, inr, append-nil}
-use Rattle.std.specs.Prelude.{nat_lt, map, cond, Option, Some, None, IfSome, option_and_then}
+use Rattle.std.proofs.Common.{◌≡◌, ◌≢◌, ℕ, suc, ◌+◌, ◌<◌, ◌≤◌, length, List, [], ◌∷◌, ◌++◌, refl, sym, arith, ap, ◌∙◌, Bool, true, false, ◌⊎◌, inl, inr, append-nil}
+use Rattle.std.specs.Prelude.{nat_lt, map, cond, Option, Some, None, IfSome, option_and_then, if◌then◌else◌}
 use Rattle.std.specs.Option.{option_map, option_map_or, option_to_list}
 use Rattle.std.specs.List.{AllByRecursion}
 use Rattle.std.proofs.lemmas.Bool.{cases_eq, cases_lt}
@@ -14,10 +14,13 @@ use Rattle.lq_volume.specs.Change.{after, clobbered, node_of, touched_by, IsLawf
 use Rattle.lq_volume.specs.Laws.{ChangesKeepTrees, ClobberedGo, UntouchedStay}
 use Rattle.lq_volume.specs.Result.{result_of, match_at, entry_if}
 use Rattle.lq_update.specs.declared.message.Opcode.{Opcode}
+use Rattle.lq_update.specs.declared.message.Message.{Message}
 use Rattle.lq_update.specs.declared.message.Opcode.TheVariants.{Created, Removed}
-use Rattle.lq_update.specs.Diff.{missing}
+use Rattle.lq_update.specs.Diff.{diff, missing}
 use Rattle.lq_update.specs.Fold.{EntriesRise}
 use Rattle.lq_update.specs.Touched.{is_match, left, left_at, told_first, told_last}
+use Rattle.lq_update.specs.declared.open_options.Flags.{Flags}
+use Rattle.lq_update.specs.Values.{values_told}
 use Rattle.lq_update.specs.Updates.{numbered, step_of}
 use Rattle.lq_update.proofs.EntryLemmas.{entry_at, at-above, above-lower, rises-filter, same-self}
 use Rattle.lq_update.proofs.FoldLaws.{results-rise, at-result}
@@ -91,7 +94,7 @@ map-option f None = refl
 map-option f (Some x) = refl
 
 -- a record that doesn't match isn't in the result
-match-unmatched : (q : Query) (n : ℕ) (o : Option Record) → is_match q o ≡ false
+pub match-unmatched : (q : Query) (n : ℕ) (o : Option Record) → is_match q o ≡ false
     → option_and_then (λ r. entry_if q (n, r)) o ≡ None
 match-unmatched q n None h = refl
 match-unmatched q n (Some r) h = rw h refl
@@ -136,6 +139,23 @@ length-numbered : (seq number : ℕ) (ys : List (Opcode × Entry))
     → length (numbered seq number ys) ≡ length ys
 length-numbered seq number [] = refl
 length-numbered seq number (y ∷ ys) = ap suc (length-numbered (seq + 1) number ys)
+
+-- the messages of what left, moved and came
+abbrev pub moves_of : Query → Bool → State → Change → ℕ → List Message
+moves_of q moved s c seq = numbered seq (s.number + 1) (diff q moved s (after s c))
+
+-- without messages of values these are all
+pub step-plain : (q : Query) (flags : Flags) (s : State) (c : Change) (seq : ℕ)
+    → (flags.values ≡ false) ⊎ (values_told q s c ≡ [])
+    → step_of q flags s c seq ≡ moves_of q flags.moved s c seq
+step-plain q flags s c seq plain =
+    ap (numbered seq (s.number + 1)) (none flags.values _ (values_told q s c) plain)
+  where
+    none : (b : Bool) (xs ys : List (Opcode × Entry)) → (b ≡ false) ⊎ (ys ≡ [])
+        → xs ++ (if b then ys else []) ≡ xs
+    none false xs ys h = append-nil xs
+    none true xs ys (inl h) = cc
+    none true xs ys (inr h) = rw h (append-nil xs)
 
 -- the laws by which a change touches its own node, and the one that it takes away
 abbrev pub TouchFew : Type 0
@@ -254,7 +274,7 @@ module _ (laws : TouchFew) (q : Query) (moved : Bool) (s : State) (c : Change) (
       → last ≡ told_last moved (gone_at (node_of s c)) (came_at (node_of s c))
       → number ≡ s.number + 1
       → numbered seq number (map (λ e. (Removed, e)) xs ++ option_to_list last)
-      ≡ step_of q moved s c seq
+      ≡ moves_of q moved s c seq
   told number xs last xs_is is number_is = rw (xs_is, is, number_is)
       (ap (numbered seq (s.number + 1)) (sym (messages-split moved gone come
       ∙ (λ i. map (λ e. (Removed, e)) (removed-is (clobbered s c) refl i) ++ last-is i))))
@@ -263,7 +283,7 @@ module _ (laws : TouchFew) (q : Query) (moved : Bool) (s : State) (c : Change) (
   pub told-left : (number : ℕ) (old : Option Entry) → number ≡ s.number + 1
       → gone_at (node_of s c) ≡ old → came_at (node_of s c) ≡ None → clobbered s c ≡ None
       → numbered seq number (map (λ e. (Removed, e)) (option_to_list old) ++ [])
-      ≡ step_of q moved s c seq
+      ≡ moves_of q moved s c seq
   told-left number old number_is left_is came_is none =
       told number (option_to_list old) None
       (rw (none, left_is, came_is) (ap option_to_list (sym (left-told moved old).0)))
@@ -272,7 +292,7 @@ module _ (laws : TouchFew) (q : Query) (moved : Bool) (s : State) (c : Change) (
   -- and where an entry came, and none left
   pub told-came : (number : ℕ) (e : Entry) → number ≡ s.number + 1
       → gone_at (node_of s c) ≡ None → came_at (node_of s c) ≡ Some e → clobbered s c ≡ None
-      → numbered seq number ((Created, e) ∷ []) ≡ step_of q moved s c seq
+      → numbered seq number ((Created, e) ∷ []) ≡ moves_of q moved s c seq
   told-came number e number_is left_is came_is none = told number [] (Some (Created, e))
       (rw (none, left_is, came_is) (ap option_to_list (sym (came-alone moved e).0)))
       (rw (left_is, came_is) (sym (came-alone moved e).1)) number_is
@@ -290,7 +310,7 @@ module _ (laws : TouchFew) (q : Query) (moved : Bool) (s : State) (c : Change) (
       → low ≡ option_map_or (λ e. nat_lt e.0 node) taken false
       → numbered seq number (map (λ e. (Removed, e)) (cond low (option_to_list other
       ++ option_to_list removed) (option_to_list removed ++ option_to_list other))
-      ++ option_to_list last) ≡ step_of q moved s c seq
+      ++ option_to_list last) ≡ moves_of q moved s c seq
   told-taken now taken number node removed last number_is node_is removed_is is taken_is there low
       other other_is low_is =
       told number _ last (rw (low_is, other_is, node_is, removed_is, ← taken_is)
@@ -300,15 +320,15 @@ module _ (laws : TouchFew) (q : Query) (moved : Bool) (s : State) (c : Change) (
   -- told
   pub told-unmatched : clobbered s c ≡ None
       → is_match q (record_at s (node_of s c)) ≡ false
-      → is_match q (record_at (after s c) (node_of s c)) ≡ false → step_of q moved s c seq ≡ []
+      → is_match q (record_at (after s c) (node_of s c)) ≡ false → moves_of q moved s c seq ≡ []
   told-unmatched none before now =
       let old = match-unmatched q (node_of s c) (record_at s (node_of s c)) before in
       let new = match-unmatched q (node_of s c) (record_at (after s c) (node_of s c)) now in
       sym (told-left (s.number + 1) None refl (rw old refl) (rw new refl) none)
 
-  -- at most three messages are told
-  pub few-touched : length (step_of q moved s c seq) ≤ 3
-  few-touched =
+  -- at most three are told
+  pub few-moves : length (moves_of q moved s c seq) ≤ 3
+  few-moves =
       rw (← told (s.number + 1) _ _ refl refl refl, length-numbered, length-append, length-map)
       (let first = few-removed q s (told_first moved (gone_at (node_of s c))
       (came_at (node_of s c))) (node_of s c) (clobbered s c) in

@@ -5,7 +5,7 @@ use Rattle.lq_value.specs.declared.entry.Entry.{Entry}
 use Rattle.lq_value.specs.declared.refusal.Refusal.{Refusal}
 use Rattle.lq_value.specs.declared.refusal.Refusal.TheVariants.{OutOfStep, Mismatch}
 use Rattle.lq_update.specs.declared.message.Opcode.{Opcode}
-use Rattle.lq_update.specs.declared.message.Opcode.TheVariants.{Created, Removed, Moved}
+use Rattle.lq_update.specs.declared.message.Opcode.TheVariants.{Created, Removed, Moved, ValueChanged}
 use Rattle.lq_update.specs.declared.message.Message.{Message}
 use Rattle.lq_update.specs.Diff.{same_entry, has_node}
 
@@ -31,17 +31,21 @@ has_entry e entries = list_any (same_entry e) entries
 abbrev pub old_entry : ℕ → List ℕ → Entry → Entry
 old_entry dir name e = record { dir = dir; name = name; node = e.node }
 
--- a removed message takes its triple out, a created one puts it in, a moved one does both
+-- a removed message takes its triple out, a created one puts it in, a moved one does both, and one
+-- of a value leaves the set as it is
 abbrev pub folded_by : Opcode → Entry → List Entry → List Entry
 folded_by Created e entries = put_in e entries
 folded_by Removed e entries = taken_out e entries
 folded_by (Moved dir name) e entries = put_in e (taken_out (old_entry dir name e) entries)
+folded_by (ValueChanged attribute) e entries = entries
 
--- what a message takes out is in the set; the node of a triple that is only put in isn't
+-- what a message takes out is in the set, and so is the triple whose value changed; the node of a
+-- triple that is only put in isn't
 abbrev pub fits_result : Opcode → Entry → List Entry → Bool
 fits_result Created e entries = not (has_node e.node entries)
 fits_result Removed e entries = has_entry e entries
 fits_result (Moved dir name) e entries = has_entry (old_entry dir name e) entries
+fits_result (ValueChanged attribute) e entries = has_entry e entries
 
 -- a message's triple, with the new place if it moved
 abbrev pub message_entry : Message → Entry

@@ -1,4 +1,6 @@
+pub mod Options
 pub mod Diff
+pub mod Values
 pub mod Updates
 pub mod Touched
 pub mod Fold

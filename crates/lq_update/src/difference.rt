@@ -1,24 +1,28 @@
 //! What a change takes from a query's result and brings into it at its own node.
-ghost use Rattle.std.specs.Prelude.{◌≡◌, ℕ, Bool, false, [], IfOk};
+ghost use Rattle.std.specs.Prelude.{◌≡◌, ℕ, ◌&&◌, false, [], IfOk, is_some};
 ghost use Rattle.std.specs.Option.{option_copied};
 ghost use Rattle.lq_value.specs.Refusal.{FailsOnlyForMemory};
 ghost use Rattle.lq_volume.specs.Change.{after, node_of};
 ghost use Rattle.lq_volume.specs.Laws.{ChangesKeepTrees, ClobberedGo, UntouchedStay};
 ghost use Rattle.lq_update.specs.Touched.{entry_at, left_at};
 ghost use Rattle.lq_update.specs.Updates.{step_of};
+ghost use Rattle.lq_update.specs.Values.{value_written};
 
 use crate::matches::Matches;
+use crate::open_options::Flags;
+use crate::values::writes_value;
 use lq_value::{Entry, Refusal};
 use lq_volume::{EntryRow, accepted_changes_keep_trees, clobbered_nodes_go, untouched_nodes_stay};
 use std::alloc::Global;
 
 impl<'s, 'a> Matches<'s, 'a> {
-    /// Whether the change may have messages for the query: if false, `put_step` puts none.
+    /// Whether the change may have messages for the query with these flags: if false, `put_step`
+    /// puts none.
     ///
     /// As the code says, it reads only the entries in the plan. It takes no memory.
     #[inline(always)]
-    pub fn may_have_messages(&self) -> bool
-        ensures { (moved : Bool) → (seq : ℕ) → result ≡ false → step_of self.now.predicate.now moved
+    pub fn may_have_messages(&self, flags: Flags) -> bool
+        ensures { (seq : ℕ) → result ≡ false → step_of self.now.predicate.now flags
             self.now.planned.now.before self.now.planned.now.change seq ≡ [] }
     {
         changes_touch_few();
@@ -30,8 +34,20 @@ impl<'s, 'a> Matches<'s, 'a> {
         if !self.matched_before {
             return false;
         }
+        if flags.values && self.tells_value() {
+            return true;
+        }
         let (left, came) = self.difference();
         left.is_some() || came.is_some()
+    }
+
+    // Whether the change writes a value of an entry that matches before and after.
+    #[inline(always)]
+    pub(crate) fn tells_value(&self) -> bool
+        ensures { result ≡ self.now.matched_before && self.now.matches_after
+            && is_some (value_written self.now.planned.now.change) }
+    {
+        self.matched_before && self.matches_after && writes_value(self.planned.change())
     }
 
     // What left the result at the change's own node, and what came into it there: nothing where the

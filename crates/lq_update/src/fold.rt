@@ -49,6 +49,12 @@ pub fn fold(alloc: Global, entries: &mut Vec<Entry>, message: &Message) -> Resul
             entries[index] = entry;
             Ok(())
         }
+        Opcode::ValueChanged { .. } => {
+            if index_with(entries, message.dir, &message.name, message.node).is_none() {
+                return Err(Refusal::Mismatch);
+            }
+            Ok(())
+        }
     }
 }
 

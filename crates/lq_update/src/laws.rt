@@ -1,5 +1,5 @@
 //! Laws of the update lists: each is the contract of a function that does nothing.
-ghost use Rattle.lq_update.specs.Laws.{BareCreatesTellNothing, ChangesAddSteps, ChangesPassOver, FoldingsFollow, FoldsGiveResults, MessagesFitIn, RebuildsTakeAll, ResultsRise, SettledIsTested, StepsAreFew, UpdatesArePrefixes, UpdatesBeginEmpty, UpdatesGrow, UpdatesJoin, UpdatesStay, WholeFoldsGiveResults};
+ghost use Rattle.lq_update.specs.Laws.{BareCreatesTellNothing, ChangesAddSteps, ChangesPassOver, FoldingsFollow, FoldsGiveResults, MessagesFitIn, RebuildsTakeAll, ResultsRise, SettledIsTested, StepsAreFew, UpdatesArePrefixes, UpdatesBeginEmpty, UpdatesGrow, UpdatesJoin, UpdatesStay, ValuesAreShown, ValuesAreTold, WholeFoldsGiveResults};
 
 use crate::difference::changes_touch_few;
 use lq_predicate::bare_rows_fail;
@@ -115,4 +115,25 @@ pub fn bare_creates_tell_nothing()
 {
     bare_rows_fail();
     changes_touch_few();
+}
+
+/// An update list with values tells each change within the result: where a node is in the result at
+/// two numbers and its size or time, or an attribute of it, differs between them, the messages
+/// between have a `ValueChanged` of that, or a removed message of the node and later a created one.
+pub fn values_are_told()
+    ensures { ValuesAreTold }
+{
+    accepted_changes_keep_trees();
+    untouched_nodes_stay();
+    clobbered_nodes_go();
+    changes_are_counted();
+    values_are_found();
+}
+
+/// The entry of a message of a value is in the result after its change, at the message's place.
+pub fn values_are_shown()
+    ensures { ValuesAreShown }
+{
+    accepted_changes_keep_trees();
+    changes_are_counted();
 }

@@ -21,19 +21,20 @@ mod open_options;
 mod parcel;
 mod rebuild;
 mod stepping;
+mod values;
 
 pub use indexed_rebuild::IndexedRebuild;
 pub use laws::{
     bare_creates_tell_nothing, changes_add_steps, changes_pass_over, foldings_follow,
     folds_give_results, messages_fit_in, rebuilds_take_all, results_rise, settled_is_tested,
     steps_are_few, updates_are_prefixes, updates_begin_empty, updates_grow, updates_join,
-    updates_stay, whole_folds_give_results,
+    updates_stay, values_are_shown, values_are_told, whole_folds_give_results,
 };
 pub use mark::{Cause, Mark};
 pub use matches::{Matches, matches_of};
 pub use message::{Message, Opcode};
 pub use number_writes::writes_cross_no_number;
-pub use open_options::OpenOptions;
+pub use open_options::{Flags, OpenOptions};
 pub use parcel::Parcel;
 pub use rebuild::Rebuild;
-pub use stepping::{MAX_STEP, step, step_planned};
+pub use stepping::{MAX_STEP, step, step_by, step_planned};

@@ -100,6 +100,12 @@ pub fn fold_into(
             locations.insert(message.node, location)?;
             Ok(())
         }
+        Opcode::ValueChanged { .. } => {
+            if !is_at(locations, message.dir, &message.name, message.node) {
+                return Err(Refusal::Mismatch);
+            }
+            Ok(())
+        }
     }
 }
 

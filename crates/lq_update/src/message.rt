@@ -1,5 +1,5 @@
 //! The messages of a live query, with the opcodes of B_QUERY_UPDATE.
-use lq_value::Name;
+use lq_value::{AttrName, Name};
 
 /// What a message says about an entry, by the opcodes of B_QUERY_UPDATE.
 #[derive(Debug, Drop)]
@@ -10,6 +10,10 @@ pub enum Opcode {
     Removed,
     /// B_ENTRY_MOVED: the entry was in the result at this place and is now in it at a new one.
     Moved { from_dir: u64, from_name: Name },
+    /// The entry was in the result and still is, at its place, and a value of it was written: this
+    /// attribute was set or removed (B_ATTR_CHANGED of a node monitor), or with none its size and
+    /// time were written (B_STAT_CHANGED).
+    ValueChanged { attribute: Option<AttrName> },
 }
 
 /// One update of a live query's result, as B_QUERY_UPDATE in The Be Book.

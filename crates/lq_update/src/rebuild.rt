@@ -88,13 +88,13 @@ impl Rebuild {
     }
 
     /// Takes the next message: a removed entry is taken out, a created one is put in, a moved one
-    /// gets its new place.
+    /// gets its new place; a message of a value leaves the entries as they are.
     ///
     /// Refused, the first that fits: `OutOfStep` where `seq` isn't one more than the latest (1 for
     /// the first), or `change` isn't above the latest message's although that was the last of its
-    /// change, or differs from it although that wasn't; `Mismatch` where a removed entry or a moved
-    /// one's old place isn't in the result, or a created entry's node is; `NoMemory`. A refused
-    /// message changes nothing.
+    /// change, or differs from it although that wasn't; `Mismatch` where a removed entry, a moved
+    /// one's old place or the entry of a value isn't in the result, or a created entry's node is;
+    /// `NoMemory`. A refused message changes nothing.
     pub fn apply(&mut self, message: &Message) -> Result<(), Refusal>
         ensures refused { IsRefusedBy result (first_refusal (fold_refusals self.old message.now)) }
         ensures ok { OnOk result (self.new ≡ folding_after self.old message.now) }

@@ -5,13 +5,18 @@ ghost use Rattle.std.specs.VecDeque.{deque_len, deque_capacity};
 ghost use Rattle.lq_value.specs.Refusal.{FailsOnlyForMemory};
 ghost use Rattle.lq_volume.specs.Change.{after, node_of, IsLawful};
 ghost use Rattle.lq_volume.specs.Result.{entry_if, entry_of};
+ghost use Rattle.lq_update.specs.Diff.{diff};
+ghost use Rattle.lq_update.specs.Options.{no_values};
 ghost use Rattle.lq_update.specs.Updates.{numbered, step_of};
+ghost use Rattle.lq_update.specs.Values.{values_told};
 ghost use Rattle.lq_update.specs.Touched.{entry_at, left_at};
 
 use crate::difference::{changes_touch_few, copied};
 use crate::matches::{Matches, matches_of};
 use crate::message::{Message, Opcode};
 use crate::message_list::{join, message, put_all};
+use crate::open_options::Flags;
+use crate::values::written_attribute;
 use lq_predicate::{Predicate, holds};
 use lq_value::{Entry, Refusal};
 use lq_volume::{Applied, Change, EntryRow, Planned, Volume};
@@ -27,8 +32,7 @@ pub const MAX_STEP: usize = 3;
 /// First the removed entries by rising node, then the moved, then the created ones. With `moved`,
 /// one moved message replaces a removed and a created one of the same node; else there is none.
 /// `change` is the number of this change, `seq` counts from `first_seq`, and `last` is true on the
-/// final message. Refused: `NoMemory`. It changes nothing. For a planned change call
-/// `step_planned`, which doesn't check the change again.
+/// final message. Refused: `NoMemory`. It changes nothing. `step_by` also gives messages of values.
 pub fn step(
     alloc: Global,
     predicate: &Predicate,
@@ -41,14 +45,45 @@ pub fn step(
     requires room { first_seq + 2 < 2 ^ 64 }
     ensures refused { FailsOnlyForMemory result }
     ensures messages { IfOk result (λ messages. messages.items
-        ≡ step_of predicate.now moved before.now change.now first_seq) }
+        ≡ step_of predicate.now (no_values moved) before.now change.now first_seq) }
+    ensures few { IfOk result (λ messages. vec_len messages ≤ 3) }
+{
+    step_by(
+        alloc,
+        predicate,
+        before,
+        change,
+        first_seq,
+        Flags::without_values(moved),
+    )
+}
+
+/// The messages of an accepted change for a query with these flags.
+///
+/// They are those of `step` with `flags.moved`. With `flags.values`, a write, or setting or
+/// removing an attribute, also gives one message `ValueChanged` of an entry that is in the result
+/// before and after it; then it is the only one. Refused: `NoMemory`. It changes nothing. For a planned change
+/// call `step_planned`, which doesn't check the change again.
+pub fn step_by(
+    alloc: Global,
+    predicate: &Predicate,
+    before: &Volume,
+    change: &Change,
+    first_seq: u64,
+    flags: Flags,
+) -> Result<Vec<Message>, Refusal>
+    requires lawful { IsLawful before.now change.now }
+    requires room { first_seq + 2 < 2 ^ 64 }
+    ensures refused { FailsOnlyForMemory result }
+    ensures messages { IfOk result (λ messages. messages.items
+        ≡ step_of predicate.now flags before.now change.now first_seq) }
     ensures few { IfOk result (λ messages. vec_len messages ≤ 3) }
 {
     let planned = before.plan(change)?;
-    step_planned(alloc, predicate, &planned, first_seq, moved)
+    step_planned(alloc, predicate, &planned, first_seq, flags)
 }
 
-/// The messages of a planned change for a query, as `step` gives them for the plan's volume and
+/// The messages of a planned change for a query, as `step_by` gives them for the plan's volume and
 /// change.
 ///
 /// As the code says, it reads only the entries in the plan, and takes memory only for its
@@ -59,17 +94,17 @@ pub fn step_planned(
     predicate: &Predicate,
     planned: &Planned<'_>,
     first_seq: u64,
-    moved: bool,
+    flags: Flags,
 ) -> Result<Vec<Message>, Refusal>
     requires room { first_seq + 2 < 2 ^ 64 }
     ensures refused { FailsOnlyForMemory result }
     ensures messages { IfOk result (λ messages. messages.items
-        ≡ step_of predicate.now moved planned.now.before planned.now.change first_seq) }
+        ≡ step_of predicate.now flags planned.now.before planned.now.change first_seq) }
     ensures few { IfOk result (λ messages. vec_len messages ≤ 3) }
 {
     let mut messages = VecDeque::with_capacity(alloc, MAX_STEP)?;
     let matches = matches_of(predicate, planned);
-    matches.put_step(alloc, first_seq, moved, &mut messages)?;
+    matches.put_step(alloc, first_seq, flags, &mut messages)?;
     Ok(messages.into_vec())
 }
 
@@ -85,14 +120,14 @@ impl<'s, 'a> Matches<'s, 'a> {
         &self,
         alloc: Global,
         first_seq: u64,
-        moved: bool,
+        flags: Flags,
         messages: &mut VecDeque<Message>,
     ) -> Result<(), Refusal>
         requires numbers { first_seq + 2 < 2 ^ 64 }
         requires room { deque_len messages.old + 3 ≤ deque_capacity messages.old }
         ensures refused { FailsOnlyForMemory result }
         ensures ok { OnOk result (messages.new.items ≡ messages.old.items ++ step_of
-            self.now.predicate.now moved self.now.planned.now.before self.now.planned.now.change
+            self.now.predicate.now flags self.now.planned.now.before self.now.planned.now.change
             first_seq) }
         ensures err { OnErr result (messages.new.items ≡ messages.old.items) }
         ensures few { deque_len messages.new ≤ deque_len messages.old + 3 }
@@ -108,8 +143,43 @@ impl<'s, 'a> Matches<'s, 'a> {
             (None, Some(came), None) => {
                 put_one(alloc, messages, Opcode::Created, came, made, first_seq)
             }
-            _ => self.put_joined(alloc, left, came, first_seq, moved, messages),
+            (None, None, None) => {
+                if flags.values {
+                    self.put_value(alloc, first_seq, messages)
+                } else {
+                    Ok(())
+                }
+            }
+            _ => self.put_joined(alloc, left, came, first_seq, flags.moved, messages),
         }
+    }
+
+    // Puts the message of the value that the change writes, if the entry matches before and after.
+    #[inline(never)]
+    fn put_value(
+        &self,
+        alloc: Global,
+        seq: u64,
+        messages: &mut VecDeque<Message>,
+    ) -> Result<(), Refusal>
+        requires { deque_len messages.old < deque_capacity messages.old }
+        ensures refused { FailsOnlyForMemory result }
+        ensures ok { OnOk result (messages.new.items ≡ messages.old.items ++ numbered seq
+            (self.now.planned.now.before.number + 1) (values_told self.now.predicate.now
+            self.now.planned.now.before self.now.planned.now.change)) }
+        ensures err { OnErr result (messages.new.items ≡ messages.old.items) }
+        ensures few { deque_len messages.new ≤ deque_len messages.old + 1 }
+        ensures capacity { deque_capacity messages.new ≡ deque_capacity messages.old }
+    {
+        if !self.tells_value() {
+            return Ok(());
+        }
+        let Some(view) = self.planned.entry_after() else {
+            return Ok(());
+        };
+        let attribute = written_attribute(alloc, self.planned.change())?;
+        let op = Opcode::ValueChanged { attribute };
+        put_one(alloc, messages, op, view, self.planned.applied(), seq)
     }
 
     // Puts the messages for what left and came at the change's own node, joined with those for the
@@ -138,9 +208,10 @@ impl<'s, 'a> Matches<'s, 'a> {
             self.now.planned.now.before
             (node_of self.now.planned.now.before self.now.planned.now.change) }
         ensures refused { FailsOnlyForMemory result }
-        ensures ok { OnOk result (messages.new.items ≡ messages.old.items ++ step_of
-            self.now.predicate.now moved self.now.planned.now.before self.now.planned.now.change
-            first_seq) }
+        ensures ok { OnOk result (messages.new.items ≡ messages.old.items ++ numbered first_seq
+            (self.now.planned.now.before.number + 1) (diff self.now.predicate.now moved
+            self.now.planned.now.before
+            (after self.now.planned.now.before self.now.planned.now.change))) }
         ensures err { OnErr result (messages.new.items ≡ messages.old.items) }
         ensures few { deque_len messages.new ≤ deque_len messages.old + 3 }
         ensures capacity { deque_capacity messages.new ≡ deque_capacity messages.old }

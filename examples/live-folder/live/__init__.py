@@ -3,7 +3,7 @@
     server    has `lq run` as a process in place of the package's library
     stream    sends changes to a relay, in place of lq
     check     compares lq with the disk
-    terminal  shows one window as lines of text: its messages, and nothing else
+    terminal  shows one window as lines of text: what its messages say, with sizes and dates as they change
 """
 import os, sys
 

@@ -70,8 +70,9 @@ class Lines(Server):
     def act(self, do, fields):
         return self.asked(do, fields)["node"]
 
-    def new_window(self, formula):
-        reply = self.asked("open", {"query": formula, "port": PORT, "backlog": BACKLOG, "moved": True})
+    def new_window(self, formula, values):
+        fields = {"query": formula, "port": PORT, "backlog": BACKLOG, "moved": True}
+        reply = self.asked("open", {**fields, "values": True} if values else fields)
         return LinesWindow(self, formula, reply["slot"], reply["result"])
 
     def close(self, window):
@@ -103,5 +104,5 @@ class LinesWindow(Window):
                 return
             if what != "B_QUERY_UPDATE":
                 raise Trouble(f"a window of {self.formula} has ended: {reply}", ENDED)
-            moved = {"from_dir": None, "from_name": None}
-            yield Message(**{**moved, **reply, "op": Opcode[reply["op"]]})
+            others = {"from_dir": None, "from_name": None, "attribute": reply.pop("attr", None)}
+            yield Message(**{**others, **reply, "op": Opcode[reply["op"]]})

@@ -74,6 +74,27 @@ class Words(Case):
         self.assertIn("the command failed with signal 9\n", out)
 
 
+class Values(Case):
+    """Sizes and dates that change within the result."""
+
+    def test_a_size_and_a_date(self):
+        self.write("a.txt", 9)
+        os.utime(self.path("a.txt"), (941000000, 941000000))
+        live = self.start(self.folder, "name==*.txt && size>5", TZ="UTC")
+        self.assertEqual(live.stdout.readline(), f"= {self.path('a.txt')}\n")
+        os.utime(self.path("a.txt"), (941000060, 941000060))
+        self.assertEqual(live.stdout.readline(), f"~ {self.path('a.txt')}: 9 bytes, 1999-10-27 04:54:20\n")
+        with open(self.path("a.txt"), "ab") as file:
+            file.write(b"more")
+        line = live.stdout.readline()
+        self.assertTrue(line.startswith(f"~ {self.path('a.txt')}: 13 bytes, 20"), line)
+        with open(self.path("a.txt"), "wb") as file:
+            file.write(b"less")
+        while line.startswith("~"):
+            line = live.stdout.readline()
+        self.assertEqual(line, f"- {self.path('a.txt')}\n")
+
+
 class Ends(Case):
     """What may end while live_folder runs."""
 

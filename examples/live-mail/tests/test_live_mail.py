@@ -1,6 +1,6 @@
 """Live mail folders over a Maildir in which mail comes and goes: what they show is what Python's mailbox finds. And the
 tutorial's folder is the program's."""
-import mailbox, os, re, shutil, subprocess, sys, tempfile, threading, time, unittest
+import json, mailbox, os, re, shutil, subprocess, sys, tempfile, threading, time, unittest
 
 sys.dont_write_bytecode = True
 HERE = os.path.dirname(os.path.dirname(os.path.realpath(__file__)))
@@ -69,7 +69,7 @@ class LiveMail(unittest.TestCase):
                     acts.start()
                 if told.startswith("-"):
                     shown[formula].remove(told[2:])
-                else:
+                elif not told.startswith("~"):  # which says a status alone
                     shown[formula].append(told[2:])
                 if (formula, told) == (LAST, "+ the last 1"):
                     self.last(2)
@@ -79,6 +79,36 @@ class LiveMail(unittest.TestCase):
             live.kill()
         acts.join()
         self.assert_shows(shown)
+
+    def test_statuses_follow(self):
+        """Ann's folder shows the status of each message, by its lines alone: also of those that stay in it."""
+        words = [f"{HERE}/live_mail.py", "-q", "--json", self.mail.maildir, [*FORMULAS][1], LAST]
+        shown, changed = {}, 0
+        acts = threading.Thread(target=self.acts)
+        with subprocess.Popen(words, stdout=subprocess.PIPE, text=True) as live:
+            timer = threading.Timer(SECONDS, live.kill)
+            timer.start()
+            for line in live.stdout:
+                row = json.loads(line)
+                if not acts.ident:
+                    acts.start()
+                if row["formula"] == LAST:
+                    if row["key"] == "the-last-2":
+                        break
+                    self.last(2)
+                elif row["change"] == "left":
+                    del shown[row["key"]]
+                else:
+                    shown[row["key"]] = row["status"]
+                    changed += row["change"] == "changed"
+            timer.cancel()
+            live.kill()
+        acts.join()
+        box = mailbox.Maildir(self.mail.maildir, create=False)
+        wanted = {key: "Read" if "S" in box[key].get_flags() else "New" for key in box.keys()
+                  if "<ann@" in box[key]["from"]}
+        self.assertEqual(shown, wanted)
+        self.assertGreater(changed, 10)
 
     def test_a_folder_is_rebuilt_after_an_overrun(self):
         with Volume() as volume:

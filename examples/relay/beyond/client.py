@@ -13,13 +13,18 @@ class Follower:
     the change of the last message. Where `is_settled`, `rows` is the query's result after that change. While nothing
     comes, `age` is how many seconds ago the relay gave a sign of life, and `lag` how many changes waited then.
 
+    With `has_values` the relay sends values too. `values` then has of each row, by its node, a dict of `size`,
+    `last_modified`, and each attribute that was set since the row came or this began. `at` is the number of changes at
+    which the latest of them were read. Where it is `change`, and `is_settled`, all are as of this change.
+
     It calls `opened` with itself and a line that says why, or None at first, `heard` with each message, and `told` with
     a line where the relay is silent or is back."""
 
-    def __init__(self, log, name, formula, opened=lambda *_: None, heard=lambda _: None, told=lambda _: None):
-        self.log, self.name, self.formula = log, name, formula
+    def __init__(self, log, name, formula, opened=lambda *_: None, heard=lambda _: None, told=lambda _: None,
+                 has_values=False):
+        self.log, self.name, self.formula, self.has_values = log, name, formula, has_values
         self.opened, self.heard, self.told = opened, heard, told
-        self.rows, self.pause = {}, Pause()
+        self.rows, self.values, self.at, self.pause = {}, {}, None, Pause()
         self.age, self.lag, self.is_silent = None, None, False
         self.beaten = self.looked = 0.0
 
@@ -39,6 +44,7 @@ class Follower:
         with reading(f"{self.log.key(self.stream)} {self.position.decode()}"):
             opening = json.loads(record[b"opening"])
             self.seq, self.change, self.rows = opening["seq"], opening["change"], rows_of(opening)
+            self.values, self.at = values_of(opening), opening.get("at")
         self.is_settled = True
         self.opened(self, why)
 
@@ -48,6 +54,8 @@ class Follower:
     def ask(self, **more):
         """Has the relay open the window. Returns its number."""
         position, end = self.log.end("opened"), time.monotonic() + SECONDS
+        if self.has_values:
+            more["values"] = "1"
         asked, = self.log.append("windows", [{"name": self.name, "query": self.formula, **more}])
         while time.monotonic() < end:
             for position, record in self.log.read({"opened": position}, PART, 1).get("opened", ()):
@@ -89,7 +97,7 @@ class Follower:
             return self.ended(json.loads(record[b"mark"])["cause"]), None
         if b"opening" in record:
             opening = json.loads(record[b"opening"])
-            if opening["seq"] == self.seq and rows_of(opening) != self.rows:
+            if opening["seq"] == self.seq and (rows_of(opening), values_of(opening)) != (self.rows, self.known()):
                 raise Trouble(f"the opening at {opening['change']} differs from the messages", ENDED)
             return None if opening["seq"] == self.seq else gap, None
         message = json.loads(record[b"message"])
@@ -100,7 +108,28 @@ class Follower:
             del self.rows[message["node"]]
         else:
             self.rows[message["node"]] = message["dir"], message["name"]
+        self.fold_values(message, record)
         return None, message
+
+    def fold_values(self, message, record):
+        """Folds the values beside a message. There are none of a row that has left the result, or the volume since."""
+        node = message["node"]
+        if message["op"] == "B_ENTRY_REMOVED":
+            self.values.pop(node, None)
+        if b"values" not in record:
+            return
+        found = json.loads(record[b"values"])
+        self.at, row = found["at"], self.values.setdefault(node, {})
+        row.update(size=found["size"], last_modified=found["time"])
+        attr, value = message.get("attr"), found.get("value")
+        if value is not None:
+            row[attr] = value
+        elif attr is not None:
+            row.pop(attr, None)  # it was removed, by this change or since
+
+    def known(self):
+        """The values that an opening has too."""
+        return {node: {name: row[name] for name in ("size", "last_modified")} for node, row in self.values.items()}
 
     def ended(self, cause):
         """A window ends with its last name. This client asks again where it was late with its signs of life."""
@@ -134,6 +163,12 @@ class Follower:
 
 def rows_of(opening):
     return {node: (dir, name) for dir, node, name in opening["result"]}
+
+
+def values_of(opening):
+    """The values of each row of an opening, if it has any."""
+    values = zip(opening["result"], opening.get("values", ()))
+    return {node: {"size": size, "last_modified": time} for (_, node, _), (size, time) in values}
 
 
 def follow(follower, turned=lambda: None):

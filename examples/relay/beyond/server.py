@@ -181,7 +181,8 @@ class Relay:
         """What a sign of life says."""
         names = collections.Counter(self.windows.names.values())
         windows = {it.number: {"query": it.formula, "opened": it.opened, "names": names[it.number], "seq": it.seq,
-                               "change": it.change} for it in self.windows.values()}
+                               "change": it.change, **({"values": True} if it.has_values else {})}
+                   for it in self.windows.values()}
         memory = 1024 * resource.getrusage(resource.RUSAGE_SELF).ru_maxrss
         return {"taken": self.taken, "change": self.change, "lag": self.log.lag(self.taken), "memory": memory,
                 "windows": to_json(windows)}

@@ -1,6 +1,8 @@
 """A live query, and the records that its clients read: openings, messages, and the mark."""
 import json
 
+from yazgoulm import B_ENTRY_REMOVED, NotFound
+
 from . import ENDED, Trouble
 
 CHANGES = 250  # changes of a turn; each sends a window at most three messages
@@ -18,11 +20,13 @@ class Window:
 
     A volume that was restored counts its changes from another number, and its query counts messages from 1: `shift` and
     `seq` are added. After `far` messages since the last opening a new one is written, so that the older may go. A
-    result whose opening `is_too_large` can't be served."""
+    result whose opening `is_too_large` can't be served. `has_values` says whether values that change within the result
+    have messages, and whether the values of the rows stand beside."""
 
-    def __init__(self, volume, number, formula, opened, shift, far, seq=0, latest=None):
+    def __init__(self, volume, number, formula, opened, shift, far, seq=0, latest=None, has_values=False):
+        self.volume, self.has_values = volume, has_values
         self.number, self.formula, self.opened = number, formula, opened
-        self.query = volume.open(formula, None, backlog=BACKLOG, moved=True, on_overrun="mark")
+        self.query = volume.open(formula, None, backlog=BACKLOG, moved=True, values=has_values, on_overrun="mark")
         self.shift, self.base, self.seq, self.latest = shift, seq, seq, latest
         self.change = self.query.at + shift
         self.far = self.since = far
@@ -44,15 +48,37 @@ class Window:
 
     def record(self, message):
         fields = {name: value for name, value in message._asdict().items() if value is not None}
+        if message.attribute is not None:
+            fields["attr"] = fields.pop("attribute")
         self.seq = fields["seq"] = message.seq + self.base
         self.change = fields["change"] = message.change + self.shift
         self.latest = to_json({**fields, "op": str(message.op), "what": "B_QUERY_UPDATE"})
-        return {"message": self.latest}
+        values = self.values(message)
+        return {"message": self.latest, **({"values": to_json(values)} if values else {})}
+
+    def values(self, message):
+        """The values of a message's row, and of its attribute, as the volume has them now: after all changes of a turn.
+        `at` is the number of changes then. None where nobody asked, or the row has left the result or the volume."""
+        if not self.has_values or message.op == B_ENTRY_REMOVED:
+            return None
+        try:
+            entry = self.volume.entry(message.node)
+        except NotFound:
+            return None
+        values = {"at": self.volume.changes + self.shift, "size": entry.size, "time": entry.time}
+        if message.attribute is None:
+            return values
+        attr = message.attribute
+        return {**values, "type": entry.types.get(attr), "value": entry.attributes.get(attr)}
 
     def opening(self):
         """The result as the messages so far make it, which is settled after all changes of a turn: one record."""
         self.since = 0
-        text = to_json({"change": self.change, "seq": self.seq, "result": self.query.result().entries})
+        fields = {"change": self.change, "seq": self.seq, "result": self.query.result().entries}
+        if self.has_values:
+            fields["at"] = self.volume.changes + self.shift
+            fields["values"] = [(it.size, it.time) for it in self.volume.fetch(self.formula)]
+        text = to_json(fields)
         self.is_too_large = len(text) > LARGEST
         return [] if self.is_too_large else [{"opening": text}]
 

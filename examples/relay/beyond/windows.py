@@ -18,17 +18,18 @@ class Windows(dict):
         super().__init__()
         self.volume, self.far, self.shift, self.names, self.last = volume, far, 0, {}, 0
 
-    def open(self, number, formula, opened, seq=0, latest=None):
-        self[number] = Window(self.volume, number, formula, opened, self.shift, self.far, seq, latest)
+    def open(self, number, formula, opened, seq=0, latest=None, has_values=False):
+        self[number] = Window(self.volume, number, formula, opened, self.shift, self.far, seq, latest, has_values)
         return self[number]
 
     def table(self):
-        """What a snapshot keeps of the windows."""
-        return [(it.number, it.formula, it.opened, it.seq, it.latest and it.latest.decode()) for it in self.values()]
+        """What a snapshot keeps of the windows: of those with values that they have them, at the end."""
+        return [(it.number, it.formula, it.opened, it.seq, it.latest and it.latest.decode(), *[True] * it.has_values)
+                for it in self.values()]
 
     def restore(self, last, table, names):
-        for number, formula, opened, seq, latest in table:
-            self.open(number, formula, opened, seq, latest and latest.encode())
+        for number, formula, opened, seq, latest, *has_values in table:
+            self.open(number, formula, opened, seq, latest and latest.encode(), bool(has_values))
         self.last, self.names = last, names
 
     def read(self, records):
@@ -46,7 +47,7 @@ class Windows(dict):
         if not formula:
             self.drop(name, CLOSED, change, records)
             return {}
-        window, reply = self.opened(formula, taken, records)
+        window, reply = self.opened(formula, b"values" in request, taken, records)
         if window is None:
             return reply
         if self.names.get(name) != window.number:
@@ -56,13 +57,13 @@ class Windows(dict):
             records += [(window.stream, record) for record in window.opening()]
         return reply
 
-    def opened(self, formula, taken, records):
+    def opened(self, formula, has_values, taken, records):
         """The window of a formula and the reply: the one that is open, or a new one, or None with a refusal."""
         for window in self.values():
-            if window.formula == formula:
+            if (window.formula, window.has_values) == (formula, has_values):
                 return window, {"window": window.number}
         try:
-            window = self.open(self.last + 1, formula, taken)
+            window = self.open(self.last + 1, formula, taken, has_values=has_values)
         except NoMemory:
             raise
         except BadQuery as fault:

@@ -125,6 +125,12 @@ class Reference:
     def rows(self, formula):
         return {it.node: (it.dir, it.name) for it in self.volume.fetch(formula)}
 
+    def values(self, formula):
+        return {it.node: (it.size, it.time) for it in self.volume.fetch(formula)}
+
+    def value(self, node, attr):
+        return self.volume.entry(node).attributes.get(attr)
+
 
 def settle(relay):
     """Lets a relay of this process take all that is there."""

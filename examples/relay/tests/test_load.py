@@ -87,7 +87,9 @@ class Load(Case):
     def run_load(self, it):
         self.lock = threading.Lock()
         asked = [*formulas(it.formulas)]
-        names = [(f"w{number}", asked[number % it.formulas]) for number in range(it.windows)]
+        of = [number % it.formulas for number in range(it.windows)]
+        # the windows of every second formula have values
+        names = [(f"w{number}", asked[formula], str(formula % 2)) for number, formula in enumerate(of)]
         self.asked = [names[number % it.windows] for number in range(it.clients)]
         self.start_relay()
         for group in range((it.clients + 9) // 10):
@@ -128,29 +130,58 @@ class Load(Case):
         windows = json.loads(self.log.life("windows")["windows"])
         self.wait_for_clients({it["query"]: self.last_change(number) for number, it in windows.items()})
         told = self.told()
-        wanted = collections.defaultdict(set)
-        for client, change, _ in told:
+        wanted, beside = collections.defaultdict(set), self.values_written(windows)
+        for client, change, *_ in told:
             wanted[change].add(self.asked[client][1])
-        reference, found = Reference(), {}
-        queries = {formula: reference.volume.open(formula, backlog=3, moved=True) for formula in asked}
+        reference, found, compared = Reference(), {}, 0
+        has_values = {formula: bool(number % 2) for number, formula in enumerate(asked)}
+        queries = {formula: reference.volume.open(formula, backlog=3, moved=True, values=has_values[formula])
+                   for formula in asked}
         written, changes = {formula: [] for formula in asked}, []
         for line, reply in zip([None, *lines], [None, *replies]):
             if line is not None:
                 self.assertEqual(reference.answer(line), reply)
             changes.append(reference.volume.changes)
             for formula in wanted.pop(changes[-1], ()):
-                found[changes[-1], formula] = digest(reference.rows(formula))
+                found[changes[-1], formula] = digest(reference.rows(formula)), digest(reference.values(formula))
+            for message, values in beside.pop(changes[-1], ()):
+                self.assert_values(reference, message, values)
+                compared += 1
             for formula, query in queries.items():
                 written[formula] += [(it.change, str(it.op), it.dir, it.node, it.name) for it in query]
-        wrong = [it for it in told if found[it[1], self.asked[it[0]][1]] != it[2]]
+        wrong = [it for it in told if found[it[1], self.asked[it[0]][1]][0] != it[2]]
         self.assertEqual(wrong, [])
+        with_values = [it for it in told if it[4]]
+        wrong = [it for it in with_values if found[it[1], self.asked[it[0]][1]][1] != it[3]]
+        self.assertEqual((wrong, dict(beside)), ([], {}))
         last = {client: it for client, *it in told}
         self.assertEqual(len(last), len(self.asked))
-        for client, (_, fold) in last.items():
-            self.assertEqual(fold, digest(reference.rows(self.asked[client][1])))
+        for client, (_, fold, values, _) in last.items():
+            _, formula, asks = self.asked[client]
+            self.assertEqual(fold, digest(reference.rows(formula)))
+            self.assertEqual(values, digest(reference.values(formula)) if asks == "1" else 0)
         self.compare_streams(written, changes)
-        print(f"{len(lines)} changes, {len(told)} folds of {len(last)} clients, {len(written)} formulas"
+        print(f"{len(lines)} changes, {len(told)} folds of {len(last)} clients, {len(with_values)} of them with values"
+              f", {compared} messages with values, {len(written)} formulas"
               f", {self.within} kills of Redis within a snapshot, {self.torn} within a command", flush=True)
+
+    def values_written(self, windows):
+        """What stands beside the messages that are kept, by the number of changes at which it was read."""
+        found = collections.defaultdict(list)
+        for number in windows:
+            for _, record in self.records(f"window:{number}"):
+                if b"values" in record:
+                    values = json.loads(record[b"values"])
+                    found[values["at"]].append((json.loads(record[b"message"]), values))
+        return found
+
+    def assert_values(self, reference, message, values):
+        """The values beside a message are those of the entry after so many changes."""
+        it = reference.volume.entry(message["node"])
+        wanted = {"at": reference.volume.changes, "size": it.size, "time": it.time}
+        if "attr" in message:
+            wanted.update(type=it.types.get(message["attr"]), value=it.attributes.get(message["attr"]))
+        self.assertEqual(values, wanted)
 
     def compare_streams(self, written, changes):
         """The messages that each window's stream keeps are the last ones of the reference, each once and in order."""
@@ -163,7 +194,7 @@ class Load(Case):
             self.assertEqual(found, expected[first:])
 
     def told(self):
-        """What the clients wrote: a client's number, a change, and a digest. A kill may leave a part of a line."""
+        """What the clients wrote (see clients.py). A kill may leave a part of a line."""
         with open(self.file, "a+", encoding="ascii") as file:
             file.seek(0)
             return [tuple(map(int, line.split())) for line in file if line.endswith("\n")]
@@ -172,8 +203,8 @@ class Load(Case):
         """Waits until each client has folded the window of its formula up to a change, also on a busy machine."""
         end = time.monotonic() + 4 * SECONDS
         while time.monotonic() < end:
-            last = {it: change for it, change, _ in self.told()}
-            late = [it for it, (_, formula) in enumerate(self.asked) if last.get(it, -1) < changes[formula]]
+            last = {it: change for it, change, *_ in self.told()}
+            late = [it for it, (_, formula, _) in enumerate(self.asked) if last.get(it, -1) < changes[formula]]
             if not late:
                 return
             time.sleep(0.1)
@@ -181,7 +212,7 @@ class Load(Case):
 
     def last_change(self, number):
         _, record = next(self.log.backwards(f"window:{number}"))
-        return json.loads(next(iter(record.values())))["change"]
+        return json.loads(record.get(b"message") or next(iter(record.values())))["change"]
 
     def test_many_clients(self):
         self.run_load(Size(200, 100, 40, 20_000) if IS_FULL else Size(40, 20, 12, 6000))

@@ -337,6 +337,92 @@ class Clients(Case):
         self.assert_same(ahead)
 
 
+class Values(Case):
+    """Windows with values, beside windows of the same formula without."""
+
+    def setUp(self):
+        super().setUp()
+        self.relay = Relay(self.log, EVERY)
+        self.relay.begin()
+
+    def done(self, *lines):
+        """Lines that are taken as one batch."""
+        self.send([json.dumps(line).encode() for line in lines])
+        settle(self.relay)
+
+    def test_values_beside_messages(self):
+        status = {"do": "set", "node": 2, "attr": "MAIL:status", "type": "CSTR", "value": "New"}
+        self.done({"do": "create", "name": "a", "size": 5}, {"do": "create", "name": "b", "size": 1})
+        self.log.append("windows", [{"name": "plain", "query": "size>1"},
+                                    {"name": "values", "query": "size>1", "values": "1"}])
+        settle(self.relay)
+        follower = Follower(self.new_log(), "values", "size>1", has_values=True)
+        follower.ask = lambda **_: 2
+        follower.begin()
+        self.assertEqual((follower.rows, follower.values), ({2: (1, "a")}, {2: {"size": 5, "last_modified": 0}}))
+        self.done({"do": "write", "node": 2, "size": 7, "time": 8}, status, {"do": "write", "node": 2, "size": 9})
+        follower.turn(0)
+        wanted = {2: {"size": 9, "last_modified": 0, "MAIL:status": "New"}}
+        self.assertEqual((follower.values, follower.at, follower.change), (wanted, 5, 5))
+        self.done({**status, "type": "ULLG", "value": 2**64 - 1}, {"do": "write", "node": 3, "size": 2})
+        follower.turn(0)
+        wanted[2]["MAIL:status"], wanted[3] = 2**64 - 1, {"size": 2, "last_modified": 0}
+        self.assertEqual((follower.values, follower.at), (wanted, 7))
+        self.done({"do": "unset", "node": 2, "attr": "MAIL:status"}, {"do": "write", "node": 3, "size": 8},
+                  {"do": "remove", "node": 3})
+        follower.turn(0)
+        self.assertEqual(follower.values, {2: {"size": 9, "last_modified": 0}})
+        found = [json.loads(record.get(b"values", b"null")) for _, record in self.records("window:2")
+                 if b"message" in record]
+        at_5 = {"at": 5, "size": 9, "time": 0}
+        self.assertEqual(found, [
+            at_5, {**at_5, "type": "CSTR", "value": "New"}, at_5,
+            {"at": 7, "size": 9, "time": 0, "type": "ULLG", "value": 2**64 - 1}, {"at": 7, "size": 2, "time": 0},
+            {"at": 10, "size": 9, "time": 0, "type": None, "value": None}, None, None])  # of an entry that has gone
+        ops = [(it["change"], it["op"], it["node"], it.get("attr")) for it in map(json.loads, self.messages(2))]
+        self.assertEqual(ops, [
+            (3, "B_STAT_CHANGED", 2, None), (4, "B_ATTR_CHANGED", 2, "MAIL:status"), (5, "B_STAT_CHANGED", 2, None),
+            (6, "B_ATTR_CHANGED", 2, "MAIL:status"), (7, "B_ENTRY_CREATED", 3, None),
+            (8, "B_ATTR_CHANGED", 2, "MAIL:status"), (9, "B_STAT_CHANGED", 3, None), (10, "B_ENTRY_REMOVED", 3, None)])
+
+    def test_records_without_values_are_as_they_were(self):
+        self.log.append("windows", [{"name": "plain", "query": "size>1"}])
+        settle(self.relay)
+        self.done({"do": "create", "name": "a", "size": 5}, {"do": "write", "node": 2, "size": 7},
+                  {"do": "set", "node": 2, "attr": "x", "type": "LONG", "value": 1}, {"do": "remove", "node": 2})
+        place = b'"dir":1,"last":true,"name":"a","node":2'
+        self.assertEqual([record for _, record in self.records("window:1")][:3], [
+            {b"opening": b'{"change":0,"result":[],"seq":0}'},
+            {b"message": b'{"change":1,%b,"op":"B_ENTRY_CREATED","seq":1,"what":"B_QUERY_UPDATE"}' % place},
+            {b"message": b'{"change":4,%b,"op":"B_ENTRY_REMOVED","seq":2,"what":"B_QUERY_UPDATE"}' % place}])
+
+    def test_restarts_keep_them(self):
+        """From a snapshot and from the first change: the same records, and a client that goes on."""
+        found = []
+        for name, every, is_whole in ("s", 3, False), ("w", EVERY, True):
+            log = self.new_log(name, lock=0.02)
+            for number in range(12):
+                relay = Relay(log, every, is_whole=is_whole)
+                relay.begin()
+                if number == 0:
+                    log.append("windows", [{"name": "v", "query": "size>1", "values": "1"}])
+                lines = [{"do": "create", "name": f"f{number}", "size": number},
+                         {"do": "write", "node": 4, "size": number},
+                         {"do": "set", "node": 4, "attr": "n", "type": "LLNG", "value": number}]
+                log.append("changes", [{"line": json.dumps(line).encode()} for line in lines])
+                settle(relay)
+            records = [record for _, record in self.records("window:1", log)]
+            found.append([record for record in records if b"message" in record])
+            follower = Follower(log, "v", "size>1", has_values=True)
+            follower.ask = lambda **_: 1
+            follower.begin()
+            follower.turn(0)
+            wanted = {it.node: {"size": it.size, "last_modified": it.time} for it in relay.volume.fetch("size>1")}
+            self.assertEqual(follower.known(), wanted)
+        self.assertEqual(found[0], found[1])
+        self.assertGreater(len(found[0]), 20)
+
+
 class Words(Case):
     def test_follow_and_load(self):
         self.serve()
@@ -358,6 +444,24 @@ class Words(Case):
         producer.change(do="remove", node=2)
         for line in "> 1/a.txt > 3/d.txt\n", "+ 1/e\\x1b.txt\n", "- 3/d.txt\n":
             self.assertEqual(follow.stdout.readline(), line)
+
+    def test_follow_values(self):
+        self.serve()
+        producer = Producer(self.log)
+        producer.change(do="create", name="a.txt", size=5)
+        words = RELAY, "follow", "--redis", self.redis.url, "t", "name==*.txt"
+        plain, values = self.start(*words), self.start(*words, "--values")
+        self.assertEqual(plain.stdout.readline(), "= 1/a.txt\n")
+        self.assertEqual(values.stdout.readline(), "= 1/a.txt: 5 bytes, 0\n")
+        producer.change(do="write", node=2, size=7, time=8)
+        producer.change(do="set", node=2, attr="MAIL:status", type="CSTR", value="New")
+        producer.change(do="move", node=2, name="b.txt")
+        producer.change(do="remove", node=2)
+        for line in "> 1/a.txt > 1/b.txt\n", "- 1/b.txt\n":
+            self.assertEqual(plain.stdout.readline(), line)
+        for line in ("~ 1/a.txt: 7 bytes, 8\n", '~ 1/a.txt: MAIL:status "New"\n',
+                     "> 1/a.txt > 1/b.txt: 7 bytes, 8\n", "- 1/b.txt\n"):
+            self.assertEqual(values.stdout.readline(), line)
 
     def test_what_it_cannot_use(self):
         self.serve()

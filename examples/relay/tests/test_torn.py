@@ -15,6 +15,8 @@ LINES = [
     {"do": "move", "node": 2, "name": "c.txt"},
     {"do": "write", "node": 3, "size": 3},
     {"do": "remove", "node": 77},
+    {"do": "write", "node": 2, "size": 6, "time": 8},
+    {"do": "set", "node": 2, "attr": "MAIL:status", "type": "CSTR", "value": "New"},
     {"do": "create", "name": "d.txt", "size": 900},
     {"do": "move", "node": 3, "name": "e.txt"},
     {"do": "remove", "node": 2},
@@ -108,7 +110,8 @@ class Torn(Case):
     def run_relays(self):
         """Two relays, one after the other, with windows, some batches, and snapshots."""
         relay = self.new_relay()
-        self.log.append("windows", [{"name": "w", "query": "name==*.txt"}])
+        self.log.append("windows", [{"name": "w", "query": "name==*.txt"},
+                                    {"name": "x", "query": "name==*.txt", "values": "1"}])
         for number in range(0, len(LINES), 2):
             if number == 4:
                 relay = self.new_relay()
@@ -169,19 +172,29 @@ class Torn(Case):
         self.assertEqual([record[b"of"] for _, record in self.records("opened")], requests)
         for window in relay.windows.values():
             found = [json.loads(message) for message in self.messages(window.number)]
-            expected = self.expected(lines, window.formula, window.opened)
+            expected = self.expected(lines, window.formula, window.opened, window.has_values)
             self.assertEqual([(it["seq"], it["change"], it["op"], it["name"]) for it in found], expected)
-            reader = Reader(self.log, window.number, window.formula)
+            reader = Reader(self.log, window.number, window.formula, has_values=window.has_values)
             reader.begin()
             reader.turn(0)
             self.assertEqual(reader.rows, reference.rows(window.formula))
+            self.verify_values(reader, reference)
 
-    def expected(self, lines, formula, opened):
+    def verify_values(self, reader, reference):
+        """Sizes and times are those of the reference, and so is each attribute that was told of."""
+        wanted = reference.values(reader.formula) if reader.has_values else {}
+        found = {node: (row["size"], row["last_modified"]) for node, row in reader.values.items()}
+        self.assertEqual(found, wanted)
+        for node, row in reader.values.items():
+            for attr in row.keys() - {"size", "last_modified"}:
+                self.assertEqual(row[attr], reference.value(node, attr))
+
+    def expected(self, lines, formula, opened, has_values):
         """What a query has as messages that was opened after so many lines."""
         volume = Volume()
         for line in lines[:opened]:
             volume.answer(line)
-        query = volume.open(formula, backlog=100, moved=True)
+        query = volume.open(formula, backlog=100, moved=True, values=has_values)
         for line in lines[opened:]:
             volume.answer(line)
         return [(it.seq, it.change, str(it.op), it.name) for it in query]

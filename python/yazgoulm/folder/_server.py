@@ -79,14 +79,15 @@ class Server:
             for window in self.windows:
                 window.read()
 
-    def open(self, formula: str) -> Window:
-        """Opens a window: Refused, if its formula can't be read or no slot is free."""
-        window = self.new_window(formula)
+    def open(self, formula: str, values: bool = False) -> Window:
+        """Opens a window: Refused, if its formula can't be read or no slot is free. With `values` it hears of those
+        that change within the result too."""
+        window = self.new_window(formula, values)
         self.windows.append(window)
         return window
 
-    def new_window(self, formula: str) -> Window:
-        query = self.volume.open(formula, None, backlog=BACKLOG, moved=True)
+    def new_window(self, formula: str, values: bool) -> Window:
+        query = self.volume.open(formula, None, backlog=BACKLOG, moved=True, values=values)
         return Window(formula, query.entries, query)
 
     def close(self, window: Window) -> None:
@@ -106,5 +107,7 @@ class Server:
 def line_of(message: Message) -> str:
     """A message as the line of a script's reply."""
     fields = {name: value for name, value in message._asdict().items() if value is not None}
+    if message.attribute is not None:
+        fields["attr"] = fields.pop("attribute")
     fields.update(op=message.op.name, what="B_QUERY_UPDATE")
     return json.dumps(fields, ensure_ascii=False, separators=(",", ":"), sort_keys=True)

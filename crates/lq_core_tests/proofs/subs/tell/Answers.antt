@@ -12,8 +12,8 @@ returns-then-is_live-clause-few c =
     let change = c.in_ok-create.create in
     let told : c.commit.new.self ≡ committed (prepared_for s change p) =
     c.commit.ensures ∙ ap committed c.in_ok-ready.ensures.ok in
-    let few : length (step_of p.held.query p.held.moved s change (p.held.sent + 1)) ≤ 3 =
-    c.steps_are_few.ensures p.held.query p.held.moved s change (p.held.sent + 1)
+    let few : length (step_of p.held.query p.held.flags s change (p.held.sent + 1)) ≤ 3 =
+    c.steps_are_few.ensures p.held.query p.held.flags s change (p.held.sent + 1)
     c.changes.ensures.volume c.in_ok-create.ensures in
     subst (λ (q : Prepared). q.held.sent ≤ p.held.sent + 3) (sym told)
-    (sent_after p.held (step_of p.held.query p.held.moved s change (p.held.sent + 1)) s.number few)
+    (sent_after p.held (step_of p.held.query p.held.flags s change (p.held.sent + 1)) s.number few)

@@ -13,11 +13,11 @@ returns-clause-begun c =
     let entries = rw c.requires.volume at c.in_ok-entries.ensures.entries in
     let reading = c.new-reading.ensures in
     begun_new c.new_subscriptions_stand.ensures _ c.new-reading.result book
-    c.args.predicate.now c.args.options.now.moved c.args.options.now.port
+    c.args.predicate.now c.args.options.now.flags c.args.options.now.port
     c.args.options.now.backlog c.changes-at.result
     (record {
       query = c.of.result;
-      moved = c.args.options.now.moved;
+      flags = c.args.options.now.flags;
       opened = c.changes-at.result;
       book = c.of-2.result;
     })
@@ -25,7 +25,7 @@ returns-clause-begun c =
     m.places m.floor
     c.of.ensures refl refl (ap (λ (k : KeeperToken Identity). k.book) c.of-2.ensures) m.empty.0
     m.empty.1 c.requires.full
-    (rw (reading, m.ends)) (rw reading) (rw (reading, c.new-2.ensures, entries))
+    (rw (reading, m.ends)) (rw reading) (rw (reading, c.new.ensures, entries))
 
 pub new-reading-requires-clause-opening : goal.new-reading-requires-clause-opening
 new-reading-requires-clause-opening c =

@@ -1,4 +1,4 @@
-use Rattle.lq_update.proofs.TouchedLemmas.{few-touched}
+use Rattle.lq_update.proofs.ValueLemmas.{few-touched}
 use Rattle.lq_update.proofs.laws.steps_are_few.Goals as goal
 
 pub returns : goal.returns

@@ -1,4 +1,4 @@
-use Rattle.std.proofs.Common.{◌≡◌, ◌∙◌, sym, ap, refl, true, pos, None, rules, FitsSigned, w64, to_z, of_z}
+use Rattle.std.proofs.Common.{◌≡◌, ◌∙◌, sym, ap, refl, true, pos, None, rules, FitsSigned, w64, to_z, of_z, inl}
 use Rattle.std.specs.Prelude.{codes}
 use Rattle.std.proofs.lemmas.Int.{to_z-of_z}
 use Rattle.lq_predicate.specs.declared.spans.Spans.{Spans}
@@ -8,11 +8,11 @@ use Rattle.lq_volume.specs.Change.{after, clobbered, node_of}
 use Rattle.lq_volume.specs.Result.{match_at}
 use Rattle.lq_update.specs.Touched.{left}
 use Rattle.lq_update.proofs.PassingOver.{match-numbers}
-use Rattle.lq_update.proofs.TouchedLemmas.{left-same, told-left}
+use Rattle.lq_update.proofs.TouchedLemmas.{left-same, step-plain, told-left}
 use Rattle.lq_update.proofs.number_writes.writes_cross_no_number.Goals as goal
 
 pub returns-then-is_beside_sizes : goal.returns-then-is_beside_sizes
-returns-then-is_beside_sizes c q moved seq is spans_are =
+returns-then-is_beside_sizes c q flags seq is unasked spans_are =
     let s = c.args.planned.now.before in
     let change = c.args.planned.now.change in
     let node = node_of s change in
@@ -32,7 +32,8 @@ returns-then-is_beside_sizes c q moved seq is spans_are =
     ∙ sym c.is_beside_times.ensures ∙ is in
     let same : match_at q (after s change) node ≡ match_at q s node =
     match-numbers c.truth_stays_beside_spans.ensures q s change w are sizes times in
-    sym (told-left c.changes_touch_few.ensures q moved s change seq c.applied.ensures.volume
+    step-plain q flags s change seq (inl unasked)
+    ∙ sym (told-left c.changes_touch_few.ensures q flags.moved s change seq c.applied.ensures.volume
     c.applied.ensures.lawful _ None refl
     (ap (left (match_at q s node)) same ∙ left-same (match_at q s node))
     (ap (λ o. left o (match_at q s node)) same ∙ left-same (match_at q s node))

@@ -1,12 +1,13 @@
 use Rattle.std.proofs.Common.{◌∙◌, ap, sym}
 use Rattle.std.proofs.lemmas.Bool.{or_left, or_right}
 use Rattle.lq_desk.specs.Slot.{PreparedSlot, is_ending, slot_after, slot_of}
+use Rattle.lq_desk.proofs.PutLemmas.{asking}
 use Rattle.lq_desk.proofs.FewLemmas.{few-there}
 use Rattle.lq_desk.proofs.MarkLemmas.{places-passed}
 use Rattle.lq_desk.proofs.PassLemmas.{visits-map}
 use Rattle.lq_desk.proofs.CommitLemmas.{committed-after, none-after}
 use Rattle.lq_desk.proofs.SlotsLemmas.{committed-ends}
-use Rattle.lq_desk.proofs.WatchLemmas.{committed-query}
+use Rattle.lq_desk.proofs.WatchLemmas.{committed-asking}
 use Rattle.lq_desk.proofs.desk_slots.Slots.commit.Goals as goal
 
 pub visit-requires : goal.visit-requires
@@ -20,7 +21,7 @@ invariant_of-self c =
     let u = c.union-self-inside.ensures in
     places-passed _ _ _ c.self.inside.table _ _ _ c.visit.ensures.visits
     c.visit.ensures.wide _ _ _ _ c.self.inside.watch
-    (λ i x y d. ap (λ (p : PreparedSlot). p.sub.held.query) d ∙ committed-query x)
+    (λ i x y d. ap (λ (p : PreparedSlot). asking p.sub.held) d ∙ committed-asking x)
     (λ i x y set d was is. was (committed-ends x
     (ap (λ (p : PreparedSlot). is_ending (slot_of p)) (sym d) ∙ is)))
     (λ i none is. is)

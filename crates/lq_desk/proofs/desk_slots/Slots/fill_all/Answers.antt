@@ -3,14 +3,14 @@ use Rattle.std.proofs.lemmas.Bool.{both_ways}
 use Rattle.lq_desk.specs.Slot.{KeptSlot, can_move, filled, is_ending, slot_of}
 use Rattle.lq_desk.proofs.MarkLemmas.{places-passed, unmarked}
 use Rattle.lq_desk.proofs.PassLemmas.{visits-map}
-use Rattle.lq_desk.proofs.PutLemmas.{filled-ends, filled-quiet, filled-still, puts-keep}
+use Rattle.lq_desk.proofs.PutLemmas.{asking, filled-ends, filled-quiet, filled-still, puts-keep}
 use Rattle.lq_desk.proofs.desk_slots.Slots.fill_all.Goals as goal
 
 pub invariant_of-self : goal.invariant_of-self
 invariant_of-self c =
     places-passed _ _ _ c.self.inside.table _ _ _ c.visit.ensures.visits
     c.visit.ensures.wide _ _ _ _ c.self.inside.watch
-    (λ i x y d. ap (λ (k : KeptSlot). k.held.query) d ∙ (puts-keep x.port (slot_of x)).query)
+    (λ i x y d. ap (λ (k : KeptSlot). asking k.held) d ∙ (puts-keep x.port (slot_of x)).asks)
     (λ i x y set d was is. was (sym (filled-ends (slot_of x)) ∙ (ap is_ending (sym d) ∙ is)))
     (λ i none is. is)
     (λ i x y set d was is.

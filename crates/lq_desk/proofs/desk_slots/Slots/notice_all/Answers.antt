@@ -4,7 +4,7 @@ use Rattle.lq_desk.specs.Slot.{KeptSlot, is_ending, noticed, slot_of}
 use Rattle.lq_desk.proofs.FewLemmas.{few-there}
 use Rattle.lq_desk.proofs.MarkLemmas.{places-passed, unmarked}
 use Rattle.lq_desk.proofs.PassLemmas.{visits-map}
-use Rattle.lq_desk.proofs.PutLemmas.{noticed-keeps, noticed-quiet, noticed-still}
+use Rattle.lq_desk.proofs.PutLemmas.{asking, noticed-keeps, noticed-quiet, noticed-still}
 use Rattle.lq_desk.proofs.desk_slots.Slots.notice_all.Goals as goal
 
 pub visit-requires : goal.visit-requires
@@ -19,7 +19,7 @@ invariant_of-self c =
     let u = c.union-self-inside.ensures in
     places-passed _ _ _ c.self.inside.table _ _ _ c.visit.ensures.visits
     c.visit.ensures.wide _ _ _ _ c.self.inside.watch
-    (λ i x y d. ap (λ (k : KeptSlot). k.held.query) d ∙ (noticed-keeps n (slot_of x)).0)
+    (λ i x y d. ap (λ (k : KeptSlot). asking k.held) d ∙ (noticed-keeps n (slot_of x)).0)
     (λ i x y set d was is. absurd (both_ways _ (noticed-still n (slot_of x))
     (ap is_ending (sym d) ∙ is)))
     (λ i none is. absurd (both_ways _ none is))

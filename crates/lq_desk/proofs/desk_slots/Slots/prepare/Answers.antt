@@ -1,4 +1,4 @@
-use Rattle.std.proofs.Common.{◌≡◌, ◌∙◌, ◌^◌, ◌-◌, ◌+◌, ℕ, Bool, List, Option, Some, false, inl, inr, map, ap, sym}
+use Rattle.std.proofs.Common.{◌≡◌, ◌∙◌, ◌^◌, ◌-◌, ◌+◌, ℕ, Bool, List, Option, Some, false, inl, inr, map, ap}
 use Rattle.std.specs.Prelude.{slice_get}
 use Rattle.std.specs.List.{AllByRecursion}
 use Rattle.std.proofs.lemmas.Bool.{both_ways}
@@ -69,7 +69,7 @@ returns-clause-prepared c i y at live =
             none = λ out. c.self.invariant.watched change i (slot_of y)
                 (rw d.1 at (kept-there xs i f.0 f.1))
                 (rw (← c.change.ensures, ← c.slots_for-asked.ensures) d.0)
-                y.sub.held.moved s (y.sub.held.sent + 1) c.applied.ensures.volume
+                s (y.sub.held.sent + 1) c.applied.ensures.volume
                 c.applied.ensures.lawful;
           }
     ]

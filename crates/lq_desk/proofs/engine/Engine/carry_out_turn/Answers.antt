@@ -1,5 +1,5 @@
 use Rattle.std.proofs.Common.{refl, inl, inr}
-use Rattle.lq_desk_world.specs.declared.event.Event.TheVariants.{Open, Put, HangUp, Notice, Finish}
+use Rattle.lq_desk_world.specs.declared.event.Event.TheVariants.{Open, OpenBy, Put, HangUp, Notice, Finish}
 use Rattle.lq_desk.specs.Act.{close_turn, read_turn}
 use Rattle.lq_desk.specs.Slot.{filled, noticed}
 use Rattle.lq_desk.proofs.Desks.{IsKept-at, IsKept-map, at-view, few-desk, filled-view, noticed-view}
@@ -59,12 +59,15 @@ returns-in-Open c =
     elim c.in-Open.is [
       | inl o ↦ alone-turn k l e (Open o.0 o.1 o.2 o.3) _ o.4 refl refl step
       | inr p ↦ elim p [
-        | inl o ↦ alone-turn k l e (Put o.0) _ o.1 refl refl step
+        | inl o ↦ alone-turn k l e (OpenBy o.0 o.1) _ o.2 refl refl step
         | inr p ↦ elim p [
-          | inl o ↦ alone-turn k l e (HangUp o.0) _ o.1 refl refl step
+          | inl o ↦ alone-turn k l e (Put o.0) _ o.1 refl refl step
           | inr p ↦ elim p [
-            | inl o ↦ alone-turn k l e (Notice o.0) _ o.1 refl refl step
-            | inr o ↦ alone-turn k l e (Finish o.0) _ o.1 refl refl step
+            | inl o ↦ alone-turn k l e (HangUp o.0) _ o.1 refl refl step
+            | inr p ↦ elim p [
+              | inl o ↦ alone-turn k l e (Notice o.0) _ o.1 refl refl step
+              | inr o ↦ alone-turn k l e (Finish o.0) _ o.1 refl refl step
+            ]
           ]
         ]
       ]

@@ -9,12 +9,12 @@ invariant_of-self c =
     let same = rw c.changes-at.ensures.number at c.in_ok-slot.ensures.value in
     rw (opened-is c.self.inside.volume c.self.inside.openings c.self.inside.slots c.open.new.self
     c.in-Some.index.index c.in_ok-slot.slot _ c.open.ensures c.in-Some.ensures same)
-    (IsKept-open _ c.args.predicate.now c.args.options.now.port c.args.options.now.backlog c.args.options.now.moved c.self.invariant)
+    (IsKept-open _ c.args.predicate.now c.args.options.now c.self.invariant)
 
 pub returns-clause-ok : goal.returns-clause-ok
 returns-clause-ok c =
     let same = rw c.changes-at.ensures.number at c.in_ok-slot.ensures.value in
     opened-is c.self.inside.volume c.self.inside.openings c.self.inside.slots c.open.new.self
     c.in-Some.index.index c.in_ok-slot.slot _ c.open.ensures c.in-Some.ensures same
-    ∙ ap (λ (j : DeskState). opened j (fresh_slot c.args.predicate.now c.args.options.now.moved j.volume.number
-    c.args.options.now.port c.args.options.now.backlog)) c.self.view_is
+    ∙ ap (λ (j : DeskState). opened j (fresh_slot c.args.predicate.now j.volume.number
+    c.args.options.now)) c.self.view_is

@@ -1,8 +1,9 @@
-use Rattle.std.proofs.Common.{ap, ℕ, inr, refl, subst, sym}
+use Rattle.std.proofs.Common.{ap, inr, refl, subst, sym}
 use Rattle.lq_desk.specs.Reply.{answer_of}
 use Rattle.lq_predicate.specs.Stack.{only_part}
 use Rattle.lq_predicate.specs.Stacked.{Stacked}
-use Rattle.lq_embed.specs.Opening.{OpensBy}
+use Rattle.lq_update.specs.declared.open_options.OpenOptions.{OpenOptions as QueryOptions}
+use Rattle.lq_embed.specs.Opening.{OpensBy, asked_options}
 use Rattle.lq_embed.specs.Requests.{left_by, open_pushed}
 use Rattle.lq_embed.specs.SessionState.{holds, with_pushed}
 use Rattle.lq_embed.proofs.CallLemmas.{kept-refused, opens-made}
@@ -12,7 +13,7 @@ use Rattle.lq_embed.proofs.embedded.Embedded.open_pushed_by.Goals as goal
 pub returns-in-Err : goal.returns-in-Err
 returns-in-Err c = record {
   opened = holds c.refused.new.self;
-  opens = opens-none 1 _ c.args.options.now.moved
+  opens = opens-none (asked_options c.args.options.now)
       (only_part c.args.self.now.stack.items) c.in-Err.refusal
       c.in-Err.ensures.refused
       (ap (λ (s : Stacked). with_pushed (holds c.args.self.now) s) c.in-Err.ensures.err)
@@ -22,13 +23,14 @@ returns-in-Err c = record {
 }
 
 pub returns : goal.returns
-returns c = subst (λ (backlog : ℕ). OpensBy (holds c.args.self.now) (holds c.keep_by.new.self)
+returns c = subst (λ (asked : QueryOptions). OpensBy (holds c.args.self.now)
+    (holds c.keep_by.new.self)
     (left_by c.args.self.now.stack (only_part c.args.self.now.stack.items)) c.args.options.now
-    (open_pushed c.args.self.now.stack.pushes 1 backlog c.args.options.now.moved
+    (open_pushed c.args.self.now.stack.pushes asked
     (only_part c.args.self.now.stack.items)) c.opened-status.result c.args.out.now
-    c.opened-status.new.out) c.backlog_of.ensures (record {
+    c.opened-status.new.out) c.asked_options-asked.ensures (record {
       opened = holds c.opened-status.new.self;
-      opens = opens-alone 1 c.backlog_of.result c.args.options.now.moved
+      opens = opens-alone c.asked_options-asked.result
           (only_part c.args.self.now.stack.items) c.in-Ok.predicate
           c.in-Ok.ensures.value
           (ap (λ (s : Stacked). with_pushed (holds c.args.self.now) s) c.in-Ok.ensures.ok)

@@ -17,4 +17,4 @@ returns-clause-refused g c =
     first_opening over.0 c.open.new.seat.book g.N.Named.start c.args.port c.args.backlog
     (Ok c.in_ok-opened.opened) over.2.stands
     (over.1.openings ∙ c.seat.ensures.same.openings ∙ c.into_counted-board.ensures.openings)
-    over.2.answered.table
+    (rw c.without_values-options.ensures at over.2.answered.table)

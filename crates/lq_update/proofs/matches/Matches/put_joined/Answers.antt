@@ -3,9 +3,9 @@ use Rattle.std.specs.Prelude.{map}
 use Rattle.std.specs.Option.{option_copied, option_to_list}
 use Rattle.std.proofs.lemmas.Bool.Decides.{nat_tests}
 use Rattle.lq_update.specs.declared.message.Opcode.TheVariants.{Removed}
-use Rattle.lq_update.specs.Updates.{numbered, step_of}
+use Rattle.lq_update.specs.Updates.{numbered}
 use Rattle.lq_update.specs.Touched.{entry_at, told_first, told_last}
-use Rattle.lq_update.proofs.TouchedLemmas.{told-taken}
+use Rattle.lq_update.proofs.TouchedLemmas.{moves_of, told-taken}
 use Rattle.lq_update.proofs.matches.Matches.put_joined.Goals as goal
 use Rattle.lq_update.proofs.matches.Matches.put_joined.Goals.{in-None, in-Some+in_ok-gone-in-Some+then-node-made, in-Some+in_ok-gone-in-Some+else-node-made}
 
@@ -28,7 +28,7 @@ returns-clause-ok c =
     c.clobbered.ensures.node c.clobbered.ensures.entry in
     let told : numbered c.args.first_seq made.change (map (λ e. (Removed, e))
     (option_to_list c.match-clobbered.low.0 ++ option_to_list c.match-clobbered.low.1)
-    ++ option_to_list c.join-removed.result.1) ≡ step_of self.predicate.now c.args.moved
+    ++ option_to_list c.join-removed.result.1) ≡ moves_of self.predicate.now c.args.moved
     self.planned.now.before self.planned.now.change c.args.first_seq =
     elim c.match-clobbered.branch [
       | in-None w ↦ rw w.low-is (taken false None (rw w.in-None.is refl) (rw w.in-None.is refl))
