@@ -1,6 +1,6 @@
 use Rattle.std.proofs.Common.{◌∙◌, sym, ap}
 use Rattle.lq_value.specs.Number.{decimal_number}
-use Rattle.lq_value.proofs.NumberLemmas.{number-plain}
+use Rattle.lq_value.proofs.FormLemmas.{number-plain}
 use Rattle.lq_value.proofs.pattern.plain_number.Goals as goal
 
 pub returns : goal.returns

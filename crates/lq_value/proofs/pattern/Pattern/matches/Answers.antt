@@ -1,7 +1,7 @@
 use Rattle.std.proofs.Common.{◌≡◌, rules}
 use Rattle.std.specs.Str.{chars}
 use Rattle.lq_value_pattern.specs.Pattern.{is_fit}
-use Rattle.lq_value.proofs.FitsLemmas.{fits_tells}
+use Rattle.lq_value.proofs.FormLemmas.{fits_tells}
 use Rattle.lq_value.proofs.pattern.Pattern.matches.Goals as goal
 
 pub returns-in-PlainText-clause-split : goal.returns-in-PlainText-clause-split
