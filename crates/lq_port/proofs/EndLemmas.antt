@@ -1,5 +1,5 @@
 -- What an end knows after a step, so that the invariant of its type stays.
-use Rattle.std.proofs.Common.{◌≡◌, ◌+◌, ◌⊎◌, ℕ, Bool, List, [], ◌∷◌, ◌++◌, length, drop, refl, inl, inr, append_assoc, append-nil, arith, length-append}
+use Rattle.std.proofs.Common.{◌≡◌, ◌+◌, ◌≤◌, ◌⊎◌, ℕ, Bool, List, [], ◌∷◌, ◌++◌, length, drop, refl, ap, ◌∙◌, inl, inr, append_assoc, append-nil, arith, length-append}
 use Rattle.lq_port.specs.Known.{Known}
 use Rattle.lq_port.specs.End.{IsPutter, IsTaker}
 use Rattle.lq_port.specs.Port.{known_alone, put_of, AddsItem, IsLegal, Removes}
@@ -12,18 +12,21 @@ module _ {T F : Type 0} (follows : List T → F → T → Type 0) where
       → (length v.taken ≡ 0) × (length (put_of v) ≡ 0) × IsLegal follows v.floor (put_of v)
   new_end v n f puts takes e = rw e (refl, refl, nil_is_legal follows f)
 
-  -- the end for puts after a put: it stays one, puts are one more and stay legal, the room stays
+  -- the end for puts after a put: it stays one, puts are one more and stay legal, the room stays,
+  -- and no more items wait than that
   pub after_put :
       (v w : Known T F) (x : T) (n room : ℕ) → AddsItem v x w → n ≡ length (put_of v)
       → IsLegal follows v.floor (put_of v) → follows (put_of v) v.floor x → v.room ≡ room
       → IsPutter w × (n + 1 ≡ length (put_of w)) × IsLegal follows w.floor (put_of w)
-      × (w.room ≡ room)
-  after_put v w x n room e long legal ok same =
-      rw (e, ← append_assoc v.taken v.ahead (x ∷ [])) (
-        (refl, refl),
-        omega (arith, long, length-append (put_of v) (x ∷ [])),
-        snoc_is_legal follows v.floor (put_of v) x legal ok,
-        same,
+      × (w.room ≡ room) × (length w.ahead ≤ w.room)
+  after_put v w x n room a long legal ok same =
+      let stays = ap (λ (k : Known T F). k.room) a.view in (
+        (ap (λ (k : Known T F). k.puts) a.view, ap (λ (k : Known T F). k.takes) a.view),
+        omega (arith, long, ap length a.put, length-append (put_of v) (x ∷ [])),
+        rw (ap (λ (k : Known T F). k.floor) a.view, a.put)
+            (snoc_is_legal follows v.floor (put_of v) x legal ok),
+        stays ∙ same,
+        omega (arith, a.within, stays),
       )
 
   -- what is known to be put stays legal after a take

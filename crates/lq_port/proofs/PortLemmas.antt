@@ -1,5 +1,5 @@
 -- Each step of a port keeps its rule.
-use Rattle.std.proofs.Common.{◌≡◌, ◌≢◌, ℕ, ◌≤◌, true, false, true≢false, List, [], ◌∷◌, ◌++◌, length, drop, set, sym, refl, ap, ◌∙◌, subst, inl, inr, ⊎_elim, append_assoc, arith, length-append}
+use Rattle.std.proofs.Common.{◌≡◌, ◌≢◌, ℕ, ◌≤◌, true, false, true≢false, List, [], ◌∷◌, ◌++◌, length, drop, set, sym, refl, ap, ◌∙◌, subst, inl, inr, ⊎_elim, append_assoc, append-nil, arith, length-append}
 use mathlib.Core.List.{IsPrefix, append_cancel_left}
 use mathlib.Core.Option.{some}
 use lib.ListN.{get_elem?}
@@ -48,19 +48,20 @@ module _ {T F : Type 0} (follows : List T → F → T → Type 0) where
             (λ j u other e. absurd (other (place_at_back [] k u j (λ x. cc) e)));
       }
 
-  -- A put keeps the rule.
+  -- A put keeps the rule, and tells what waits.
   pub adds :
       (n pass : ℕ) (v : Known T F) (x : T) → v.puts ≡ true → v.room ≡ n
       → follows (put_of v) v.floor x
       → Pushes (PortRule follows) n pass v x (AddsItem v x)
   adds n pass v x may all_room ok items views room h at =
-      let w : Known T F = known_alone v.room true false v.floor v.taken (v.ahead ++ x ∷ []) in
+      let w : Known T F = known_alone v.room true false v.floor h.taken (items ++ x ∷ []) in
       let m = (h.fits pass v at).0 may in
       let put : List T = h.put ++ x ∷ [] in
       let ok' : follows h.put h.floor x = rw (← m.2, ← m.1) ok in
-      let all : put_of w ≡ put = cc (m.2, append_assoc v.taken v.ahead (x ∷ [])) in
+      let all : put_of w ≡ put = cc (h.in_order, append_assoc h.taken items (x ∷ [])) in
       let Fits = PassFits follows h.input h.output h.room h.floor put h.taken in
-      let mine' : Fits pass w = ((λ _. (m.0, m.1, all, m.3, m.4)), (λ p. cc), (λ _ p. cc)) in
+      let known : IsPrefix h.taken h.taken = ([], append-nil h.taken) in
+      let mine' : Fits pass w = ((λ _. (m.0, m.1, all, known, m.4)), (λ p. cc), (λ _ p. cc)) in
       let others : (j : ℕ) (u : Known T F) → j ≢ pass → get_elem? views j ≡ some u → Fits j u =
       λ j u other e.
       let o = h.fits j u e in (
@@ -82,7 +83,12 @@ module _ {T F : Type 0} (follows : List T → F → T → Type 0) where
           legal = snoc_is_legal h.floor h.put x h.legal ok';
           fits = AllAt-set Fits views pass w mine' others;
         },
-        refl,
+        record {
+          view = refl;
+          put = cc (all, m.2);
+          taken = m.3;
+          within = omega (arith, length-append items (x ∷ []), all_room);
+        },
       )
 
   -- A take keeps the rule.

@@ -15,7 +15,8 @@ abbrev pub PortName : Type 0 → Type 0
 PortName T = TableId × Badge (Key T)
 
 -- What one end knows: which port it is, how many items it holds at most, its floor, what was taken,
--- and what was put after that. The end for puts knows all puts, and the end for takes all takes.
+-- and what was put after that. The end for puts knows all puts, and the takes before its last put,
+-- or before the two ends last met. The end for takes knows all takes.
 pub record End (T F : Type 0) : Type 0 where
   pub port : PortName T
   pub places : ℕ
@@ -38,9 +39,12 @@ module _ {T F : Type 0} where
   IsSamePort old new =
       (new.port ≡ old.port) × (new.places ≡ old.places) × (new.floor ≡ old.floor)
 
-  -- x was put at the back
-  abbrev pub Gains : End T F → T → End T F → Type 0
-  Gains old x new = (new.taken ≡ old.taken) × (new.ahead ≡ old.ahead ++ x ∷ [])
+  -- x was put at the back, and the end then knows what waits at that moment, which is no more than
+  -- the port holds
+  pub record Gains (old : End T F) (x : T) (new : End T F) : Type 0 where
+    pub put : all_put new ≡ all_put old ++ x ∷ []
+    pub taken : IsPrefix old.taken new.taken
+    pub within : length new.ahead ≤ new.places
 
   -- x was taken at the front
   abbrev pub Loses : End T F → T → End T F → Type 0

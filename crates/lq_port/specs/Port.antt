@@ -59,9 +59,12 @@ module _ {T F : Type 0} where
         told = w.floor;
       }
 
-  -- x was put at the back
-  abbrev pub AddsItem : Known T F → T → Known T F → Type 0
-  AddsItem v x w = w ≡ known_alone v.room true false v.floor v.taken (v.ahead ++ x ∷ [])
+  -- x was put at the back, and the end then knows what waits at that moment
+  pub record AddsItem (v : Known T F) (x : T) (w : Known T F) : Type 0 where
+    pub view : w ≡ known_alone v.room true false v.floor w.taken w.ahead
+    pub put : put_of w ≡ put_of v ++ x ∷ []
+    pub taken : IsPrefix v.taken w.taken
+    pub within : length w.ahead ≤ v.room
 
   -- what both ends know together is what the port holds, which is no more than its room
   abbrev pub Totals : Known T F → List T → Type 0

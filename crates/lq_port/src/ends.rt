@@ -15,7 +15,8 @@ use std::sync::Wait;
 
 /// The end of a port for puts.
 ///
-/// It knows all that was put, and a prefix of what was taken. It keeps a receiving end itself, so a
+/// It knows all that was put, and a prefix of what was taken: each put tells it how many items wait
+/// then, and so does `beside`. It keeps a receiving end itself, so a
 /// port whose `PortOut` was dropped fills up and is then full, as tests show. After 2^61 puts every
 /// further put waits for ever, as the code says.
 ///
@@ -55,7 +56,7 @@ pub struct PortOut<T: Follows + Drop> {
 }
 
 impl<T: Follows + Drop> Model for PortIn<T> {
-    ghost use Rattle.std.specs.Prelude.{◌≡◌, length};
+    ghost use Rattle.std.specs.Prelude.{◌≡◌, ◌≤◌, length};
     ghost use Rattle.crossbeam_channel.specs.Claims.{IsSeatAt};
     ghost use Rattle.crossbeam_channel.specs.Ends.{sends_on};
     ghost use Rattle.lq_port.specs.End.{End, end_of, known_of, IsPutter};
@@ -69,7 +70,8 @@ impl<T: Follows + Drop> Model for PortIn<T> {
         × IsPutter (known_of end.pass)
         × (end.count ≡ length (put_of (known_of end.pass)))
         × IsLegal T.follows (known_of end.pass).floor (put_of (known_of end.pass))
-        × ((known_of end.pass).room ≡ (sends_on end.sender).cap) };
+        × ((known_of end.pass).room ≡ (sends_on end.sender).cap)
+        × (length (known_of end.pass).ahead ≤ (known_of end.pass).room) };
 }
 
 impl<T: Follows + Drop> Model for PortOut<T> {
@@ -151,12 +153,12 @@ fn make_at<T: Follows + Drop>(
 }
 
 impl<T: Follows + Drop> PortIn<T> {
-    /// Puts an item at the back.
+    /// Puts an item at the back. The end then knows what waits at that moment.
     ///
-    /// `Err` gives the item back, only where this end knows of at least as many waiting items as
-    /// the port has places; the end is then unchanged. No clause says that the port was full at
-    /// some moment of the call. As the code says, it may wait for a step of the other end, but not
-    /// for a place. It takes no memory.
+    /// `Err` gives the item back, only where as many items waited as the port has places when this
+    /// end last knew: after its last put, or after the two ends last met. The end is then
+    /// unchanged. No clause says that the port was full at some moment of the call. As the code
+    /// says, it may wait for a step of the other end, but not for a place. It takes no memory.
     pub fn put<R: Wait>(&mut self, rt: &R, item: T) -> Result<(), T>
         requires follows { T.follows (all_put self.old) self.old.floor item }
         ensures ok { OnOk result (Gains self.old item self.new) }
@@ -164,7 +166,7 @@ impl<T: Follows + Drop> PortIn<T> {
 
         // `Err` gives the item back, where this end knows of no free place in the port.
         ensures back { IfErr result (λ back. back ≡ item) }
-        ensures full { OnErr result (self.old.places ≤ length self.old.ahead) }
+        ensures full { OnErr result (length self.old.ahead ≡ self.old.places) }
         ensures err { OnErr result (self.new ≡ self.old) }
     {
         if self.count == u64::MAX {

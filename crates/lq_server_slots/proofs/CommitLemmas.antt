@@ -50,7 +50,8 @@ committed c s t p book may stands others first_close hung =
 pub committed_filled : (c : Change) (s t u : Subscription) (p : KnownSlot Identity) (book : Book)
     → MayCommit c s p book → IsToFill t p book → SameButHeld s t
     → (IsSome s.sub.held.mark → t.sub.held.mark ≡ s.sub.held.mark) → IsConsistentAt u book
-    → SameButPuts t u → u.input.taken ≡ t.input.taken → CannotPut u → Serves s u p book
+    → SameButPuts t u → length t.input.taken ≤ length u.input.taken → CannotPut u
+    → Serves s u p book
 committed_filled c s t u p book may left others still stands alike same stuck =
     record {
       taken = taken_filled t u p book left stands alike same stuck;

@@ -96,7 +96,7 @@ module _ (h : Held) (d : End Delivery Opening) (places : ℕ) (last_report : Las
         (is : x.what ≡ p) (at : book_of x ≡ book) (port : IsSamePort d e) (gains : Gains d x e) where
       -- the parcel is the last of all that was put
       all_then : all_put e ≡ all_put d ++ x ∷ []
-      all_then = rw (gains.0, gains.1, append_assoc)
+      all_then = gains.put
 
       -- what was given stays: one parcel more is put, one less is held
       given_then : messages_given (without_parcel h (Some p)) e ≡ messages_given h d

@@ -63,8 +63,8 @@ to_fill_then s t p book0 book taken stands others first_close hung = grind arith
 
 -- a taken slot stands whole once its port is filled
 pub taken_filled : (s t : Subscription) (p : KnownSlot Identity) (book : Book) → IsToFill s p book
-    → IsConsistentAt t book → SameButPuts s t → t.input.taken ≡ s.input.taken → CannotPut t
-    → IsTakenSlot t p book
+    → IsConsistentAt t book → SameButPuts s t → length s.input.taken ≤ length t.input.taken
+    → CannotPut t → IsTakenSlot t p book
 taken_filled s t p book was stands alike same stuck =
     let seen : IsSeen t = grind arith in
     let filled = stuck_filled t book stands seen stuck in

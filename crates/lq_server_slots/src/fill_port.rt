@@ -1,5 +1,5 @@
 //! Puts: held messages and the mark move into the port.
-ghost use Rattle.std.specs.Prelude.{◌≡◌, ◌<◌, MatchBool};
+ghost use Rattle.std.specs.Prelude.{◌≡◌, ◌<◌, ◌≤◌, length, MatchBool};
 ghost use Rattle.lq_server_slots.specs.Standing.{IsConsistentAt, SameButPuts, left_to_put, CannotPut, SideBySide, IsDrained};
 
 use crate::delivery::Delivery;
@@ -20,7 +20,7 @@ pub fn put_one<R: Wait>(rt: &R, keeper: &Keeper<Identity>, slot: &mut Subscripti
     requires { IsConsistentAt slot.old keeper.now.book }
     ensures stands { IsConsistentAt slot.new keeper.now.book }
     ensures alike { SameButPuts slot.old slot.new }
-    ensures taken { slot.new.input.taken ≡ slot.old.input.taken }
+    ensures taken { length slot.old.input.taken ≤ length slot.new.input.taken }
     ensures moved { MatchBool result (left_to_put slot.new < left_to_put slot.old)
         ((slot.new.input ≡ slot.old.input) × CannotPut slot.new) }
 {
@@ -50,7 +50,7 @@ pub fn fill<R: Wait>(rt: &R, keeper: &Keeper<Identity>, slot: &mut Subscription)
     requires { IsConsistentAt slot.old keeper.now.book }
     ensures stands { IsConsistentAt slot.new keeper.now.book }
     ensures alike { SameButPuts slot.old slot.new }
-    ensures taken { slot.new.input.taken ≡ slot.old.input.taken }
+    ensures taken { length slot.old.input.taken ≤ length slot.new.input.taken }
     ensures stuck { CannotPut slot.new }
 {
     // Asked first, so that nothing is moved where nothing is left.

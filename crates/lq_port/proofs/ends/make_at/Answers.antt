@@ -1,5 +1,5 @@
 -- The first pass begins the rule and is cut into the two ends.
-use Rattle.std.proofs.Common.{rules, ◌≡◌, true, false, [], ◌++◌, ap, ◌∙◌, sym}
+use Rattle.std.proofs.Common.{rules, arith, ◌≡◌, true, false, [], ◌++◌, ap, ◌∙◌, sym}
 use Rattle.crossbeam_channel.specs.Claims.{view, IsSeatAt}
 use Rattle.crossbeam_channel.specs.Ends.{receives_on}
 use Rattle.lq_port.specs.End.{known_of}
@@ -30,6 +30,7 @@ invariant_of-result g c =
       sym n.1,
       n.2,
       ap (λ v. v.room) f ∙ search rules,
+      rw f (omega arith),
     )
 
 pub invariant_of-result-2 : goal.invariant_of-result-2

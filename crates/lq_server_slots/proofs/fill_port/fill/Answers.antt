@@ -1,4 +1,4 @@
-use Rattle.std.proofs.Common.{◌∙◌, arith, rules}
+use Rattle.std.proofs.Common.{arith, rules}
 use Rattle.lq_server_slots.proofs.PortLemmas.{none-of}
 use Rattle.lq_server_slots.proofs.PutLemmas.{alike_trans, none_next}
 use Rattle.lq_server_slots.proofs.fill_port.fill.Goals as goal
@@ -16,7 +16,8 @@ pub returns-else-put_one-clause-alike : goal.returns-else-put_one-clause-alike
 returns-else-put_one-clause-alike g c = search (rules, arith, alike_trans)
 
 pub returns-else-put_one-clause-taken : goal.returns-else-put_one-clause-taken
-returns-else-put_one-clause-taken g c = c.put_one.ensures.taken ∙ c.loop-slot.invariant.2
+returns-else-put_one-clause-taken g c =
+    omega (arith, c.put_one.ensures.taken, c.loop-slot.invariant.2)
 
 pub returns-else-put_one-clause-stuck : goal.returns-else-put_one-clause-stuck
 returns-else-put_one-clause-stuck g c = c.if-put_one.ensures.moved.1

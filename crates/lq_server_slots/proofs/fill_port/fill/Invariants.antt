@@ -1,10 +1,10 @@
-use Rattle.std.proofs.Common.{◌≡◌}
+use Rattle.std.proofs.Common.{◌≤◌, length}
 use Rattle.lq_server_slots.specs.Standing.{IsConsistentAt, SameButPuts, left_to_put}
 use Rattle.lq_server_slots.proofs.fill_port.fill.Given as goal
 
 abbrev pub invariant-loop-slot : goal.invariant-loop-slot
 invariant-loop-slot g l = IsConsistentAt l.slot l.keeper.book × SameButPuts l.initial.slot l.slot
-    × (l.slot.input.taken ≡ l.initial.slot.input.taken)
+    × (length l.initial.slot.input.taken ≤ length l.slot.input.taken)
 
 abbrev pub decreases-loop-slot : goal.decreases-loop-slot
 decreases-loop-slot g l = left_to_put l.slot

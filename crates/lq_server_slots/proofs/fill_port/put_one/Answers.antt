@@ -1,4 +1,4 @@
-use Rattle.std.proofs.Common.{inr, refl, ap, sym, arith, rules}
+use Rattle.std.proofs.Common.{inr, refl, ap, sym, arith, rules, length, length-append}
 use Rattle.lq_board.specs.Token.{KeeperToken}
 use Rattle.lq_server_slots.specs.declared.identity.Identity.{Identity}
 use Rattle.lq_server_slots.proofs.PutLemmas.{may_put, put_ok, none_out, none_next, back_out, alike_held}
@@ -52,4 +52,9 @@ returns-in-Err-clause-alike g c = search (rules, arith, alike_held, back_out)
 pub returns-in-Err-clause-moved : goal.returns-in-Err-clause-moved
 returns-in-Err-clause-moved g c =
     let same = c.in-Err.ensures.err in
-    (same, inr (rw (same, ← c.requires.port) c.in-Err.ensures.full))
+    (same, inr (rw same (omega (arith, c.in-Err.ensures.full, c.requires.port))))
+
+pub returns-in-Ok-clause-taken : goal.returns-in-Ok-clause-taken
+returns-in-Ok-clause-taken g c =
+    let before = c.in-Ok.ensures.ok.taken in
+    omega (arith, ap length before.1, length-append c.args.slot.now.input.taken before.0)

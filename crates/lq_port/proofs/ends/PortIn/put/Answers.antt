@@ -18,4 +18,4 @@ invariant_of-self g c =
     let after = after_put g.T.Follows.follows (known_of c.self.inside.pass)
     (known_of c.try_send_as.new.pass) c.args.item _ _ c.in-Ok.ensures.rule i.2 i.3
     (rw (← c.self.view_is) at c.requires.follows) i.4 in
-    (c.try_send_as.ensures.channel.0, after.0, after.1, after.2, after.3)
+    (c.try_send_as.ensures.channel.0, after.0, after.1, after.2, after.3, after.4)
