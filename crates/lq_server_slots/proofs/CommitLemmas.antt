@@ -9,7 +9,7 @@ use Rattle.lq_board.specs.Book.{IsFullBook}
 use Rattle.lq_board.specs.Slot.{slot_at, counted}
 use Rattle.lq_server_slots.specs.declared.identity.Identity.{Identity}
 use Rattle.lq_server_slots.specs.declared.subscription.Subscription.{Subscription}
-use Rattle.lq_server_slots.specs.Marking.{hung_mark}
+use Rattle.lq_server_slots.specs.Marking.{hung_mark, MarkCovers}
 use Rattle.lq_server_slots.specs.Standing.{IsConsistentAt, HasPrepared, SameButHeld, SameButPuts, CannotPut}
 use Rattle.lq_server_slots.specs.Slots.{before_of, IsNoticed, IsServed, Serves}
 use Rattle.lq_server_slots.proofs.SlotLemmas.{IsToFill, to_fill_then, taken_filled}
@@ -47,17 +47,19 @@ committed c s t p book may stands others first_close hung =
     (subst (IsConsistentAt t) (sym grown.book) t_stands) others first_close hung
 
 -- and then it was filled
-pub committed_filled : (c : Change) (s t u : Subscription) (p : KnownSlot Identity) (book : Book)
+pub committed_filled : (c : Change) (number : ℕ) (s t u : Subscription) (p : KnownSlot Identity) (book : Book)
     → MayCommit c s p book → IsToFill t p book → SameButHeld s t
-    → (IsSome s.sub.held.mark → t.sub.held.mark ≡ s.sub.held.mark) → IsConsistentAt u book
+    → (IsSome s.sub.held.mark → t.sub.held.mark ≡ s.sub.held.mark)
+    → MarkCovers number s.sub.held.mark t.sub.held.mark → IsConsistentAt u book
     → SameButPuts t u → length t.input.taken ≤ length u.input.taken → CannotPut u
-    → Serves s u p book
-committed_filled c s t u p book may left others still stands alike same stuck =
+    → Serves number s u p book
+committed_filled c number s t u p book may left others still covers stands alike same stuck =
     record {
       taken = taken_filled t u p book left stands alike same stuck;
       served = served_filled t u p
           (noticed_still s t p may.stood.noticed others.asks still) alike stuck;
       asks = alike.asks ∙ others.asks;
+      mark = rw alike.held.mark covers;
     }
 
 -- after a notice the keeper knows just as many asks as were read

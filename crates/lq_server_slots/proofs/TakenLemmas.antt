@@ -13,12 +13,13 @@ use Rattle.lq_volume.specs.Book.{Book}
 use Rattle.lq_server_slots.specs.declared.identity.Identity.{Identity}
 use Rattle.lq_server_slots.specs.declared.slots.ServerSlots.{ServerSlots}
 use Rattle.lq_server_slots.specs.declared.subscription.Subscription.{Subscription}
-use Rattle.lq_server_slots.specs.Slots.{AreConsistent, IsServed, OnlyAt, Serves, SlotIs, SlotStands, SlotsAre, asks_of, slot_in, AllPrepared, IsNoticed, HasPreparedAt, IsTakenNoticed}
+use Rattle.lq_server_slots.specs.Slots.{AreConsistent, IsServed, MarksCover, SlotMarkCovers, OnlyAt, Serves, SlotIs, SlotStands, SlotsAre, asks_of, slot_in, AllPrepared, IsNoticed, HasPreparedAt, IsTakenNoticed}
 use Rattle.lq_volume.specs.declared.change.Change.{Change}
 use Rattle.lq_server_slots.specs.Changing.{Prepares}
 use Rattle.lq_volume.specs.State.{State}
 use Rattle.std.proofs.lemmas.Option.{slice_get_within}
 use Rattle.lq_server_slots.proofs.SlotLemmas.{taken_alike}
+use Rattle.lq_server_slots.proofs.MarkLemmas.{mark_covers-same}
 
 -- a slot whose seat is out is taken
 pub taken_out : (o : Option Subscription) (p : KnownSlot Identity) (book : Book)
@@ -80,13 +81,14 @@ noticed_at slots book i x h noticed found =
 
 -- all slots, which stood over a book before, were served over the keeper's
 pub all_served : (allows : Unit {0} → ℕ → Subscription → Type 0) (slots : ServerSlots)
-    (set : ℕ) (ys : List (Option Subscription)) (before : Book) (s t : Unit {0})
+    (set number : ℕ) (ys : List (Option Subscription)) (before : Book) (s t : Unit {0})
     → AreConsistent slots before → HasTaken set slots.subscriptions → length ys ≡ 64
-    → Visits allows (λ t i x y. Serves x y (slot_at slots.keeper.slots (i + 1)) slots.keeper.book)
+    → Visits allows
+    (λ t i x y. Serves number x y (slot_at slots.keeper.slots (i + 1)) slots.keeper.book)
     (has set) slots.subscriptions ys s t
     → AreConsistent (record slots { subscriptions = ys }) slots.keeper.book
-    × SlotsAre IsServed ys slots.keeper.slots
-all_served allows slots set ys before s t h taken wide v =
+    × SlotsAre IsServed ys slots.keeper.slots × MarksCover number slots.subscriptions ys
+all_served allows slots set number ys before s t h taken wide v =
     let each = visits-all allows _ set slots.subscriptions ys s t v taken in (
       record {
         known = h.known;
@@ -101,18 +103,21 @@ all_served allows slots set ys before s t h taken wide v =
       },
       λ i low. each (λ o. SlotIs IsServed o (slot_at slots.keeper.slots (i + 1))) i (λ none. tt)
           (λ x y some d. d.served),
+      λ i low. each (λ o. SlotMarkCovers number (slot_in slots.subscriptions i) o) i
+          (λ none. rw none refl) (λ x y some d. rw some d.mark),
     )
 
--- all slots had the messages of a change prepared, unless memory ran out
+-- all slots had the messages of a change prepared, unless memory ran out; no mark is new
 pub all_prepared : (v : State) (c : Change) (allows : Bool → ℕ → Subscription → Type 0)
-    (slots : ServerSlots) (set : ℕ) (ys : List (Option Subscription)) (s t : Bool)
+    (slots : ServerSlots) (set number : ℕ) (ys : List (Option Subscription)) (s t : Bool)
     → AreConsistent slots slots.keeper.book
     → SlotsAre IsNoticed slots.subscriptions slots.keeper.slots
     → HasTaken set slots.subscriptions → length ys ≡ 64
     → Visits allows (λ t i x y. Prepares v c t x y) (has set) slots.subscriptions ys s t
     → AreConsistent (record slots { subscriptions = ys }) slots.keeper.book
     × SlotsAre IsNoticed ys slots.keeper.slots × (t ≡ false → AllPrepared ys v c)
-all_prepared v c allows slots set ys s t h noticed taken wide visits =
+    × MarksCover number slots.subscriptions ys
+all_prepared v c allows slots set number ys s t h noticed taken wide visits =
     let each = visits-all allows (λ t i x y. Prepares v c t x y) set slots.subscriptions ys s t
     visits taken in
     let p : ℕ → KnownSlot Identity = λ i. slot_at slots.keeper.slots (i + 1) in (
@@ -131,4 +136,8 @@ all_prepared v c allows slots set ys s t h noticed taken wide visits =
           (λ x y some d. rw (d.others.asks, d.held) (rw some at (noticed i low))),
       λ whole i low. each (λ o. HasPreparedAt o v c) i (λ none. tt)
           (λ x y some d. d.prepared whole),
+      λ i low. each (λ o. SlotMarkCovers number (slot_in slots.subscriptions i) o) i
+          (λ none. rw none refl)
+          (λ x y some d. rw some (mark_covers-same number x.sub.held.mark y.sub.held.mark
+          (ap (λ h. h.mark) d.held))),
     )

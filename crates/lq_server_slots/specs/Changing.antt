@@ -13,7 +13,7 @@ use Rattle.lq_board.specs.Slot.{slot_at}
 use Rattle.lq_board.specs.Token.{SeatToken}
 use Rattle.lq_server_slots.specs.declared.identity.Identity.{Identity}
 use Rattle.lq_server_slots.specs.declared.slots.ServerSlots.{ServerSlots}
-use Rattle.lq_server_slots.specs.Slots.{AllPrepared, IsNoticed, SlotsAre, KeepsSlots, IsGrown, IsTakenNoticed, before_of}
+use Rattle.lq_server_slots.specs.Slots.{AllPrepared, IsNoticed, SlotsAre, KeepsSlots, MarksCover, IsGrown, IsTakenNoticed, before_of}
 use Rattle.lq_server_slots.specs.Standing.{HasPrepared, SameButHeld}
 use Rattle.lq_board.specs.Known.{KnownSlot}
 use Rattle.lq_server_slots.specs.declared.subscription.Subscription.{Subscription}
@@ -36,14 +36,15 @@ pub record IsChangeMade (change : Change) (result : Result Applied Refusal) (v w
   pub stays : OnErr result (t ≡ s)
 
 -- A change of a volume was checked, and its messages were prepared in all slots, or it was refused.
--- First each subscription ended whose reader had asked for that. The book stays, and so does what
--- stands over it; what the keeper knows of asks only rises.
+-- First each subscription ended whose reader had asked for that; its mark covers the changes so far.
+-- The book stays, and so does what stands over it; what the keeper knows of asks only rises.
 pub record IsPrepared (v : State) (change : Change) (result : Result (Unit {0}) Refusal)
     (old new : ServerSlots) : Type 0 where
   pub lawful : OnOk result (refused v change ≡ None)
   pub prepared : OnOk result (AllPrepared new.subscriptions v change)
   pub noticed : OnOk result (SlotsAre IsNoticed new.subscriptions new.keeper.slots)
   pub keeps : KeepsSlots old new
+  pub marks : MarksCover v.number old.subscriptions new.subscriptions
   pub rises : (k : ℕ) → (slot_at old.keeper.slots k).asks ≤ (slot_at new.keeper.slots k).asks
   pub refused : IsRefusedBy result (refused v change)
 

@@ -1,5 +1,5 @@
 -- What a notice and a close do to the mark.
-use Rattle.std.specs.Prelude.{◌≡◌, ℕ, Bool, true, false, ◌&&◌, Option, IsSomeAnd, if◌then◌else◌}
+use Rattle.std.specs.Prelude.{◌≡◌, ℕ, Bool, true, false, ◌&&◌, Option, Some, None, IfSome, IsSomeAnd, if◌then◌else◌}
 use Rattle.lq_desk_sub.specs.Held.{Held, Prepared, is_live, after_messages, ended_by}
 use Rattle.lq_server_slots.specs.declared.identity.FirstClose.{FirstClose}
 use Rattle.lq_server_slots.specs.declared.identity.FirstClose.TheVariants.{Never, At, Late}
@@ -9,6 +9,11 @@ use Rattle.lq_update.specs.declared.mark.Cause.TheVariants.{Closed, HungUp}
 -- the subscription has ended because its reader asked
 abbrev pub hung_mark : Option Mark → Type 0
 hung_mark o = IsSomeAnd o (λ k. k.cause ≡ HungUp)
+
+-- a mark stays, and one that is new covers this many changes
+abbrev pub MarkCovers : ℕ → Option Mark → Option Mark → Type 0
+MarkCovers number None new = IfSome new (λ k. k.change ≡ number)
+MarkCovers number (Some k) new = new ≡ Some k
 
 -- the answer of the first close, after one more close
 abbrev pub after_close : FirstClose → Bool → ℕ → FirstClose

@@ -1,5 +1,5 @@
 -- What the lock has of the slots, beside what the keeper knows of them.
-use Rattle.std.specs.Prelude.{◌≡◌, ◌≢◌, ℕ, ◌+◌, ◌<◌, ◌≤◌, ◌-◌, true, false, List, ◌∷◌, [], length, take, Option, Some, None, IsSome, slice_get}
+use Rattle.std.specs.Prelude.{◌≡◌, ◌≢◌, ℕ, ◌+◌, ◌<◌, ◌≤◌, ◌-◌, true, false, List, ◌∷◌, [], length, take, Option, Some, None, IsSome, IsSomeAnd, slice_get}
 use Rattle.lq_volume.specs.State.{State}
 use Rattle.lq_volume.specs.declared.change.Change.{Change}
 use Rattle.lq_volume.specs.Change.{IsLawful}
@@ -10,7 +10,7 @@ use Rattle.lq_board.specs.Slot.{slot_at}
 use Rattle.lq_board.specs.Token.{KeeperToken, SeatToken}
 use Rattle.lq_server_slots.specs.declared.identity.Identity.{Identity}
 use Rattle.lq_server_slots.specs.declared.subscription.Subscription.{Subscription}
-use Rattle.lq_server_slots.specs.Marking.{hung_mark}
+use Rattle.lq_server_slots.specs.Marking.{hung_mark, MarkCovers}
 use Rattle.lq_server_slots.specs.Identity.{identity_of}
 use Rattle.lq_server_slots.specs.Standing.{IsConsistentAt, IsFilled, HasPrepared, IsSeen, CannotPut}
 use Rattle.lq_server_slots.specs.declared.slots.ServerSlots.{ServerSlots}
@@ -69,11 +69,26 @@ pub record IsTakenNoticed (s : Subscription) (p : KnownSlot Identity) (book : Bo
   pub taken : IsTakenSlot s p book
   pub noticed : IsNoticed s p
 
--- a taken slot was served, its subscription s before and t after
-pub record Serves (s t : Subscription) (p : KnownSlot Identity) (book : Book) : Type 0 where
+-- A taken slot was served, its subscription s before and t after. A mark that is new covers this
+-- many changes.
+pub record Serves (number : ℕ) (s t : Subscription) (p : KnownSlot Identity) (book : Book)
+    : Type 0 where
   pub taken : IsTakenSlot t p book
   pub served : IsServed t p
   pub asks : t.asks ≡ s.asks
+  pub mark : MarkCovers number s.sub.held.mark t.sub.held.mark
+
+-- A free slot stays free and a taken one taken. The mark of its subscription stays, and one that is
+-- new covers this many changes.
+abbrev pub SlotMarkCovers : ℕ → Option Subscription → Option Subscription → Type 0
+SlotMarkCovers number None new = new ≡ None
+SlotMarkCovers number (Some s) new =
+    IsSomeAnd new (λ t. MarkCovers number s.sub.held.mark t.sub.held.mark)
+
+-- and so it is in all slots
+abbrev pub MarksCover : ℕ → List (Option Subscription) → List (Option Subscription) → Type 0
+MarksCover number old new =
+    (i : ℕ) → i < 64 → SlotMarkCovers number (slot_in old i) (slot_in new i)
 
 -- a fact of a slot if it is taken, and of all slots that are
 abbrev pub SlotIs :

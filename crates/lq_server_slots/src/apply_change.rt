@@ -6,7 +6,7 @@ ghost use Rattle.lq_board.specs.Book.{IsFullBook};
 ghost use Rattle.lq_board.specs.Slot.{slot_at};
 ghost use Rattle.lq_server_slots.specs.Applied.{IsApplied};
 ghost use Rattle.lq_server_slots.specs.Changing.{IsChangeMade, IsPrepared};
-ghost use Rattle.lq_server_slots.specs.Slots.{AreConsistent, IsConsistentWith, AllPrepared, IsNoticed, IsServed, SlotsAre, KeepsCounts};
+ghost use Rattle.lq_server_slots.specs.Slots.{AreConsistent, IsConsistentWith, AllPrepared, IsNoticed, IsServed, MarksCover, SlotsAre, KeepsCounts};
 
 use crate::change_passes::{commit_all, prepare_all};
 use crate::identity::Identity;
@@ -22,9 +22,10 @@ impl<N: Named> ServerState<N> {
     /// Makes a change and notifies the subscriptions. The seat is its author, and then knows the
     /// book.
     ///
-    /// First the subscriptions whose readers hung up end, as the keeper then knows. Messages and
-    /// marks are put until none is left or the port is full. Refused as the volume refuses the
-    /// change, or `NoMemory`; the book is then as it was, but the ports are filled.
+    /// First the subscriptions whose readers hung up end, as the keeper then knows. So each mark of
+    /// this call covers the changes before its own. Messages and marks are put until none is left
+    /// or the port is full. Refused as the volume refuses the change, or `NoMemory`; the book is
+    /// then as it was, but the ports are filled.
     ///
     /// A refused change walks over the taken slots twice, or four times where memory ran out. An
     /// accepted one walks over them three times.
@@ -45,6 +46,8 @@ impl<N: Named> ServerState<N> {
         ensures seats { self.new.seats ≡ self.old.seats }
         ensures served { SlotsAre IsServed self.new.slots.subscriptions
             self.new.slots.keeper.slots }
+        ensures marks { MarksCover (length self.old.slots.keeper.book.changes)
+            self.old.slots.subscriptions self.new.slots.subscriptions }
         ensures number { IfOk result (λ a.
             a.change ≡ length self.old.slots.keeper.book.changes + 1) }
     {
@@ -86,6 +89,8 @@ fn add(
         (state_of slots.old.keeper.book) change.now) }
     ensures noticed { OnOk result
         (SlotsAre IsNoticed slots.new.subscriptions slots.new.keeper.slots) }
+    ensures marks { MarksCover (length slots.old.keeper.book.changes)
+        slots.old.subscriptions slots.new.subscriptions }
     ensures counts { KeepsCounts slots.old slots.new }
     ensures volume { volume.new ≡ state_of slots.new.keeper.book }
     ensures full { IsFullBook slots.new.keeper.book }

@@ -1,9 +1,9 @@
 //! The two passes of a change over the slots: its messages are prepared, and then committed.
-ghost use Rattle.std.specs.Prelude.{◌≡◌, None};
+ghost use Rattle.std.specs.Prelude.{◌≡◌, length, None};
 ghost use Rattle.lq_volume.specs.Book.{state_of};
 ghost use Rattle.lq_volume.specs.Change.{refused};
 ghost use Rattle.lq_server_slots.specs.Changing.{IsPrepared};
-ghost use Rattle.lq_server_slots.specs.Slots.{AreConsistent, IsConsistentWith, AllPrepared, before_of, IsGrown, IsNoticed, IsServed, SlotsAre};
+ghost use Rattle.lq_server_slots.specs.Slots.{AreConsistent, IsConsistentWith, AllPrepared, before_of, IsGrown, IsNoticed, IsServed, MarksCover, SlotsAre};
 
 use crate::fill_port::fill;
 use crate::identity::Identity;
@@ -71,16 +71,16 @@ struct Commit<'a, R> {
 }
 
 impl<'a, R: Wait> Visit<Subscription, ()> for Commit<'a, R> {
-    ghost use Rattle.std.specs.Prelude.{◌+◌};
+    ghost use Rattle.std.specs.Prelude.{◌+◌, length};
     ghost use Rattle.lq_board.specs.Slot.{slot_at};
     ghost use Rattle.lq_server_slots.specs.Changing.{MayCommit};
-    ghost use Rattle.lq_server_slots.specs.Slots.{Serves};
+    ghost use Rattle.lq_server_slots.specs.Slots.{Serves, before_of};
 
     ghost allows = { λ v s i x. MayCommit v.change.now x
         (slot_at v.keeper.now.slots (i + 1)) v.keeper.now.book };
 
-    ghost did = { λ v t i x y.
-        Serves x y (slot_at v.keeper.now.slots (i + 1)) v.keeper.now.book };
+    ghost did = { λ v t i x y. Serves (length (before_of v.keeper.now.book).changes) x y
+        (slot_at v.keeper.now.slots (i + 1)) v.keeper.now.book };
 
     fn visit(&self, _state: &mut (), _slot: SlotIndex, item: &mut Subscription) {
         commit(item, self.change);
@@ -99,6 +99,8 @@ pub(crate) fn commit_all<R: Wait>(rt: &R, slots: &mut ServerSlots, change: &Chan
     ensures openings { slots.new.openings ≡ slots.old.openings }
     ensures holding { AreConsistent slots.new slots.new.keeper.book }
     ensures served { SlotsAre IsServed slots.new.subscriptions slots.new.keeper.slots }
+    ensures marks { MarksCover (length (before_of slots.old.keeper.book).changes)
+        slots.old.subscriptions slots.new.subscriptions }
 {
     let taken = slots.subscriptions.taken();
     let commit = Commit {

@@ -3,7 +3,8 @@ ghost use Rattle.std.specs.Prelude.{◌≡◌, ◌+◌, ◌<◌, ◌≤◌, ℕ,
 ghost use Rattle.lq_value.specs.Refusal.{FailsOnlyForMemory};
 ghost use Rattle.lq_board.specs.Slot.{slot_at, counted};
 ghost use Rattle.lq_server_slots.specs.Standing.{SameButHeld};
-ghost use Rattle.lq_server_slots.specs.Slots.{IsTakenSlot, AreConsistent, KeepsBook, KeepsSlots, IsNoticed, IsServed, SlotsAre};
+ghost use Rattle.lq_server_slots.specs.Marking.{MarkCovers};
+ghost use Rattle.lq_server_slots.specs.Slots.{IsTakenSlot, AreConsistent, KeepsBook, KeepsSlots, IsNoticed, IsServed, MarksCover, SlotsAre};
 
 use crate::fill_port::fill;
 use crate::identity::Identity;
@@ -65,8 +66,7 @@ pub(crate) fn notice_slot(
     ensures ended { slot.old.asks < result → IsSome slot.new.sub.held.mark }
     ensures noticed { IsNoticed slot.new (slot_at keeper.new.slots (index.index + 1)) }
     ensures others { SameButHeld slot.old slot.new × (slot.new.first_close ≡ slot.old.first_close) }
-    ensures still { IsSome slot.old.sub.held.mark
-        → slot.new.sub.held.mark ≡ slot.old.sub.held.mark }
+    ensures mark { MarkCovers number slot.old.sub.held.mark slot.new.sub.held.mark }
 {
     let asks = board.asks(keeper, index.number());
     let hang_up_asked = asks > slot.asks;
@@ -74,7 +74,7 @@ pub(crate) fn notice_slot(
     asks
 }
 
-/// Ends each subscription whose reader asked for that.
+/// Ends each subscription whose reader asked for that. Its mark covers the changes so far.
 pub(crate) fn notice_all(board: &Board<Identity>, slots: &mut ServerSlots, number: u64)
     requires board { slots.old.keeper.board ≡ board.now }
     requires number { number ≡ length slots.old.keeper.book.changes }
@@ -83,6 +83,7 @@ pub(crate) fn notice_all(board: &Board<Identity>, slots: &mut ServerSlots, numbe
     ensures noticed { SlotsAre IsNoticed slots.new.subscriptions slots.new.keeper.slots }
     ensures rises { (k : ℕ) → (slot_at slots.old.keeper.slots k).asks
         ≤ (slot_at slots.new.keeper.slots k).asks }
+    ensures marks { MarksCover number slots.old.subscriptions slots.new.subscriptions }
 {
     let mut rest = slots.subscriptions.taken();
     while let Some(index) = rest.pop_lowest() {
@@ -100,15 +101,15 @@ struct Fill<'a, R> {
 }
 
 impl<'a, R: Wait> Visit<Subscription, ()> for Fill<'a, R> {
-    ghost use Rattle.std.specs.Prelude.{◌+◌};
+    ghost use Rattle.std.specs.Prelude.{◌+◌, length};
     ghost use Rattle.lq_board.specs.Slot.{slot_at};
     ghost use Rattle.lq_server_slots.specs.Slots.{IsTakenNoticed, Serves};
 
     ghost allows = { λ v s i x.
         IsTakenNoticed x (slot_at v.keeper.now.slots (i + 1)) v.keeper.now.book };
 
-    ghost did = { λ v t i x y.
-        Serves x y (slot_at v.keeper.now.slots (i + 1)) v.keeper.now.book };
+    ghost did = { λ v t i x y. Serves (length v.keeper.now.book.changes) x y
+        (slot_at v.keeper.now.slots (i + 1)) v.keeper.now.book };
 
     fn visit(&self, _state: &mut (), _slot: SlotIndex, item: &mut Subscription) {
         fill(self.rt, self.keeper, item);
@@ -127,6 +128,7 @@ pub(crate) fn serve_all<R: Wait>(
     requires holding { AreConsistent slots.old slots.old.keeper.book }
     ensures keeps { KeepsSlots slots.old slots.new }
     ensures served { SlotsAre IsServed slots.new.subscriptions slots.new.keeper.slots }
+    ensures marks { MarksCover number slots.old.subscriptions slots.new.subscriptions }
 {
     notice_all(board, slots, number);
     let taken = slots.subscriptions.taken();

@@ -1,8 +1,28 @@
-use Rattle.std.proofs.Common.{refl, arith, rules}
+use Rattle.std.proofs.Common.{refl, arith, rules, ap, subst, length, ◌∙◌, ℕ}
 use Rattle.std.proofs.lemmas.Grind.{common_steps}
 use Rattle.lq_server_slots.proofs.SyncLemmas.{slots_added}
 use Rattle.lq_server_slots.proofs.TableLemmas.{slots_alike}
+use Rattle.lq_volume.specs.State.{State}
+use Rattle.lq_server_slots.specs.declared.slots.ServerSlots.{ServerSlots}
+use Rattle.lq_server_slots.specs.Slots.{IsConsistentWith, MarksCover}
 use Rattle.lq_server_slots.proofs.apply_change.add.Goals as goal
+
+-- the number of the volume is that of the book's changes
+marks : (old new : ServerSlots) (v : State) → IsConsistentWith old v
+    → MarksCover v.number old.subscriptions new.subscriptions
+    → MarksCover (length old.keeper.book.changes) old.subscriptions new.subscriptions
+marks old new v h is =
+    subst (λ (k : ℕ). MarksCover k old.subscriptions new.subscriptions)
+    (ap (λ (x : State). x.number) h.state ∙ h.full.number) is
+
+pub returns-clause-marks : goal.returns-clause-marks
+returns-clause-marks c = marks c.args.slots.now c.prepare.new.slots c.args.volume.now c.requires.stands c.prepare.ensures.marks
+
+pub returns-in_err-prepare-clause-marks : goal.returns-in_err-prepare-clause-marks
+returns-in_err-prepare-clause-marks c = marks c.args.slots.now c.prepare.new.slots c.args.volume.now c.requires.stands c.prepare.ensures.marks
+
+pub returns-in_err-applied-clause-marks : goal.returns-in_err-applied-clause-marks
+returns-in_err-applied-clause-marks c = marks c.args.slots.now c.prepare.new.slots c.args.volume.now c.requires.stands c.prepare.ensures.marks
 
 pub returns-clause-made : goal.returns-clause-made
 returns-clause-made c = search rules

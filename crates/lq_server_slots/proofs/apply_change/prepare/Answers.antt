@@ -3,6 +3,7 @@ use Rattle.std.proofs.Common.{arith, rules, ◌+◌}
 use Rattle.lq_server_slots.proofs.TakenLemmas.{outside_taken}
 use Rattle.lq_board.specs.Slot.{slot_at}
 use Rattle.lq_server_slots.proofs.TableLemmas.{slots_stay}
+use Rattle.lq_server_slots.proofs.MarkLemmas.{marks_cover-same}
 use Rattle.lq_server_slots.proofs.apply_change.prepare.Goals as goal
 
 pub returns-then-is_empty : goal.returns-then-is_empty
@@ -20,6 +21,7 @@ returns-then-is_empty c =
           (λ o. SlotIs IsNoticed o (slot_at slots.keeper.slots (i + 1))) _ items i taken (none i)
           tt;
       keeps = slots_stay slots c.requires.stands.holding;
+      marks = marks_cover-same c.args.volume.now.number slots.subscriptions;
       rises = λ k. omega arith;
       refused = search rules;
     }

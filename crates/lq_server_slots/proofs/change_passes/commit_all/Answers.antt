@@ -1,6 +1,6 @@
 use Rattle.lq_server_slots.proofs.change_passes.commit_all.Given.{Over}
-use Rattle.lq_server_slots.specs.Slots.{AreConsistent, HasPreparedAt, IsServed, SlotsAre, before_of}
-use Rattle.std.proofs.Common.{Option, Some, ap, arith, subst}
+use Rattle.lq_server_slots.specs.Slots.{AreConsistent, HasPreparedAt, IsServed, MarksCover, SlotsAre, before_of}
+use Rattle.std.proofs.Common.{Option, Some, ap, arith, length, subst}
 use Rattle.lq_server_slots.specs.declared.subscription.Subscription.{Subscription}
 use Rattle.lq_server_slots.proofs.TakenLemmas.{all_served, noticed_at}
 use Rattle.std.specs.Option.{option_flatten}
@@ -28,9 +28,11 @@ served : (g : Over) (c : goal.After-visit g)
     → AreConsistent (record c.args.slots.now { subscriptions = c.visit.new.self })
     c.args.slots.now.keeper.book
     × SlotsAre IsServed c.visit.new.self c.args.slots.now.keeper.slots
+    × MarksCover (length (before_of c.args.slots.now.keeper.book).changes)
+    c.args.slots.now.subscriptions c.visit.new.self
 served g c =
     let slots = c.args.slots.now in
-    all_served _ slots c.taken-taken.result.word c.visit.new.self (before_of slots.keeper.book) _ _
+    all_served _ slots c.taken-taken.result.word _ c.visit.new.self (before_of slots.keeper.book) _ _
     c.requires.holding c.taken-taken.ensures.taken c.visit.ensures.wide c.visit.ensures.visits
 
 pub returns-clause-holding : goal.returns-clause-holding
@@ -38,3 +40,6 @@ returns-clause-holding g c = (served g c).0
 
 pub returns-clause-served : goal.returns-clause-served
 returns-clause-served g c = (served g c).1
+
+pub returns-clause-marks : goal.returns-clause-marks
+returns-clause-marks g c = (served g c).2

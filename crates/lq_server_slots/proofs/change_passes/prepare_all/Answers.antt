@@ -1,5 +1,7 @@
 use Rattle.lq_server_slots.proofs.TakenLemmas.{all_prepared, noticed_at}
-use Rattle.std.proofs.Common.{refl, arith, rules}
+use Rattle.std.proofs.Common.{refl, arith, rules, subst, ℕ}
+use Rattle.lq_server_slots.specs.Slots.{MarksCover}
+use Rattle.lq_server_slots.proofs.MarkLemmas.{marks_cover-on}
 use Rattle.lq_server_slots.proofs.CommitLemmas.{few_sent}
 use Rattle.lq_server_slots.proofs.TableLemmas.{slots_kept-on}
 use Rattle.lq_server_slots.proofs.change_passes.prepare_all.Goals as goal
@@ -22,7 +24,8 @@ visit-requires c = record {
 pub returns-then-full : goal.returns-then-full
 returns-then-full c =
     let n = c.notice_all.ensures in
-    let p = all_prepared _ _ _ c.notice_all.new.slots c.taken-taken.result.word c.visit.new.self _ _
+    let p = all_prepared _ _ _ c.notice_all.new.slots c.taken-taken.result.word c.args.planned.now.before.number
+    c.visit.new.self _ _
     n.keeps.holding n.noticed c.taken-taken.ensures.taken c.visit.ensures.wide
     c.visit.ensures.visits in
     record {
@@ -30,6 +33,10 @@ returns-then-full c =
       prepared = tt;
       noticed = tt;
       keeps = slots_kept-on c.args.slots.now c.notice_all.new.slots c.visit.new.self n.keeps p.0;
+      marks = marks_cover-on c.args.planned.now.before.number c.args.slots.now.subscriptions
+          c.notice_all.new.slots.subscriptions c.visit.new.self
+          (subst (λ (k : ℕ). MarksCover k c.args.slots.now.subscriptions
+          c.notice_all.new.slots.subscriptions) (search (rules, arith)) n.marks) p.3;
       rises = n.rises;
       refused = rw c.requires.lawful (tt, refl);
     }
@@ -37,7 +44,8 @@ returns-then-full c =
 pub returns : goal.returns
 returns c =
     let n = c.notice_all.ensures in
-    let p = all_prepared _ _ _ c.notice_all.new.slots c.taken-taken.result.word c.visit.new.self _ _
+    let p = all_prepared _ _ _ c.notice_all.new.slots c.taken-taken.result.word c.args.planned.now.before.number
+    c.visit.new.self _ _
     n.keeps.holding n.noticed c.taken-taken.ensures.taken c.visit.ensures.wide
     c.visit.ensures.visits in
     record {
@@ -45,6 +53,10 @@ returns c =
       prepared = p.2 c.if-full.false;
       noticed = p.1;
       keeps = slots_kept-on c.args.slots.now c.notice_all.new.slots c.visit.new.self n.keeps p.0;
+      marks = marks_cover-on c.args.planned.now.before.number c.args.slots.now.subscriptions
+          c.notice_all.new.slots.subscriptions c.visit.new.self
+          (subst (λ (k : ℕ). MarksCover k c.args.slots.now.subscriptions
+          c.notice_all.new.slots.subscriptions) (search (rules, arith)) n.marks) p.3;
       rises = n.rises;
       refused = rw c.requires.lawful (refl, tt);
     }

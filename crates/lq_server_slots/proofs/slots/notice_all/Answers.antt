@@ -3,6 +3,7 @@ use Rattle.std.proofs.Common.{Option, Some, arith, subst, sym, ◌+◌, ◌∙�
 use Rattle.lq_server_slots.specs.declared.subscription.Subscription.{Subscription}
 use Rattle.lq_server_slots.proofs.TakenLemmas.{asks_rise, outside_taken}
 use Rattle.lq_server_slots.proofs.CommitLemmas.{counted_more}
+use Rattle.lq_server_slots.proofs.MarkLemmas.{marks_cover-same, marks_cover-set}
 use mathlib.Core.Logic.{dite}
 use Rattle.lq_board.specs.Slot.{slot_at}
 use native.Mathlib.Decide.{ℕ_discrete}
@@ -16,6 +17,7 @@ loop-index-init c = record {
       (λ o. SlotIs IsNoticed o (slot_at c.args.slots.now.keeper.slots (i + 1))) _
       c.args.slots.now.subscriptions i c.taken-rest.ensures.taken out tt;
   rises = λ k. omega arith;
+  marks = marks_cover-same c.args.number c.args.slots.now.subscriptions;
 }
 
 pub notice_slot-requires-clause-taken : goal.notice_slot-requires-clause-taken
@@ -44,6 +46,9 @@ loop-index-preserved-in-Some-get_mut c =
       rises = asks_rise c.args.slots.now.keeper.slots known now.slots (k + 1) n.keeper.only
           (counted_more known now.slots (k + 1) c.notice_slot.result i.keeps.holding.known
           (omega (arith, within)) n.slots n.asks) i.rises;
+      marks = marks_cover-set c.args.number c.args.slots.now.subscriptions was.subscriptions k
+          c.in-Some-get_mut.slot.now t i.marks (omega (arith, within, i.keeps.holding.wide))
+          c.in-Some-get_mut.ensures.value n.mark;
     }
 
 pub loop-index-preserved : goal.loop-index-preserved
@@ -59,6 +64,7 @@ loop-index-preserved c =
           c.in_default-get_mut.ensures.value tt))
           (λ (ne : j ≢ k). i.noticed j low (sym (c.in-Some.ensures.others j ne) ∙ left));
       rises = i.rises;
+      marks = i.marks;
     }
 
 pub returns-clause-noticed : goal.returns-clause-noticed

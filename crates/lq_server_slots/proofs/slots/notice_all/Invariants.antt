@@ -1,7 +1,7 @@
 use Rattle.std.proofs.Common.{◌≡◌, ◌<◌, ◌≤◌, ◌+◌, ℕ, false}
 use Rattle.lq_board.specs.Slot.{slot_at}
 use Rattle.lq_desk_sub.specs.SlotSet.{has}
-use Rattle.lq_server_slots.specs.Slots.{IsNoticed, KeepsSlots, SlotIs, slot_in}
+use Rattle.lq_server_slots.specs.Slots.{IsNoticed, KeepsSlots, MarksCover, SlotIs, slot_in}
 use Rattle.lq_server_slots.proofs.slots.notice_all.Given as goal
 
 abbrev pub invariant-loop-index : goal.invariant-loop-index
@@ -11,6 +11,7 @@ invariant-loop-index l = record {
       → SlotIs IsNoticed (slot_in l.slots.subscriptions i) (slot_at l.slots.keeper.slots (i + 1));
   rises : (k : ℕ) → (slot_at l.fn.slots.keeper.slots k).asks
       ≤ (slot_at l.slots.keeper.slots k).asks;
+  marks : MarksCover l.fn.number l.fn.slots.subscriptions l.slots.subscriptions;
 }
 
 abbrev pub decreases-loop-index : goal.decreases-loop-index

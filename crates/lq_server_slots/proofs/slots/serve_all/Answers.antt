@@ -1,7 +1,10 @@
 use Rattle.lq_server_slots.proofs.slots.serve_all.Given.{Over}
-use Rattle.lq_server_slots.specs.Slots.{AreConsistent, IsServed, SlotsAre}
+use Rattle.lq_server_slots.specs.Slots.{AreConsistent, IsServed, MarksCover, SlotsAre}
 use Rattle.lq_server_slots.proofs.TakenLemmas.{all_served, noticed_at}
 use Rattle.lq_server_slots.proofs.TableLemmas.{slots_kept-on}
+use Rattle.std.proofs.Common.{length, subst, sym, ap, ◌∙◌, ℕ}
+use Rattle.lq_volume.specs.Book.{Book}
+use Rattle.lq_server_slots.proofs.MarkLemmas.{marks_cover-on}
 use Rattle.lq_server_slots.proofs.slots.serve_all.Goals as goal
 
 pub visit-requires : goal.visit-requires
@@ -17,7 +20,9 @@ served : (g : Over) (c : goal.After-visit g)
     → AreConsistent (record c.notice_all.new.slots { subscriptions = c.visit.new.self })
     c.notice_all.new.slots.keeper.book
     × SlotsAre IsServed c.visit.new.self c.notice_all.new.slots.keeper.slots
-served g c = all_served _ c.notice_all.new.slots c.taken-taken.result.word c.visit.new.self _ _ _
+    × MarksCover (length c.notice_all.new.slots.keeper.book.changes)
+    c.notice_all.new.slots.subscriptions c.visit.new.self
+served g c = all_served _ c.notice_all.new.slots c.taken-taken.result.word _ c.visit.new.self _ _ _
     c.notice_all.ensures.keeps.holding c.taken-taken.ensures.taken c.visit.ensures.wide
     c.visit.ensures.visits
 
@@ -28,3 +33,12 @@ returns-clause-keeps g c =
 
 pub returns-clause-served : goal.returns-clause-served
 returns-clause-served g c = (served g c).1
+
+pub returns-clause-marks : goal.returns-clause-marks
+returns-clause-marks g c =
+    let n = c.notice_all.ensures in
+    let number = ap (λ (b : Book). length b.changes) n.keeps.book ∙ sym c.requires.number in
+    marks_cover-on c.args.number c.args.slots.now.subscriptions c.notice_all.new.slots.subscriptions
+    c.visit.new.self n.marks
+    (subst (λ (k : ℕ). MarksCover k c.notice_all.new.slots.subscriptions c.visit.new.self) number
+    (served g c).2)

@@ -1,4 +1,4 @@
-use Rattle.std.proofs.Common.{◌≡◌, Err, sym, ap, ◌∙◌, subst, arith, rules}
+use Rattle.std.proofs.Common.{◌≡◌, Err, ℕ, length, sym, ap, ◌∙◌, subst, arith, rules}
 use Rattle.lq_volume.specs.Book.{Book}
 use Rattle.lq_server_slots.specs.Applied.{IsApplied}
 use Rattle.lq_server_slots.specs.Hold.{LockHold}
@@ -6,6 +6,8 @@ use Rattle.lq_server_slots.specs.Slots.{AreConsistent}
 use Rattle.lq_server_slots.proofs.ApplyLemmas.{applied_ok, applied_err}
 use Rattle.lq_server_slots.proofs.SlotLemmas.{before_is, grown_is}
 use Rattle.lq_server_slots.proofs.StateLemmas.{state_changed, state_kept}
+use Rattle.lq_server_slots.specs.Slots.{MarksCover}
+use Rattle.lq_server_slots.proofs.MarkLemmas.{marks_cover-on}
 use Rattle.lq_server_slots.proofs.server_state.ServerState.apply.Goals as goal
 
 pub commit_all-requires-clause-grown : goal.commit_all-requires-clause-grown
@@ -79,3 +81,39 @@ pub invariant_of-self-in-Err-2 : goal.invariant_of-self-in-Err-2
 invariant_of-self-in-Err-2 g c =
     state_kept g.N.Named.board g.N.Named.start c.self-in-Err.inside.slots c.serve_all.new.slots
     c.self-in-Err.inside.volume c.self-in-Err.invariant c.serve_all.ensures.keeps
+
+pub returns-in-Ok-clause-marks : goal.returns-in-Ok-clause-marks
+returns-in-Ok-clause-marks g c =
+    let m = c.meet_slot.ensures.same in
+    let a = c.in-Ok.ensures in
+    let book : c.self.inside.slots.keeper.book ≡ c.args.self.now.slots.keeper.book =
+    ap (λ (h : LockHold). h.slots.keeper.book) c.self.view_is ∙ m.book in
+    let items = ap (λ (h : LockHold). h.slots.subscriptions) c.self.view_is ∙ m.subscriptions in
+    let before = before_is c.self.inside.slots.keeper.book c.add.new.slots.keeper.book
+    c.args.change.now a.made.ok in
+    let number = ap (λ (b : Book). length b.changes) (before ∙ book) in
+    marks_cover-on (length c.args.self.now.slots.keeper.book.changes)
+    c.args.self.now.slots.subscriptions c.add.new.slots.subscriptions
+    c.commit_all.new.slots.subscriptions (rw (items, book) at a.marks)
+    (subst (λ (k : ℕ). MarksCover k c.add.new.slots.subscriptions
+    c.commit_all.new.slots.subscriptions) number c.commit_all.ensures.marks)
+
+pub returns-in-Err-clause-marks : goal.returns-in-Err-clause-marks
+returns-in-Err-clause-marks g c =
+    let m = c.meet_slot.ensures.same in
+    let e = c.meet.ensures.same in
+    let a = c.in-Err.ensures in
+    let i = c.self-in-Err.invariant in
+    let book : c.self.inside.slots.keeper.book ≡ c.args.self.now.slots.keeper.book =
+    ap (λ (h : LockHold). h.slots.keeper.book) c.self.view_is ∙ m.book in
+    let items = ap (λ (h : LockHold). h.slots.subscriptions) c.self.view_is ∙ m.subscriptions in
+    let met = ap (λ (h : LockHold). h.slots.subscriptions) c.self-in-Err.view_is
+    ∙ e.subscriptions in
+    let still = ap (λ (h : LockHold). h.slots.keeper.book) c.self-in-Err.view_is
+    ∙ e.book ∙ a.made.err ∙ book in
+    let number = (rw i.1 at c.changes.ensures.number) ∙ i.2.number
+    ∙ ap (λ (b : Book). length b.changes) still in
+    marks_cover-on (length c.args.self.now.slots.keeper.book.changes)
+    c.args.self.now.slots.subscriptions c.add.new.slots.subscriptions
+    c.serve_all.new.slots.subscriptions (rw (items, book) at a.marks)
+    (rw (number, met) at c.serve_all.ensures.marks)

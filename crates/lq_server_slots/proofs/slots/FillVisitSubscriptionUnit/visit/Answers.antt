@@ -1,5 +1,6 @@
 use Rattle.lq_server_slots.proofs.CommitLemmas.{served_filled}
 use Rattle.lq_server_slots.proofs.SlotLemmas.{taken_filled, to_fill}
+use Rattle.lq_server_slots.proofs.MarkLemmas.{mark_covers-same}
 use Rattle.lq_server_slots.proofs.slots.FillVisitSubscriptionUnit.visit.Goals as goal
 
 pub returns-clause-did : goal.returns-clause-did
@@ -12,4 +13,5 @@ returns-clause-did g c =
           f.stuck;
       served = served_filled s t _ c.requires.noticed f.alike f.stuck;
       asks = f.alike.asks;
+      mark = mark_covers-same _ s.sub.held.mark t.sub.held.mark f.alike.held.mark;
     }
