@@ -12,7 +12,7 @@ ghost use Rattle.lq_desk_sub.specs.Passing.{HasEndings, are_written, ending_of, 
 
 use crate::laws::passed_changes_tell_nothing;
 use lq_predicate::{Predicate, Spans, names, needs_attribute};
-use lq_update::{Flags, matches_of, writes_cross_no_number};
+use lq_update::{Flags, matches_of, matches_once, writes_cross_no_number};
 use lq_value::{AttrName, Refusal, same_text};
 use lq_volume::{Change, Planned};
 use std::alloc::Global;
@@ -116,10 +116,14 @@ impl LiveQuery {
             (record_at (after planned.now.before planned.now.change)
             (node_of planned.now.before planned.now.change))) }
     {
-        if !flags.values && self.shows_nothing(planned) {
-            return None;
-        }
-        let matches = matches_of(&self.predicate, planned);
+        let matches = if self.shows_nothing(planned) {
+            if !flags.values {
+                return None;
+            }
+            matches_once(&self.predicate, planned)
+        } else {
+            matches_of(&self.predicate, planned)
+        };
         if matches.may_have_messages(flags) {
             Some((matches.matched_before, matches.matches_after))
         } else {

@@ -55,7 +55,7 @@ left-same None = refl
 left-same (Some e) = rw (same-self e) refl
 
 -- what one result misses of another is what left at each node
-missing-left : (q : Query) (s t : State) (n : ℕ) → IsVolume s → IsVolume t
+pub missing-left : (q : Query) (s t : State) (n : ℕ) → IsVolume s → IsVolume t
     → entry_at n (missing (result_of q s) (result_of q t)) ≡ left_at q s t n
 missing-left q s t n v w = missing-at n _ _ (results-rise q s v) (results-rise q t w)
     ∙ rw (at-result q s n v, at-result q t n w) refl

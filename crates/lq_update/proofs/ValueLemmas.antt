@@ -11,16 +11,19 @@ use Rattle.lq_volume.specs.declared.change.Change.{Change}
 use Rattle.lq_volume.specs.declared.change.Change.TheVariants.{Create, Remove, Move, Write, SetAttr, RemoveAttr}
 use Rattle.lq_volume.specs.State.{State, Record, record_at, IsVolume}
 use Rattle.lq_volume.specs.Change.{after, altered, clobbered, node_of, IsLawful, remove_attr, rewritten, set_attr}
+use Rattle.lq_volume.specs.Laws.{ChangesKeepTrees}
 use Rattle.lq_volume.specs.Result.{entry_if, entry_of, match_at, shown}
 use Rattle.lq_update.specs.declared.message.Opcode.{Opcode}
 use Rattle.lq_update.specs.declared.open_options.Flags.{Flags}
-use Rattle.lq_update.specs.Diff.{diff}
-use Rattle.lq_update.specs.Laws.{StepsAreFew}
+use Rattle.lq_update.specs.Diff.{diff, without_moves}
+use Rattle.lq_update.specs.Laws.{QuietKeepMatches, StepsAreFew}
+use Rattle.lq_update.specs.Options.{no_values}
 use Rattle.lq_update.specs.Touched.{is_match, left, left_at}
 use Rattle.lq_update.specs.Updates.{numbered, step_of}
 use Rattle.lq_update.specs.Values.{told_within, value_written, values_told}
+use Rattle.lq_update.proofs.EntryLemmas.{entry_at}
 use Rattle.lq_update.proofs.PassingOver.{lookup-altered}
-use Rattle.lq_update.proofs.TouchedLemmas.{TouchFew, few-moves, left-same, moves_of, step-plain, told-left}
+use Rattle.lq_update.proofs.TouchedLemmas.{TouchFew, few-moves, left-same, match-unmatched, missing-left, moves_of, step-plain, told-left}
 
 -- a change tells no value where it writes none
 pub written-none : (q : Query) (s : State) (c : Change) → value_written c ≡ None
@@ -135,6 +138,49 @@ numbered-none : (seq number : ℕ) (xs : List (Opcode × Entry)) → numbered se
     → xs ≡ []
 numbered-none seq number [] is = refl
 numbered-none seq number (x ∷ xs) is = cc
+
+-- nothing is made of no entries alone
+none-made : (gone come : List Entry) → without_moves gone come ≡ [] → (gone ≡ []) × (come ≡ [])
+none-made [] [] is = (refl, refl)
+none-made [] (e ∷ es) is = cc
+none-made (e ∷ es) come is = cc
+
+-- an entry that matches, and no more does, has left
+match-lost : (q : Query) (n : ℕ) (o p : Option Record) → is_match q o ≡ true
+    → is_match q p ≡ false → left (option_and_then (λ r. entry_if q (n, r)) o)
+    (option_and_then (λ r. entry_if q (n, r)) p) ≡ None → ⊥
+match-lost q n None p hit miss is = cc
+match-lost q n (Some r) p hit miss is =
+    let there : entry_if q (n, r) ≡ Some (entry_of (n, r)) = rw hit refl in
+    let some : Some (entry_of (n, r)) ≡ None =
+    (λ i. left (sym there i) (sym (match-unmatched q n p miss) i)) ∙ is in
+    cc
+
+-- where no entry left or came, the record matches as it did
+neither-moved : (q : Query) (n : ℕ) (o p : Option Record)
+    → left (option_and_then (λ r. entry_if q (n, r)) o)
+    (option_and_then (λ r. entry_if q (n, r)) p) ≡ None
+    → left (option_and_then (λ r. entry_if q (n, r)) p)
+    (option_and_then (λ r. entry_if q (n, r)) o) ≡ None
+    → is_match q p ≡ is_match q o
+neither-moved q n o p left_is came_is = by (is_match q o) refl (is_match q p) refl
+  where
+    by : (a : Bool) → is_match q o ≡ a → (b : Bool) → is_match q p ≡ b
+        → is_match q p ≡ is_match q o
+    by true x true y = y ∙ sym x
+    by false x false y = y ∙ sym x
+    by true x false y = absurd (match-lost q n o p x y left_is)
+    by false x true y = absurd (match-lost q n p o y x came_is)
+
+-- a change that tells nothing without values leaves it as it was whether a node's entry matches
+pub quiet-keep : ChangesKeepTrees → QuietKeepMatches
+quiet-keep trees q s c seq node v lawful none =
+    let volume = trees s c v lawful in
+    let still = none-made _ _ (numbered-none seq (s.number + 1) _
+    (sym (step-plain q (no_values false) s c seq (inl refl)) ∙ none)) in
+    neither-moved q node (record_at s node) (record_at (after s c) node)
+    (sym (missing-left q s (after s c) node v volume) ∙ ap (entry_at node) still.0)
+    (sym (missing-left q (after s c) s node volume v) ∙ ap (entry_at node) still.1)
 
 module _ (laws : TouchFew) (q : Query) (flags : Flags) (s : State) (c : Change) (seq : ℕ)
     (v : IsVolume s) (lawful : IsLawful s c) where

@@ -9,8 +9,8 @@ use Rattle.lq_predicate.specs.Query.{Query}
 use Rattle.lq_predicate.specs.Laws.{GoesBy}
 use Rattle.lq_predicate.specs.Needs.{needs_attribute}
 use Rattle.lq_volume.specs.declared.change.Change.{Change}
-use Rattle.lq_volume.specs.declared.change.Change.TheVariants.{Create, Remove, Move, Write, SetAttr, RemoveAttr}
-use Rattle.lq_volume.specs.State.{State, IsVolume}
+use Rattle.lq_volume.specs.declared.change.Change.TheVariants.{Create, Write, SetAttr, RemoveAttr}
+use Rattle.lq_volume.specs.State.{State, record_at, IsVolume}
 use Rattle.lq_volume.specs.Change.{after, IsLawful}
 use Rattle.lq_volume.specs.Book.{Book, Extends, after_all, grown, state_at, state_of, number_of, IsBook}
 use Rattle.lq_volume.specs.Result.{match_at, result_of}
@@ -18,6 +18,8 @@ use Rattle.lq_update.specs.declared.message.Message.{Message}
 use Rattle.lq_update.specs.declared.message.Opcode.TheVariants.{Created, Removed, ValueChanged}
 use Rattle.lq_update.specs.declared.open_options.Flags.{Flags}
 use Rattle.lq_update.specs.Diff.{diff}
+use Rattle.lq_update.specs.Options.{no_values}
+use Rattle.lq_update.specs.Touched.{is_match}
 use Rattle.lq_update.specs.Values.{SameValue}
 use Rattle.lq_update.specs.Updates.{step_of, updates_from, updates_of, IsSettled}
 use Rattle.lq_update.specs.Fold.{Folding, ends_settled, settled_after, fold_refusals, folding_after_all, message_entry, opened_at, EntriesRise, folded, fits_in, last_change}
@@ -128,6 +130,12 @@ BareCreatesTellNothing = (q : Query) (flags : Flags) (s : State) (dir : ℕ) (na
     (kind : Kind) (size : ℕ) (time : ℤ) (seq : ℕ) → IsVolume s
     → IsLawful s (Create dir name kind size time) → needs_attribute q ≡ true
     → step_of q flags s (Create dir name kind size time) seq ≡ []
+
+-- a change without a message beside those of values leaves it as it was whether an entry matches
+abbrev pub QuietKeepMatches : Type 0
+QuietKeepMatches = (q : Query) (s : State) (c : Change) (seq node : ℕ) → IsVolume s
+    → IsLawful s c → step_of q (no_values false) s c seq ≡ []
+    → is_match q (record_at (after s c) node) ≡ is_match q (record_at s node)
 
 -- these messages have one of this value of a node, for a change above this number
 pub record TellsValue (ms : List Message) (node number : ℕ) (attribute : Option (List ℕ))

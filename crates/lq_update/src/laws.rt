@@ -1,5 +1,5 @@
 //! Laws of the update lists: each is the contract of a function that does nothing.
-ghost use Rattle.lq_update.specs.Laws.{BareCreatesTellNothing, ChangesAddSteps, ChangesPassOver, FoldingsFollow, FoldsGiveResults, MessagesFitIn, RebuildsTakeAll, ResultsRise, SettledIsTested, StepsAreFew, UpdatesArePrefixes, UpdatesBeginEmpty, UpdatesGrow, UpdatesJoin, UpdatesStay, ValuesAreShown, ValuesAreTold, WholeFoldsGiveResults};
+ghost use Rattle.lq_update.specs.Laws.{BareCreatesTellNothing, ChangesAddSteps, ChangesPassOver, FoldingsFollow, FoldsGiveResults, MessagesFitIn, QuietKeepMatches, RebuildsTakeAll, ResultsRise, SettledIsTested, StepsAreFew, UpdatesArePrefixes, UpdatesBeginEmpty, UpdatesGrow, UpdatesJoin, UpdatesStay, ValuesAreShown, ValuesAreTold, WholeFoldsGiveResults};
 
 use crate::difference::changes_touch_few;
 use lq_predicate::bare_rows_fail;
@@ -115,6 +115,14 @@ pub fn bare_creates_tell_nothing()
 {
     bare_rows_fail();
     changes_touch_few();
+}
+
+/// A change that has no message for a query, beside those of values, leaves it as it was whether the
+/// query matches an entry: one question to the query will do (`matches_once`).
+pub fn quiet_changes_keep_matches()
+    ensures { QuietKeepMatches }
+{
+    accepted_changes_keep_trees();
 }
 
 /// An update list with values tells each change within the result: where a node is in the result at

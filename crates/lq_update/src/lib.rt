@@ -26,12 +26,13 @@ mod values;
 pub use indexed_rebuild::IndexedRebuild;
 pub use laws::{
     bare_creates_tell_nothing, changes_add_steps, changes_pass_over, foldings_follow,
-    folds_give_results, messages_fit_in, rebuilds_take_all, results_rise, settled_is_tested,
-    steps_are_few, updates_are_prefixes, updates_begin_empty, updates_grow, updates_join,
-    updates_stay, values_are_shown, values_are_told, whole_folds_give_results,
+    folds_give_results, messages_fit_in, quiet_changes_keep_matches, rebuilds_take_all,
+    results_rise, settled_is_tested, steps_are_few, updates_are_prefixes, updates_begin_empty,
+    updates_grow, updates_join, updates_stay, values_are_shown, values_are_told,
+    whole_folds_give_results,
 };
 pub use mark::{Cause, Mark};
-pub use matches::{Matches, matches_of};
+pub use matches::{Matches, matches_of, matches_once};
 pub use message::{Message, Opcode};
 pub use number_writes::writes_cross_no_number;
 pub use open_options::{Flags, OpenOptions};

@@ -1,16 +1,20 @@
 //! Asks a query of a planned change's own entry before and after it, so that no caller asks twice.
-ghost use Rattle.std.specs.Prelude.{◌≡◌};
+ghost use Rattle.std.specs.Prelude.{◌≡◌, ℕ, [], false};
+ghost use Rattle.std.specs.Option.{option_copied};
 ghost use Rattle.lq_volume.specs.State.{record_at};
 ghost use Rattle.lq_volume.specs.Change.{after, node_of};
+ghost use Rattle.lq_update.specs.Options.{no_values};
 ghost use Rattle.lq_update.specs.Touched.{is_match};
+ghost use Rattle.lq_update.specs.Updates.{step_of};
 
+use crate::laws::quiet_changes_keep_matches;
 use lq_predicate::{Predicate, holds};
-use lq_volume::Planned;
+use lq_volume::{EntryRow, Planned};
 
 /// A query that was asked of a planned change: whether it matches the entry of the change's own
 /// node before the change, and after it.
 ///
-/// `matches_of` asks it.
+/// `matches_of` and `matches_once` ask it.
 #[derive(Clone, Copy)]
 pub struct Matches<'s, 'a> {
     /// The query.
@@ -36,18 +40,44 @@ pub fn matches_of<'s, 'a>(predicate: &'s Predicate, planned: &'s Planned<'a>) ->
     ensures query { result.predicate.now ≡ predicate.now }
     ensures plan { result.planned.now ≡ planned.entry.now }
 {
-    let matched_before = match planned.entry_before() {
-        None => false,
-        Some(view) => holds(predicate, view),
-    };
-    let matches_after = match planned.entry_after() {
-        None => false,
-        Some(view) => holds(predicate, view),
-    };
     Matches {
         predicate,
         planned,
-        matched_before,
-        matches_after,
+        matched_before: is_matched(predicate, planned.entry_before()),
+        matches_after: is_matched(predicate, planned.entry_after()),
+    }
+}
+
+/// Asks a query of the entry of a planned change's own node, once for before the change and after
+/// it.
+///
+/// The change has no message for the query, beside those of values. It takes no memory.
+#[inline(always)]
+pub fn matches_once<'s, 'a>(predicate: &'s Predicate, planned: &'s Planned<'a>) -> Matches<'s, 'a>
+    requires quiet { (seq : ℕ) → step_of predicate.now (no_values false)
+        planned.now.before planned.now.change seq ≡ [] }
+    ensures query { result.predicate.now ≡ predicate.now }
+    ensures plan { result.planned.now ≡ planned.entry.now }
+{
+    quiet_changes_keep_matches();
+    // For its clauses `lawful` and `volume`.
+    let _ = planned.applied();
+    let matches = is_matched(predicate, planned.entry_before());
+    Matches {
+        predicate,
+        planned,
+        matched_before: matches,
+        matches_after: matches,
+    }
+}
+
+// Whether the query matches an entry, if there is one.
+#[inline(always)]
+fn is_matched(predicate: &Predicate, row: Option<&EntryRow<'_>>) -> bool
+    ensures { result ≡ is_match predicate.now (option_copied row.entry) }
+{
+    match row {
+        None => false,
+        Some(row) => holds(predicate, row),
     }
 }
