@@ -12,7 +12,7 @@ use Rattle.lq_update.specs.declared.mark.Cause.TheVariants.{Overrun}
 use Rattle.lq_update.specs.declared.parcel.Parcel.{Parcel}
 use Rattle.lq_update.specs.declared.parcel.Parcel.TheVariants.{Update}
 use Rattle.lq_update.specs.Updates.{updates_of, step_of}
-use Rattle.lq_update.specs.Laws.{UpdatesJoin}
+use Rattle.lq_update.specs.Laws.{ChangesAddSteps, UpdatesStay}
 use Rattle.lq_desk_world.specs.declared.event.Act.{Act}
 use Rattle.lq_desk_world.specs.declared.event.Act.TheVariants as act
 use Rattle.lq_desk_world.specs.World.{Subscribed, Ending, covered_by, covered, updates_due, mark_behind, whole, is_over, with_end, first_in_port, change_overruns, after_change}
@@ -23,7 +23,6 @@ use Rattle.lq_desk.specs.Slot.{slot_after, is_mark_read, read_if}
 use Rattle.lq_desk.specs.Act.{act_of}
 use Rattle.lq_desk.specs.DeskState.{held_for, slot_for}
 use Rattle.lq_desk.proofs.ListLemmas.{get-between}
-use Rattle.lq_desk.proofs.UpdateLemmas.{updates_of-stays, updates_of-change}
 use Rattle.lq_desk.proofs.SlotLemmas.{parcels, put-same, queue-length, slot_told}
 
 -- ---- a read
@@ -120,7 +119,7 @@ more-told s us step live inside =
     rw live cc
 
 -- after one more change to the book of a fair subscription
-module _ (join : UpdatesJoin) (b : Book) (c : Change_) (s : Subscribed) (f : IsFair b s)
+module _ (stay : UpdatesStay) (add : ChangesAddSteps) (b : Book) (c : Change_) (s : Subscribed) (f : IsFair b s)
     (numbered : (state_of b).number ≡ number_of b) where
   -- the book with that change
   abbrev after : Book
@@ -131,7 +130,7 @@ module _ (join : UpdatesJoin) (b : Book) (c : Change_) (s : Subscribed) (f : IsF
   ended-same e is =
       let to : covered b s ≡ e.change = ap (covered_by b) is in
       let told : updates_due after s ≡ updates_due b s =
-      rw is (updates_of-stays s.query s.flags b (c ∷ []) s.opened e.change f.begun
+      rw is (stay s.query s.flags after b s.opened e.change (c ∷ [], refl) f.begun
       (omega (arith, f.opened, to)) (omega (arith, f.covered, to))) in
       ap (slot_told s) (sym told)
 
@@ -145,11 +144,16 @@ module _ (join : UpdatesJoin) (b : Book) (c : Change_) (s : Subscribed) (f : IsF
     opened_before : s.opened ≤ number_of b
     opened_before = omega (arith, f.opened, ap (covered_by b) live)
 
+    -- the change has the next number
+    number_after : number_of after ≡ number_of b + 1
+    number_after = omega (arith, length-append b.changes (c ∷ []))
+
     -- if they are held, the slot is what it leaves after the change
     goes-on : record (slot_for b s) { held = with_messages (held_for b s) step } ≡ slot_for after s
     goes-on =
         let told : updates_due after s ≡ updates_due b s ++ step =
-        rw live (updates_of-change join s.query s.flags b c s.opened opened_before) in
+        rw live (ap (updates_of s.query s.flags after s.opened) number_after
+        ∙ add s.query s.flags b c s.opened (number_of b) refl opened_before) in
         more-told s (updates_due b s) step live (put-inside b s f live)
         ∙ ap (slot_told s) (sym told)
 
@@ -158,7 +162,7 @@ module _ (join : UpdatesJoin) (b : Book) (c : Change_) (s : Subscribed) (f : IsF
         ≡ slot_for after (with_end s Overrun (number_of b))
     overruns =
         rw numbered (end-same b s f live after Overrun (number_of b) (told-live b s f live
-        ∙ sym (updates_of-stays s.query s.flags b (c ∷ []) s.opened (number_of b) f.begun
+        ∙ sym (stay s.query s.flags after b s.opened (number_of b) (c ∷ [], refl) f.begun
         opened_before (omega arith))))
 
   -- each slot after the change is what its subscription leaves then

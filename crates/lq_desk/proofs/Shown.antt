@@ -14,7 +14,7 @@ use Rattle.lq_update.specs.declared.open_options.Flags.{Flags}
 use Rattle.lq_update.specs.declared.open_options.OpenOptions.{OpenOptions}
 use Rattle.lq_update.specs.Options.{options_of}
 use Rattle.lq_update.specs.Updates.{updates_of}
-use Rattle.lq_update.specs.Laws.{UpdatesJoin}
+use Rattle.lq_update.specs.Laws.{ChangesAddSteps, UpdatesStay}
 use Rattle.lq_desk_world.specs.World.{World, Subscribed, subscribed_at, after_change, taken_before_free}
 use Rattle.lq_desk_world.specs.declared.event.Event.{Event}
 use Rattle.lq_desk_world.specs.declared.event.Event.TheVariants.{Change, Open, OpenBy, Put, Take, HangUp, Notice, Close, Finish}
@@ -88,8 +88,8 @@ module _ (count : ChangesCount) where
 
   -- ---- a change
 
-  -- and update lists join
-  module _ (join : UpdatesJoin) where
+  -- and update lists stay as books grow, and grow by steps
+  module _ (stay : UpdatesStay) (add : ChangesAddSteps) where
     -- a change leaves in each slot what the world's subscriptions leave after it
     changed-slots : (b : Book) (c : Change_) (os : List (Option Subscribed))
         → AllByRecursion (IsFairSlot b) os
@@ -98,7 +98,7 @@ module _ (count : ChangesCount) where
     changed-slots b c [] h = refl
     changed-slots b c (None ∷ os) h = ap (λ ks. None ∷ ks) (changed-slots b c os h.1)
     changed-slots b c (Some s ∷ os) h =
-        cc (change-same join b c s h.0 (numbered b), changed-slots b c os h.1)
+        cc (change-same stay add b c s h.0 (numbered b), changed-slots b c os h.1)
 
     -- a change is answered alike
     changing-same : (w : World) (c : Change_) → IsFairWorld w → (r : Option Refusal)

@@ -5,14 +5,15 @@ ghost use Rattle.lq_desk.specs.contracts.desk.Desk as desks;
 
 use lq_desk_sub::Sub;
 use lq_desk_world::runs_keep_worlds_fair;
-use lq_update::{Parcel, updates_join};
+use lq_update::{Parcel, changes_add_steps, updates_stay};
 use lq_volume::{Volume, changes_are_counted};
 
 /// What a desk keeps answers each event as any world that it shows, and then shows the next world.
 pub fn kept_shows_worlds()
     ensures { KeptShowsWorlds }
 {
-    updates_join();
+    updates_stay();
+    changes_add_steps();
     changes_are_counted();
     runs_keep_worlds_fair();
 }

@@ -14,7 +14,7 @@ use Rattle.lq_update.specs.declared.message.Message.{Message}
 use Rattle.lq_update.specs.Updates.{updates_of}
 use mathlib.Core.List.{IsPrefix}
 use Rattle.lq_update.specs.Fold.{folded}
-use Rattle.lq_update.specs.Laws.{FoldsGiveResults, UpdatesJoin, UpdatesGrow, WholeFoldsGiveResults}
+use Rattle.lq_update.specs.Laws.{ChangesAddSteps, FoldsGiveResults, UpdatesGrow, UpdatesStay, WholeFoldsGiveResults}
 use Rattle.lq_desk_world.specs.World.{World, Subscribed, covered, covered_by, updates_due, whole}
 use Rattle.lq_desk_world.specs.declared.event.Event.{Event}
 use Rattle.lq_desk_world.specs.declared.event.Event.TheVariants.{Change}
@@ -174,7 +174,7 @@ state-after s early late n is =
     ap (λ i. after_all s (take i (early ++ late))) k
     ∙ ap (after_all s) (take-append_seam early late)
 
-module _ (join : UpdatesJoin) (grow : UpdatesGrow) (count : ChangesCount) (fold : FoldsGiveResults)
+module _ (stay : UpdatesStay) (add : ChangesAddSteps) (grow : UpdatesGrow) (count : ChangesCount) (fold : FoldsGiveResults)
     (fold_all : WholeFoldsGiveResults) where
   -- what a run's openings and reads are answered, from any world whose book leads to the state
   openings-told : (w end : World) (events : List Event) (answers : List Answer)
@@ -186,7 +186,7 @@ module _ (join : UpdatesJoin) (grow : UpdatesGrow) (count : ChangesCount) (fold 
       (subst (λ (es : List Event). Run w es (befores ++ Opened slot at first ∷ afters) end) is
       (subst (λ (xs : List Answer). Run w events xs end) told run)) in
       let mid = parts.0 in
-      let opened = opened-ran join mid e q o slot at first after afters end asks parts.2 in
+      let opened = opened-ran stay add mid e q o slot at first after afters end asks parts.2 in
       let start = state_of w.book in
       let early = accepted before befores in
       let late = accepted after afters in

@@ -7,7 +7,7 @@ use Rattle.lq_predicate.specs.Query.{Query}
 use Rattle.lq_volume.specs.Result.{result_of}
 use Rattle.lq_volume.specs.Book.{number_of, state_of}
 use Rattle.lq_update.specs.declared.open_options.OpenOptions.{OpenOptions}
-use Rattle.lq_update.specs.Laws.{UpdatesJoin}
+use Rattle.lq_update.specs.Laws.{ChangesAddSteps, UpdatesStay}
 use Rattle.lq_desk_world.specs.World.{World, Subscribed, taken_before_free, whole, in_port, to_come, subscribed_at}
 use Rattle.lq_desk_world.specs.declared.event.Event.{Event}
 use Rattle.lq_desk_world.specs.declared.event.Event.TheVariants.{Open, OpenBy}
@@ -63,14 +63,14 @@ asks-outcome w (OpenBy p options) q o asks =
 asks-outcome w e q o asks = absurd (let no : ⊥ = cc in no)
 
 -- what comes of a subscription from its opening on
-pub opened-ran : UpdatesJoin → (w : World) (e : Event) (q : Query) (o : OpenOptions)
+pub opened-ran : UpdatesStay → ChangesAddSteps → (w : World) (e : Event) (q : Query) (o : OpenOptions)
     (slot at : ℕ) (first : List Entry) (events : List Event) (answers : List Answer) (end : World)
     → asked_to_open e ≡ Some (q, o)
     → Run w (e ∷ events) (Opened slot at first ∷ answers) end
     → RanFrom w (opened_now w q o) slot at first events answers end
-opened-ran join w e q o slot at first events answers end asks (v, inr ran, run) =
+opened-ran stay add w e q o slot at first events answers end asks (v, inr ran, run) =
     absurd (let e = ran.1 in let no : ⊥ = cc in no)
-opened-ran join w e q o slot at first events answers end asks (v, inl done, run) =
+opened-ran stay add w e q o slot at first events answers end asks (v, inl done, run) =
     by (open_refusal w o.port o.backlog) refl (done.0 ∙ ap (λ x. x.0) outcome_is)
     (done.1 ∙ ap (λ x. x.1) outcome_is)
   where
@@ -100,16 +100,16 @@ opened-ran join w e q o slot at first events answers end asks (v, inl done, run)
           cc,
           subst (λ (k : ℕ). Ran w.book s end i (reads_of k events answers)
               (is_freed k events answers)) (sym slot_is)
-              (run-ran join (with_sub w s) i s events answers end stands
+              (run-ran stay add (with_sub w s) i s events answers end stands
               (subst (λ (u : World). Run u events answers end) is run)),
         )
 
 -- the list of each subscription that a run opens is passed on
-pub reads-passed : UpdatesJoin → ReadsArePassedOn
-reads-passed join w end before after befores afters e q o slot at first asks run same =
+pub reads-passed : UpdatesStay → ChangesAddSteps → ReadsArePassedOn
+reads-passed stay add w end before after befores afters e q o slot at first asks run same =
     let parts = run_parts w before (e ∷ after) befores (Opened slot at first ∷ afters) end same
     run in
-    let opened = opened-ran join parts.0 e q o slot at first after afters end asks parts.2 in
+    let opened = opened-ran stay add parts.0 e q o slot at first after afters end asks parts.2 in
     let ran = opened.4 in
     let t = ran.sub in
     let taken : parcels_in (reads_of slot after afters) ≡ take t.taken (whole end.book t) =

@@ -10,7 +10,7 @@ use Rattle.lq_volume.specs.State.{State}
 use Rattle.lq_volume.specs.Change.{after}
 use Rattle.lq_volume.specs.Book.{AreLawful, Book, after_all, grown, state_of}
 use Rattle.lq_update.specs.Options.{options_of}
-use Rattle.lq_update.specs.Laws.{UpdatesJoin}
+use Rattle.lq_update.specs.Laws.{ChangesAddSteps, UpdatesStay}
 use Rattle.lq_desk_world.specs.World.{World, Subscribed, after_change, taken_before_free, with_slot}
 use Rattle.lq_desk_world.specs.declared.event.Event.{Event}
 use Rattle.lq_desk_world.specs.declared.event.Event.TheVariants.{Change}
@@ -141,7 +141,7 @@ own-passes w i s x h = elim (acting-passes w.book s (i + 1) x h.fair) [
   )
 ]
 
-module _ (join : UpdatesJoin) where
+module _ (stay : UpdatesStay) (add : ChangesAddSteps) where
   -- each step leaves this slot's reads, gives one more, or frees the slot
   pub step-goes : (w : World) (i : ℕ) (s : Subscribed) (e : Event) (a : Answer) (v : World)
       → Stands w i s → Step w e a v → Passes w i s e a v
@@ -158,7 +158,7 @@ module _ (join : UpdatesJoin) where
               ∙ ap (option_map (option_map (after_change w.book c))) h.here;
           does = reads-nothing w.book s (grown w.book (c ∷ [])) (after_change w.book c s)
               (taken_within w.book s h.fair) (after_change-taken w.book c s)
-              (keeps-change join w.book c s h.fair);
+              (keeps-change stay add w.book c s h.fair);
         },
       ))
       (λ q port backlog moved none. inr (opens (opened_now w q (options_of port backlog moved))))

@@ -12,7 +12,7 @@ use Rattle.lq_update.specs.declared.parcel.Parcel.{Parcel}
 use Rattle.lq_update.specs.declared.parcel.Parcel.TheVariants.{Update, Fin}
 use Rattle.lq_update.specs.Updates.{updates_of}
 use mathlib.Core.List.{IsPrefix}
-use Rattle.lq_update.specs.Laws.{UpdatesJoin, UpdatesGrow}
+use Rattle.lq_update.specs.Laws.{ChangesAddSteps, UpdatesGrow, UpdatesStay}
 use Rattle.lq_desk_world.specs.World.{World, Subscribed, Ending, updates_due, mark_behind, whole}
 use Rattle.lq_desk_world.specs.declared.event.Event.{Event}
 use Rattle.lq_desk_world.specs.declared.event.Event.TheVariants.{Take}
@@ -138,7 +138,7 @@ ran-more b c s t end i xs ys freed few r ran = record {
         ∙ (sym (append_assoc told (parcels_in xs) (parcels_in zs))
         ∙ ap (λ ps. ps ++ parcels_in zs) r.front)
 
-module _ (join : UpdatesJoin) where
+module _ (stay : UpdatesStay) (add : ChangesAddSteps) where
   -- over a whole run
   pub run-ran : (w : World) (i : ℕ) (s : Subscribed) (events : List Event) (answers : List Answer)
       (end : World) → Stands w i s → Run w events answers end
@@ -147,14 +147,14 @@ module _ (join : UpdatesJoin) where
       (ran-nothing w.book s w i s false (reads-self w.book s h.fair) (λ free. h.here)
       (λ no. absurd (let never : ⊥ = cc in never)))
   run-ran w i s (e ∷ events) (a ∷ answers) end h run =
-      elim (step-goes join w i s e a run.0 h run.1) [
+      elim (step-goes stay add w i s e a run.0 h run.1) [
         | inl freed ↦
             let cs = accepted (e ∷ events) (a ∷ answers) in
             let stays : Reads w.book s end.book s [] =
             subst (λ (b : Book). Reads w.book s b s [])
             (sym (run-book w (e ∷ events) (a ∷ answers) end run))
             (reads-nothing w.book s (grown w.book cs) s (taken_within w.book s h.fair) refl
-            (keeps-ended w.book cs s freed.1.0 h.fair freed.1.1)) in
+            (keeps-ended stay w.book cs s freed.1.0 h.fair freed.1.1)) in
             subst RanIf (sym freed.0) (ran-nothing w.book s end i s true stays
             (λ no. absurd (let never : ⊥ = cc in never)) (λ gone. (stays.over freed.1).0))
         | inr goes ↦

@@ -30,7 +30,7 @@ use Rattle.lq_desk_world.proofs.ListLemmas.{each_bool, slice_set-same, all-get, 
 use Rattle.std.proofs.lemmas.Bool.{and_parts, leb-false, leb-true}
 use Rattle.lq_value.specs.Refusal.{first_refusal}
 use Rattle.lq_update.specs.Updates.{updates_of, updates_from}
-use Rattle.lq_update.specs.Laws.{UpdatesJoin}
+use Rattle.lq_update.specs.Laws.{ChangesAddSteps, UpdatesStay}
 
 -- ---- slots
 
@@ -272,12 +272,12 @@ acting-fair b s a h = elim (acting-passes b s 1 a h) [
       left.1.does.keeps.fair
 ]
 
-module _ (join : UpdatesJoin) where
+module _ (stay : UpdatesStay) (add : ChangesAddSteps) where
   -- a change leaves each slot fair
   changed-fair : (b : Book) (c : Change_) (o : Option Subscribed) → IsFairSlot b o
       → IsFairSlot (grown b (c ∷ [])) (option_map (after_change b c) o)
   changed-fair b c None h = tt
-  changed-fair b c (Some s) h = (keeps-change join b c s h).fair
+  changed-fair b c (Some s) h = (keeps-change stay add b c s h).fair
 
   -- each step leaves a fair world fair
   step-fair : (w : World) (e : Event) (a : Answer) (v : World) → IsFairWorld w → Step w e a v

@@ -16,13 +16,13 @@ use Rattle.lq_update.specs.declared.mark.Cause.TheVariants.{Overrun}
 use Rattle.lq_update.specs.declared.parcel.Parcel.{Parcel}
 use Rattle.lq_update.specs.declared.parcel.Parcel.TheVariants.{Update, Fin}
 use Rattle.lq_update.specs.Updates.{updates_of, step_of}
-use Rattle.lq_update.specs.Laws.{UpdatesJoin}
+use Rattle.lq_update.specs.Laws.{ChangesAddSteps, UpdatesStay}
 use Rattle.lq_desk_world.specs.World.{Subscribed, Ending, covered_by, covered, updates_due, mark_behind, whole, waiting_count, is_live, is_over, with_end, news, change_overruns, overrun_if, after_change}
 use Rattle.lq_desk_world.specs.Events.{Answer, Took, Ended}
 use Rattle.lq_desk_world.specs.Fair.{IsFair}
 use Rattle.lq_desk_world.specs.Headline.{parcels_in}
 use Rattle.lq_desk_world.proofs.ListLemmas.{each_bool}
-use Rattle.lq_desk_world.proofs.WorldLemmas.{updates_of-stays, updates_of-change}
+use Rattle.lq_desk_world.proofs.WorldLemmas.{number-grown}
 
 -- what a subscription keeps from its opening on
 abbrev pub opening_of : Subscribed → Query × Flags × ℕ × ℕ
@@ -144,15 +144,15 @@ keeps-end b s cause h live =
     }
 
 -- changes keep what a subscription that has ended was told
-pub keeps-ended : (b : Book) (cs : List Change_) (s : Subscribed) (e : Ending) → IsFair b s
+pub keeps-ended : UpdatesStay → (b : Book) (cs : List Change_) (s : Subscribed) (e : Ending) → IsFair b s
     → s.end ≡ Some e
     → Keeps b s (grown b cs) s
-keeps-ended b cs s e h is =
+keeps-ended stay b cs s e h is =
     let to : covered b s ≡ e.change = ap (covered_by b) is in
     let told_same : updates_due (grown b cs) s ≡ updates_due b s =
     ap (λ o. updates_to (grown b cs) s (covered_by (grown b cs) o)) is
-    ∙ (updates_of-stays s.query s.flags b cs s.opened e.change h.begun (omega (arith, h.opened, to))
-    (omega (arith, h.covered, to))
+    ∙ (stay s.query s.flags (grown b cs) b s.opened e.change (cs, refl) h.begun
+    (omega (arith, h.opened, to)) (omega (arith, h.covered, to))
     ∙ ap (λ o. updates_to b s (covered_by b o)) (sym is)) in
     let same : whole (grown b cs) s ≡ whole b s =
     ap (λ us. parcels us ++ mark_behind (length us) s.end) told_same in
@@ -230,7 +230,7 @@ fits h k n backlog room old is = elim (and_cases (nat_lt 0 k) (nat_lt backlog (h
   | inr few ↦ omega (arith, ltb-false backlog (h + k) few)
 ]
 
-module _ (join : UpdatesJoin) where
+module _ (stay : UpdatesStay) (add : ChangesAddSteps) where
   -- a change that doesn't end it
   keeps-told : (b : Book) (c : Change_) (s : Subscribed)
       → IsFair b s → s.end ≡ None → change_overruns b c s ≡ false → Keeps b s (grown b (c ∷ [])) s
@@ -241,7 +241,8 @@ module _ (join : UpdatesJoin) where
       let far : covered d s ≡ number_of d = ap (covered_by d) live in
       let step = step_of s.query s.flags (state_of b) c (length us + 1) in
       let told_more : updates_to d s (number_of d) ≡ us ++ step =
-      updates_of-change join s.query s.flags b c s.opened (omega (arith, h.opened, to)) in
+      ap (updates_of s.query s.flags d s.opened) (number-grown b c)
+      ∙ add s.query s.flags b c s.opened (number_of b) refl (omega (arith, h.opened, to)) in
       let grows : whole d s ≡ whole b s ++ parcels step =
       whole-live d s live ∙ (ap parcels told_more ∙ (map-append (λ m. Update m) us step
       ∙ ap (λ xs. xs ++ parcels step) (sym (whole-live b s live)))) in
@@ -293,12 +294,12 @@ module _ (join : UpdatesJoin) where
           let ends =
           keeps-end b s Overrun h (live-none s.end
           (and_parts (is_live s) (change_overruns b c s) is).0) in
-          keeps-more b b (grown b (c ∷ [])) s t t ends (keeps-ended b (c ∷ []) t
+          keeps-more b b (grown b (c ∷ [])) s t t ends (keeps-ended stay b (c ∷ []) t
           (record { cause = Overrun; change = number_of b }) ends.fair refl)
       by false is = elim (end-cases s.end) [
         | inl live ↦ keeps-told b c s h live (ap (λ o. is_none o && change_overruns b c s)
             (sym live) ∙ is)
-        | inr ended ↦ keeps-ended b (c ∷ []) s ended.0 h ended.1
+        | inr ended ↦ keeps-ended stay b (c ∷ []) s ended.0 h ended.1
       ]
 
 -- a change leaves how much was taken

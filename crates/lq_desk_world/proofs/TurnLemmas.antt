@@ -9,7 +9,7 @@ use Rattle.std.proofs.lemmas.Bool.Decides.{nat_tests}
 use Rattle.lq_value.specs.declared.refusal.Refusal.{Refusal}
 use Rattle.lq_volume.specs.declared.change.Change.{Change as Change_}
 use Rattle.lq_volume.specs.Book.{Book}
-use Rattle.lq_update.specs.Laws.{UpdatesJoin}
+use Rattle.lq_update.specs.Laws.{ChangesAddSteps, UpdatesStay}
 use Rattle.lq_desk_world.specs.World.{World, Subscribed, after_change, can_put, one_more_put, subscribed_at, with_slot}
 use Rattle.lq_desk_world.specs.declared.event.Event.{Event}
 use Rattle.lq_desk_world.specs.declared.event.Event.TheVariants.{Change, Open, OpenBy, Put, Take, Notice, Close, Finish}
@@ -228,7 +228,7 @@ after_events-append w (x ∷ xs) ys = after_events-append (next w x) xs ys
 abbrev changed_world : World → Change_ → World
 changed_world w c = next (after_events outcome w (notices (ports_of w))) (Change c)
 
-module _ (join : UpdatesJoin) where
+module _ (stay : UpdatesStay) (add : ChangesAddSteps) where
   -- a change leaves the ports
   changed-ports : (b : Book) (c : Change_) (slots : List (Option Subscribed))
       → AllByRecursion (IsFairSlot b) slots
@@ -237,7 +237,7 @@ module _ (join : UpdatesJoin) where
   changed-ports b c [] fair = refl
   changed-ports b c (None ∷ slots) fair = ap (λ ps. None ∷ ps) (changed-ports b c slots fair.1)
   changed-ports b c (Some s ∷ slots) fair =
-      let port = ap (λ l. l.3) (keeps-change join b c s fair.0).same in
+      let port = ap (λ l. l.3) (keeps-change stay add b c s fair.0).same in
       let rest = changed-ports b c slots fair.1 in
       cc
 
@@ -260,7 +260,7 @@ module _ (join : UpdatesJoin) where
       × (ports_of (after_events outcome w events) ≡ ports_of w)
   events-stay [] w fair stays = (fair, refl)
   events-stay (e ∷ events) w fair stays =
-      let rest = events-stay events (next w e) (outcome-fair join w e fair) stays.1 in
+      let rest = events-stay events (next w e) (outcome-fair stay add w e fair) stays.1 in
       (rest.0, rest.1 ∙ event-ports w e fair stays.0)
 
   -- the notices before a change, and the change, are such events
@@ -269,7 +269,7 @@ module _ (join : UpdatesJoin) where
   change-stays w c fair =
       let v = after_events outcome w (notices (ports_of w)) in
       let stays = events-stay (notices (ports_of w)) w fair (notices-stay 1 (ports_of w)) in
-      (outcome-fair join v (Change c) stays.0, event-ports v (Change c) stays.0 tt ∙ stays.1)
+      (outcome-fair stay add v (Change c) stays.0, event-ports v (Change c) stays.0 tt ∙ stays.1)
 
   -- ---- turns
 
@@ -283,7 +283,7 @@ module _ (join : UpdatesJoin) where
   until-still (suc n) w k fair h = elim (put-cases w k) [
     | inl stays ↦ (zero, (stays.0, puts-stay (suc n) w k stays.0 ∙ sym stays.1))
     | inr moves ↦
-        let rest = until-still n (next w (Put k)) k (outcome-fair join w (Put k) fair)
+        let rest = until-still n (next w (Put k)) k (outcome-fair stay add w (Put k) fair)
         (omega (arith, moves.1 fair, h)) in
         (suc rest.0, (moves.0, rest.1))
   ]

@@ -1,7 +1,9 @@
 //! Laws of worlds and of their runs: each is the contract of a function that does nothing.
 ghost use Rattle.lq_desk_world.specs.Laws.{FirstWorldsAreFair, ListsArePassedOn, ReadsArePassedOn, RefusalsLeaveWorlds, RunsKeepWorldsFair, RunsTellReaders, TurnsFillPorts, TurnsPutUntilStill};
 
-use lq_update::{folds_give_results, updates_grow, updates_join, whole_folds_give_results};
+use lq_update::{
+    changes_add_steps, folds_give_results, updates_grow, updates_stay, whole_folds_give_results,
+};
 use lq_volume::changes_are_counted;
 
 /// A world without subscriptions is fair.
@@ -15,7 +17,8 @@ pub fn first_worlds_are_fair()
 pub fn runs_keep_worlds_fair()
     ensures { RunsKeepWorldsFair }
 {
-    updates_join();
+    updates_stay();
+    changes_add_steps();
 }
 
 /// A refused event leaves the world unchanged.
@@ -34,7 +37,8 @@ pub fn lists_are_passed_on()
 pub fn turns_fill_ports()
     ensures { TurnsFillPorts }
 {
-    updates_join();
+    updates_stay();
+    changes_add_steps();
 }
 
 /// The puts of a turn are puts until nothing moves: all but the last one move a parcel. After a
@@ -43,7 +47,8 @@ pub fn turns_fill_ports()
 pub fn turns_put_until_still()
     ensures { TurnsPutUntilStill }
 {
-    updates_join();
+    updates_stay();
+    changes_add_steps();
 }
 
 /// The list of each subscription that a run opens is passed on: the parcels among the answers to
@@ -53,7 +58,8 @@ pub fn turns_put_until_still()
 pub fn reads_are_passed_on()
     ensures { ReadsArePassedOn }
 {
-    updates_join();
+    updates_stay();
+    changes_add_steps();
 }
 
 /// The reads of a subscription that a run opens give a prefix of its query's update list from the
@@ -66,7 +72,8 @@ pub fn reads_are_passed_on()
 pub fn readers_are_told()
     ensures { RunsTellReaders }
 {
-    updates_join();
+    updates_stay();
+    changes_add_steps();
     updates_grow();
     changes_are_counted();
     folds_give_results();
