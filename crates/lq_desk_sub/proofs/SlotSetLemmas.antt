@@ -1,6 +1,6 @@
 -- Sets of slots, by the bits of a word.
 use Rattle.std.proofs.Common.{◌≡◌, ◌≢◌, ℕ, zero, suc, ◌<◌, ◌+◌, ◌^◌, ◌%◌, ◌*◌, ◌-◌, ◌/◌, true, false, ap, sym, ◌∙◌, arith, inl, inr}
-use Rattle.std.specs.Prelude.{◌==◌, ◌||◌, bit_and, bit_or}
+use Rattle.std.specs.Prelude.{◌==◌, ◌&&◌, ◌||◌, bit_and, bit_or}
 use Rattle.std.specs.Int.{bit_at, bit_not, trailing_ones, trailing_zeros, w64}
 use Rattle.std.proofs.lemmas.Bool.{cases_lt}
 use Rattle.std.proofs.lemmas.Bool.Decides.{nat_tests}
@@ -50,6 +50,15 @@ pub has-union : (v w i : ℕ) → has (bit_or v w) i ≡ (has v i || has w i)
 unfolding has
 has-union v w i =
     let or = bit_at_or v w i in
+    let a = bit_at-lt v i in
+    let b = bit_at-lt w i in
+    grind (arith, nat_tests)
+
+-- what two words share
+pub has-both : (v w i : ℕ) → has (bit_and v w) i ≡ (has v i && has w i)
+unfolding has
+has-both v w i =
+    let both = bit_at_and v w i in
     let a = bit_at-lt v i in
     let b = bit_at-lt w i in
     grind (arith, nat_tests)

@@ -1,5 +1,5 @@
 //! A set of slots as one word, so that a pass looks only at the slots with work.
-ghost use Rattle.std.specs.Prelude.{◌≡◌, ◌≢◌, ◌<◌, ◌==◌, ◌||◌, ℕ, true, false, MatchOption, IfNone, IfSome};
+ghost use Rattle.std.specs.Prelude.{◌≡◌, ◌≢◌, ◌<◌, ◌==◌, ◌&&◌, ◌||◌, ℕ, true, false, MatchOption, IfNone, IfSome};
 ghost use Rattle.std.specs.Int.{bit_at};
 ghost use Rattle.lq_desk_sub.specs.SlotSet.{has, IsEmpty, IsTakenOut};
 
@@ -49,6 +49,15 @@ impl SlotSet {
     {
         SlotSet {
             word: self.word | other.word,
+        }
+    }
+
+    /// The slots that are in both sets.
+    pub fn intersection(self, other: SlotSet) -> SlotSet
+        ensures { (i : ℕ) → has result.word i ≡ (has self.word i && has other.word i) }
+    {
+        SlotSet {
+            word: self.word & other.word,
         }
     }
 

@@ -1,9 +1,8 @@
 //! Which subscriptions a change may have messages for.
-ghost use Rattle.std.specs.Prelude.{◌≡◌, ◌≢◌, ℕ, false};
+ghost use Rattle.std.specs.Prelude.{◌≡◌, ◌≢◌, ℕ};
 ghost use Rattle.lq_volume.specs.declared.change.Change.{Change};
-ghost use Rattle.lq_desk_sub.specs.Passing.{TellsNothing};
 ghost use Rattle.lq_desk_sub.specs.SlotSet.{has};
-ghost use Rattle.lq_desk_sub.specs.Watch.{slots_for};
+ghost use Rattle.lq_desk_sub.specs.Watch.{IsWatched, slots_for};
 
 use crate::laws::passed_changes_tell_nothing;
 use crate::live_query::ending_of;
@@ -46,8 +45,7 @@ impl Watch {
 
     /// Watches a slot's subscription, in place of the one that was there. It takes no memory.
     pub fn set(&mut self, slot: SlotIndex, sub: &Sub)
-        ensures here { (c : Change) → has (slots_for self.new c).word slot.index ≡ false
-            → TellsNothing sub.now.held.query sub.now.held.flags c }
+        ensures here { IsWatched self.new slot.index sub.now.held.query sub.now.held.flags }
         ensures others { (c : Change) (i : ℕ) → i ≢ slot.index
             → has (slots_for self.new c).word i ≡ has (slots_for self.old c).word i }
     {

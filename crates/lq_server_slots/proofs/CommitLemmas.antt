@@ -1,5 +1,5 @@
 -- A change that is prepared and committed, and notices of taken slots.
-use Rattle.std.proofs.Common.{◌≡◌, ℕ, ◌<◌, ◌≤◌, List, [], ◌∷◌, length, sym, subst, arith, ◌^◌, ◌∙◌}
+use Rattle.std.proofs.Common.{◌≡◌, ℕ, Bool, ◌<◌, ◌≤◌, List, [], ◌∷◌, length, sym, subst, arith, ◌^◌, ◌∙◌}
 use Rattle.std.specs.Prelude.{IsSome}
 use Rattle.lq_volume.specs.declared.change.Change.{Change}
 use Rattle.lq_volume.specs.Book.{Book, state_of, grown}
@@ -10,7 +10,7 @@ use Rattle.lq_board.specs.Slot.{slot_at, counted}
 use Rattle.lq_server_slots.specs.declared.identity.Identity.{Identity}
 use Rattle.lq_server_slots.specs.declared.subscription.Subscription.{Subscription}
 use Rattle.lq_server_slots.specs.Marking.{hung_mark, MarkCovers}
-use Rattle.lq_server_slots.specs.Standing.{IsConsistentAt, HasPrepared, SameButHeld, SameButPuts, CannotPut}
+use Rattle.lq_server_slots.specs.Standing.{IsConsistentAt, IsPreparedIf, SameButHeld, SameButPuts, CannotPut}
 use Rattle.lq_server_slots.specs.Slots.{before_of, IsNoticed, IsServed, Serves}
 use Rattle.lq_server_slots.proofs.SlotLemmas.{IsToFill, to_fill_then, taken_filled}
 use Rattle.lq_server_slots.specs.Changing.{MayCommit}
@@ -32,14 +32,14 @@ pub served_filled : (s t : Subscription) (p : KnownSlot Identity) → IsNoticed 
 served_filled s t p noticed alike stuck = grind arith
 
 -- a change was committed in a taken slot, whose port is still to be filled
-pub committed : (c : Change) (s t : Subscription) (p : KnownSlot Identity) (book : Book)
-    → MayCommit c s p book
-    → (IsConsistentAt s (before_of book) → HasPrepared s.sub (state_of (before_of book)) c
+pub committed : (c : Change) (asked : Bool) (s t : Subscription) (p : KnownSlot Identity) (book : Book)
+    → MayCommit c asked s p book
+    → (IsConsistentAt s (before_of book) → IsPreparedIf asked s.sub (state_of (before_of book)) c
     → IsLawful (state_of (before_of book)) c → IsFullBook (grown (before_of book) (c ∷ []))
     → IsConsistentAt t (grown (before_of book) (c ∷ [])))
     → SameButHeld s t → t.first_close ≡ s.first_close
     → (hung_mark t.sub.held.mark → hung_mark s.sub.held.mark) → IsToFill t p book
-committed c s t p book may stands others first_close hung =
+committed c asked s t p book may stands others first_close hung =
     let grown = may.grown in
     let t_stands = stands may.stood.taken.stands may.prepared grown.lawful
     (subst IsFullBook grown.book grown.full) in
@@ -47,18 +47,19 @@ committed c s t p book may stands others first_close hung =
     (subst (IsConsistentAt t) (sym grown.book) t_stands) others first_close hung
 
 -- and then it was filled
-pub committed_filled : (c : Change) (number : ℕ) (s t u : Subscription) (p : KnownSlot Identity) (book : Book)
-    → MayCommit c s p book → IsToFill t p book → SameButHeld s t
+pub committed_filled : (c : Change) (asked : Bool) (number : ℕ) (s t u : Subscription) (p : KnownSlot Identity) (book : Book)
+    → MayCommit c asked s p book → IsToFill t p book → SameButHeld s t
     → (IsSome s.sub.held.mark → t.sub.held.mark ≡ s.sub.held.mark)
     → MarkCovers number s.sub.held.mark t.sub.held.mark → IsConsistentAt u book
     → SameButPuts t u → length t.input.taken ≤ length u.input.taken → CannotPut u
     → Serves number s u p book
-committed_filled c number s t u p book may left others still covers stands alike same stuck =
+committed_filled c asked number s t u p book may left others still covers stands alike same stuck =
     record {
       taken = taken_filled t u p book left stands alike same stuck;
       served = served_filled t u p
           (noticed_still s t p may.stood.noticed others.asks still) alike stuck;
       asks = alike.asks ∙ others.asks;
+      query = (alike.held.query ∙ others.query, alike.held.flags ∙ others.flags);
       mark = rw alike.held.mark covers;
     }
 

@@ -1,5 +1,5 @@
 -- A subscription as the book grows, and as it ends.
-use Rattle.std.proofs.Common.{◌≡◌, ℕ, ◌+◌, ◌<◌, ◌≤◌, Bool, true, false, List, [], ◌∷◌, ◌++◌, length, Option, Some, None, refl, sym, ap, ◌∙◌, subst, arith, append_assoc, length-append}
+use Rattle.std.proofs.Common.{◌≡◌, ℕ, ◌+◌, ◌<◌, ◌≤◌, Bool, true, false, List, [], ◌∷◌, ◌++◌, length, Option, Some, None, refl, sym, ap, ◌∙◌, subst, arith, add-zero, append-nil, append_assoc, length-append}
 use Rattle.std.specs.Prelude.{is_none}
 use Rattle.std.proofs.lemmas.Bool.Decides.{nat_tests}
 use Rattle.lq_predicate.specs.Query.{Query}
@@ -15,6 +15,7 @@ use Rattle.lq_update.specs.Updates.{step_of}
 use Rattle.lq_volume.specs.Change.{IsLawful}
 use Rattle.lq_update.specs.Laws.{StepsAreFew}
 use Rattle.lq_desk_sub.specs.Held.{Held, Prepared, prepared_for, committed, opened_with, with_messages, ended_by, overruns, after_messages_by, after_messages}
+use Rattle.lq_desk_sub.specs.Passing.{TellsNothing}
 use Rattle.lq_port.specs.End.{End, all_put}
 use Rattle.lq_server_slots.specs.declared.delivery.Delivery.{Delivery}
 use Rattle.lq_server_slots.specs.declared.delivery.Opening.{Opening}
@@ -203,6 +204,35 @@ committed_stands p q e places last_report first_close book c live is few filled 
     (by_test p.held e places last_report first_close book s live c full
     (few p.held.query p.held.flags (state_of book) c (p.held.sent + 1) s.full.state lawful) filled
     (overruns p.held (step_of p.held.query p.held.flags (state_of book) c (p.held.sent + 1))) refl)
+
+-- and one that a change tells nothing stands over the book with the change as it is
+pub untold_stands : (p : Prepared) (e : End Delivery Opening) (places : ℕ) (last_report : LastReport)
+    (first_close : FirstClose) (book : Book) (c : Change) → StepsAreFew
+    → (0 < length p.held.messages → places + seen_of last_report ≤ length (messages_in (all_put e)))
+    → Stands p.held e places last_report first_close book
+    → TellsNothing p.held.query p.held.flags c
+    → IsLawful (state_of book) c → IsFullBook (grown book (c ∷ []))
+    → Stands p.held e places last_report first_close (grown book (c ∷ []))
+untold_stands p e places last_report first_close book c few filled s none lawful full =
+    by p.held.mark refl
+  where
+    same : after_messages p.held [] (state_of book).number ≡ p.held
+    same = λ i. record p.held {
+      sent = add-zero p.held.sent i;
+      messages = append-nil p.held.messages i;
+    }
+
+    by : (o : Option Mark) → p.held.mark ≡ o
+        → Stands p.held e places last_report first_close (grown book (c ∷ []))
+    by (Some k) mark =
+        longer_marked p.held e places last_report first_close book s (grown book (c ∷ [])) k
+        (c ∷ [], refl) full mark
+    by None live =
+        let empty = none (state_of book) (p.held.sent + 1) s.full.state lawful in
+        let r : Prepared = record p { ready = []; before = (state_of book).number } in
+        subst (λ (h : Held). Stands h e places last_report first_close (grown book (c ∷ []))) same
+        (committed_stands r (committed r) e places last_report first_close book c live refl few
+        filled s (λ is. (sym empty, refl)) lawful full)
 
 -- a subscription stands on once its reader is told
 pub told_now : (h : Held) (e : End Delivery Opening) (places : ℕ) (last_report : LastReport)

@@ -15,7 +15,11 @@ use Rattle.lq_board.specs.Slot.{slot_at, unused, gone_out, counted}
 use Rattle.lq_board.specs.Token.{BoardName, KeeperToken, SeatToken, moment_of}
 use Rattle.lq_update.specs.declared.open_options.Flags.{Flags}
 use Rattle.lq_update.specs.Fold.{opened_at}
+use Rattle.lq_volume.specs.declared.change.Change.{Change}
+use Rattle.lq_desk_sub.specs.declared.watch.Watch.{Watch}
 use Rattle.lq_desk_sub.specs.Held.{opened_with}
+use Rattle.lq_desk_sub.specs.SlotSet.{has}
+use Rattle.lq_desk_sub.specs.Watch.{IsWatched, slots_for}
 use Rattle.lq_desk_world.specs.Events.{size_refusals, opening_refusals}
 use Rattle.lq_server_slots.specs.declared.delivery.Opening.{Opening}
 use Rattle.lq_server_slots.specs.declared.identity.Identity.{Identity}
@@ -29,7 +33,7 @@ use Rattle.lq_server_slots.specs.Standing.{IsSeen, IsConsistentAt}
 use Rattle.lq_server_slots.specs.Laws.{NewSubscriptionsStand}
 use Rattle.lq_server_slots.specs.declared.slots.ServerSlots.{ServerSlots}
 use Rattle.lq_server_slots.specs.declared.open.Opened.{Opened}
-use Rattle.lq_server_slots.specs.Slots.{SlotStands, IsTakenSlot, slot_in, AreConsistent, OnlyAt, SameButKnown}
+use Rattle.lq_server_slots.specs.Slots.{SlotStands, IsTakenSlot, slot_in, AreConsistent, SlotIsWatched, OnlyAt, SameButKnown}
 use Rattle.lq_server_slots.specs.Opening.{IsNewSubscription, IsOpeningAnswer, size_refusal}
 use Rattle.lq_server_slots.specs.Hold.{LockHold}
 use Rattle.lq_server_slots.specs.Noted.{IsOpenedOver}
@@ -63,7 +67,14 @@ pub begun_own : (s : Subscription) (r : ReadingHold) (book : Book) (q : Query) (
     → IsNewSubscription s r book s.sub.held.query s.sub.held.flags s.places s.sub.held.backlog
 begun_own s r book q flags port backlog b = grind arith
 
--- a subscription takes a free slot
+-- what is watched at another slot is so on
+watched_else : (v w : Watch) (i : ℕ)
+    → ((c : Change) (j : ℕ) → j ≢ i → has (slots_for w c).word j ≡ has (slots_for v c).word j)
+    → (j : ℕ) (x : Option Subscription) → j ≢ i → SlotIsWatched v j x → SlotIsWatched w j x
+watched_else v w i others j None ne was = tt
+watched_else v w i others j (Some x) ne was = λ c out. was c (sym (others c j ne) ∙ out)
+
+-- a subscription takes a free slot, and is watched there
 pub settled : (slots : ServerSlots) (one two : KeeperToken Identity) (i n : ℕ) (s : Subscription)
     (book : Book) → AreConsistent slots book → i < 64 → slot_in slots.subscriptions i ≡ None
     → one.slots ≡ counted slots.keeper.slots (i + 1) n
@@ -71,12 +82,17 @@ pub settled : (slots : ServerSlots) (one two : KeeperToken Identity) (i n : ℕ)
     → n ≡ (slot_at slots.keeper.slots (i + 1)).asks)
     → two.slots ≡ gone_out one.slots (i + 1) (Some (identity_of s)) → s.asks ≡ n
     → IsConsistentAt s book → IsSeen s → s.sub.held.messages ≡ [] → s.sub.held.mark ≡ None
+    → (w : Watch) → IsWatched w i s.sub.held.query s.sub.held.flags
+    → ((c : Change) (j : ℕ) → j ≢ i
+    → has (slots_for w c).word j ≡ has (slots_for slots.watch c).word j)
     → AreConsistent (record {
       keeper = two;
       subscriptions = slice_set slots.subscriptions i (Some s);
+      watch = w;
       openings = slots.openings + 1;
     }) book
-settled slots one two i n s book h within free counts idle gone asks stands seen none live =
+settled slots one two i n s book h within free counts idle gone asks stands seen none live w watched
+    others =
     let known = slots.keeper.slots in
     let was : SlotStands None (slot_at known (i + 1)) book = rw free at (h.each i within) in
     let most = rw free at (h.asks i within) in
@@ -89,8 +105,8 @@ settled slots one two i n s book h within free counts idle gone asks stands seen
     let only : OnlyAt known two.slots (i + 1) = rw set (only_set known (i + 1) q) in
     let count = idle was in
     let fits : IsTakenSlot s (slot_at two.slots (i + 1)) book = grind arith in
-    slots_set slots two i (slots.openings + 1) (Some s) book h (omega arith) within only fits
-    (omega (arith, most, count, asks))
+    slots_set slots two w i (slots.openings + 1) (Some s) book h (omega arith) within only fits
+    (omega (arith, most, count, asks)) watched (watched_else slots.watch w i others)
 
 -- the first free slot is free, and those below it are taken
 pub first_is_free : (slots : List (Option Subscription)) (i : ℕ) → i ≡ first_free slots

@@ -4,12 +4,14 @@ use Rattle.std.proofs.lemmas.List.{get_or-replicate, length-replicate}
 use mathlib.Core.Logic.{dite}
 use native.Mathlib.Decide.{ℕ_discrete}
 use Rattle.lq_volume.specs.Book.{Book}
+use Rattle.lq_desk_sub.specs.declared.watch.Watch.{Watch}
 use Rattle.lq_board.specs.Known.{KnownSlot}
 use Rattle.lq_board.specs.Slot.{slot_at, unused, unused_slots, counted}
 use Rattle.lq_board.specs.Token.{KeeperToken}
 use Rattle.lq_server_slots.specs.declared.identity.Identity.{Identity}
 use Rattle.lq_server_slots.specs.declared.subscription.Subscription.{Subscription}
-use Rattle.lq_server_slots.specs.Slots.{IsTakenSlot, SlotStands, asks_of, slot_in, OnlyAt, AreConsistent, KeepsBook, KeepsSlots}
+use Rattle.lq_server_slots.specs.Standing.{SameQuery}
+use Rattle.lq_server_slots.specs.Slots.{IsTakenSlot, SlotStands, asks_of, slot_in, OnlyAt, AreConsistent, AreWatched, SlotIsWatched, KeepsBook, KeepsSlots}
 use Rattle.lq_server_slots.specs.declared.slots.ServerSlots.{ServerSlots}
 
 -- what was set is read there
@@ -52,17 +54,33 @@ pub counted_here : (ps : List (KnownSlot Identity)) (k n : ℕ) → k < length p
     k ≡ record { out = (slot_at ps k).out; asks = n; name = (slot_at ps k).name }
 counted_here ps k n lt = get_or-set_same ps k _ unused lt
 
--- one slot was set, and what the keeper knows of it
-pub slots_set : (s : ServerSlots) (keeper : KeeperToken Identity) (i n : ℕ)
+-- a slot that was set is watched, and so are the others
+watched_set : (v w : Watch) (slots : List (Option Subscription)) (i : ℕ) (o : Option Subscription)
+    → i < length slots → SlotIsWatched w i o
+    → ((j : ℕ) (x : Option Subscription) → j ≢ i → SlotIsWatched v j x → SlotIsWatched w j x)
+    → AreWatched v slots → AreWatched w (slice_set slots i o)
+watched_set v w slots i o lt here others was j low =
+    dite (ℕ_discrete j i) (λ (e : j ≡ i). rw (e, in_here slots i o lt) here)
+    (λ (ne : j ≢ i). rw (in_else slots i j o ne) (others j (slot_in slots j) ne (was j low)))
+
+-- what asks for the same is watched where that was
+pub watched_same : (w : Watch) (i : ℕ) (s t : Subscription) → SameQuery s t
+    → SlotIsWatched w i (Some s) → SlotIsWatched w i (Some t)
+watched_same w i s t same watched = λ c out. rw (same.0, same.1) (watched c out)
+
+-- one slot was set, and what the keeper knows of it, and it is watched
+pub slots_set : (s : ServerSlots) (keeper : KeeperToken Identity) (w : Watch) (i n : ℕ)
     (o : Option Subscription) (book : Book) → AreConsistent s book → s.openings ≤ n → i < 64
     → OnlyAt s.keeper.slots keeper.slots (i + 1) → SlotStands o (slot_at keeper.slots (i + 1)) book
-    → asks_of o (slot_at keeper.slots (i + 1)) ≤ n
+    → asks_of o (slot_at keeper.slots (i + 1)) ≤ n → SlotIsWatched w i o
+    → ((j : ℕ) (x : Option Subscription) → j ≢ i → SlotIsWatched s.watch j x → SlotIsWatched w j x)
     → AreConsistent (record {
       keeper = keeper;
       subscriptions = slice_set s.subscriptions i o;
+      watch = w;
       openings = n;
     }) book
-slots_set s keeper i n o book h le within only fits asks =
+slots_set s keeper w i n o book h le within only fits asks here others =
     let lt : i < length s.subscriptions = omega (arith, h.wide) in
     record {
       known = only.wide ∙ h.known;
@@ -71,6 +89,7 @@ slots_set s keeper i n o book h le within only fits asks =
           keeper.slots i j o lt only fits (λ ne. h.each j low);
       asks = λ j low. place_cases (λ z p. asks_of z p ≤ n) s.subscriptions s.keeper.slots
           keeper.slots i j o lt only asks (λ ne. let was = h.asks j low in omega arith);
+      watched = watched_set s.watch w s.subscriptions i o lt here others h.watched;
     }
 
 -- what the keeper knows of one slot changed, and no asks were added
@@ -91,6 +110,7 @@ slots_known s keeper i book h within only fits asks =
       asks = λ j low. dite (ℕ_discrete j i)
           (λ (e : j ≡ i). rw e (omega (arith, asks, h.asks i within)))
           (λ (ne : j ≢ i). rw (apart j ne) (h.asks j low));
+      watched = h.watched;
     }
 
 -- all slots stand by what the keeper knows of them alone
@@ -103,13 +123,14 @@ slots_alike s keeper book book' h same e =
       wide = h.wide;
       each = λ i low. rw (same, ← e) (h.each i low);
       asks = λ i low. rw same (h.asks i low);
+      watched = h.watched;
     }
 
 -- no subscriptions
-pub slots_free : (keeper : KeeperToken Identity) (slots : List (Option Subscription)) (book : Book)
-    → keeper.slots ≡ unused_slots → slots ≡ replicate 64 None
-    → AreConsistent (record { keeper = keeper; subscriptions = slots; openings = 0 }) book
-slots_free keeper slots book known free =
+pub slots_free : (keeper : KeeperToken Identity) (slots : List (Option Subscription)) (w : Watch)
+    (book : Book) → keeper.slots ≡ unused_slots → slots ≡ replicate 64 None
+    → AreConsistent (record { keeper = keeper; subscriptions = slots; watch = w; openings = 0 }) book
+slots_free keeper slots w book known free =
     let p : (i : ℕ) → i < 64 → slot_at keeper.slots (i + 1) ≡ unused =
     λ i low. rw known
     (get_or-replicate {A = KnownSlot Identity} 65 (i + 1) unused unused (omega arith)) in
@@ -119,6 +140,7 @@ slots_free keeper slots book known free =
       wide = rw free (length-replicate {A = Option Subscription} 64 None);
       each = λ i low. rw (none i, p i low) refl;
       asks = λ i low. rw (none i, p i low) (omega arith);
+      watched = λ i low. rw (none i) tt;
     }
   where
     in_none : (n i : ℕ) → slot_in (replicate n None) i ≡ None
@@ -157,12 +179,14 @@ pub slots_kept-step : (first old : ServerSlots) (keeper : KeeperToken Identity) 
     → SlotStands o (slot_at keeper.slots (i + 1)) keeper.book
     → asks_of o (slot_at keeper.slots (i + 1))
     ≤ asks_of (slot_in old.subscriptions i) (slot_at old.keeper.slots (i + 1))
+    → SlotIsWatched old.watch i o
     → KeepsSlots first (record {
       keeper = keeper;
       subscriptions = slice_set old.subscriptions i o;
+      watch = old.watch;
       openings = old.openings;
     })
-slots_kept-step first old keeper i o h within kept fits asks =
+slots_kept-step first old keeper i o h within kept fits asks watched =
     record {
       counts = record {
         board = kept.board ∙ h.counts.board;
@@ -173,26 +197,32 @@ slots_kept-step first old keeper i o h within kept fits asks =
       holding = subst (AreConsistent (record {
         keeper = keeper;
         subscriptions = slice_set old.subscriptions i o;
+        watch = old.watch;
         openings = old.openings;
       })) (sym kept.book)
-          (slots_set old keeper i old.openings o old.keeper.book h.holding (omega arith) within
-          kept.only (rw kept.book at fits) (omega (arith, asks, h.holding.asks i within)));
+          (slots_set old keeper old.watch i old.openings o old.keeper.book h.holding (omega arith)
+          within kept.only (rw kept.book at fits) (omega (arith, asks, h.holding.asks i within))
+          watched (λ j x ne is. is));
     }
 
 -- and so where the slot is taken, before and after
 pub slots_kept-taken : (first old : ServerSlots) (keeper : KeeperToken Identity) (i : ℕ)
     (s t : Subscription) → KeepsSlots first old → i < 64 → Some s ≡ slot_in old.subscriptions i
     → KeepsBook old.keeper keeper (i + 1)
-    → IsTakenSlot t (slot_at keeper.slots (i + 1)) keeper.book → t.asks ≡ s.asks
+    → IsTakenSlot t (slot_at keeper.slots (i + 1)) keeper.book → t.asks ≡ s.asks → SameQuery s t
     → KeepsSlots first (record {
       keeper = keeper;
       subscriptions = slice_set old.subscriptions i (Some t);
+      watch = old.watch;
       openings = old.openings;
     })
-slots_kept-taken first old keeper i s t h within there kept fits same =
+slots_kept-taken first old keeper i s t h within there kept fits same query =
     slots_kept-step first old keeper i (Some t) h within kept fits
     (subst (λ (o : Option Subscription). t.asks + 1 ≤ asks_of o (slot_at old.keeper.slots (i + 1)))
     there (omega (arith, same)))
+    (watched_same old.watch i s t query
+    (subst (λ (o : Option Subscription). SlotIsWatched old.watch i o) (sym there)
+    (h.holding.watched i within)))
 
 -- what is in a taken slot
 pub taken_at : (slots : ServerSlots) (book : Book) (i : ℕ) (s : Subscription)

@@ -1,25 +1,26 @@
 -- The taken slots, and visits of all of them.
 use Rattle.std.proofs.Common.{◌≡◌, ◌≢◌, ◌∙◌, ℕ, ◌+◌, ◌≤◌, List, length, true, false, true≢false, Option, Some, None, refl, sym, ap, arith, Bool, subst, ◌<◌}
-use Rattle.std.specs.Prelude.{IsSome, slice_get}
+use Rattle.std.specs.Prelude.{◌&&◌, IsSome, slice_get}
 use Rattle.std.specs.Option.{option_flatten}
 use mathlib.Core.Logic.{dite}
 use native.Mathlib.Decide.{ℕ_discrete}
 use Rattle.lq_board.specs.Known.{KnownSlot}
 use Rattle.lq_board.specs.Slot.{slot_at}
-use Rattle.lq_desk_sub.specs.SlotSet.{has}
+use Rattle.lq_desk_sub.specs.SlotSet.{IsEmpty, has}
 use Rattle.lq_desk_sub.specs.SlotTable.{HasTaken}
 use Rattle.lq_desk_sub.specs.Visits.{Visits}
 use Rattle.lq_volume.specs.Book.{Book}
 use Rattle.lq_server_slots.specs.declared.identity.Identity.{Identity}
 use Rattle.lq_server_slots.specs.declared.slots.ServerSlots.{ServerSlots}
 use Rattle.lq_server_slots.specs.declared.subscription.Subscription.{Subscription}
-use Rattle.lq_server_slots.specs.Slots.{AreConsistent, IsServed, MarksCover, SlotMarkCovers, OnlyAt, Serves, SlotIs, SlotStands, SlotsAre, asks_of, slot_in, AllPrepared, IsNoticed, HasPreparedAt, IsTakenNoticed}
+use Rattle.lq_server_slots.specs.Slots.{AreConsistent, IsServed, MarksCover, SlotIsWatched, SlotMarkCovers, OnlyAt, Serves, SlotIs, SlotStands, SlotsAre, asks_of, slot_in, IsNoticed, HasPreparedAt, IsTakenNoticed}
 use Rattle.lq_volume.specs.declared.change.Change.{Change}
 use Rattle.lq_server_slots.specs.Changing.{Prepares}
 use Rattle.lq_volume.specs.State.{State}
 use Rattle.std.proofs.lemmas.Option.{slice_get_within}
 use Rattle.lq_server_slots.proofs.SlotLemmas.{taken_alike}
-use Rattle.lq_server_slots.proofs.MarkLemmas.{mark_covers-same}
+use Rattle.lq_server_slots.proofs.TableLemmas.{watched_same}
+use Rattle.lq_server_slots.proofs.MarkLemmas.{mark_covers-same, slot_covers-same}
 
 -- a slot whose seat is out is taken
 pub taken_out : (o : Option Subscription) (p : KnownSlot Identity) (book : Book)
@@ -64,6 +65,28 @@ visits-all {T} {S} allows did set xs ys s t v taken P i free visited = by (slice
         let d = v.visited i x (taken i (Some x) was) was in
         rw d.1 (visited x d.0 (ap option_flatten was) d.2)
 
+-- what holds of a slot outside a set, of a free one, and of one after its visit, holds of each after
+-- visits of those in the set
+pub visits-some : {T S : Type 0} (allows : S → ℕ → T → Type 0) (did : S → ℕ → T → T → Type 0)
+    (set : ℕ) (xs ys : List (Option T)) (s t : S) → Visits allows did (has set) xs ys s t
+    → (P : Option T → Type 0) (i : ℕ)
+    → (has set i ≡ false → P (option_flatten (slice_get xs i)))
+    → (option_flatten (slice_get xs i) ≡ None → P None)
+    → ((x y : T) → option_flatten (slice_get xs i) ≡ Some x → did t i x y → P (Some y))
+    → P (option_flatten (slice_get ys i))
+visits-some {T} {S} allows did set xs ys s t v P i out free visited =
+    by (slice_get xs i) refl (has set i) refl
+  where
+    by : (o : Option (Option T)) → slice_get xs i ≡ o → (b : Bool) → has set i ≡ b
+        → P (option_flatten (slice_get ys i))
+    by None was b is =
+        rw (v.left i (λ x at. absurd (let no : ⊥ = cc in no)), was) (free (ap option_flatten was))
+    by (Some None) was b is =
+        rw (v.left i (λ x at. absurd (let no : ⊥ = cc in no)), was) (free (ap option_flatten was))
+    by (Some (Some x)) was true is =
+        let d = v.visited i x is was in rw d.1 (visited x d.0 (ap option_flatten was) d.2)
+    by (Some (Some x)) was false is = rw (v.left i (λ z at. is)) (out is)
+
 -- what stands in a slot that is found taken
 pub noticed_at : (slots : ServerSlots) (book : Book) (i : ℕ) (x : Subscription)
     → AreConsistent slots book → SlotsAre IsNoticed slots.subscriptions slots.keeper.slots
@@ -100,6 +123,9 @@ all_served allows slots set number ys before s t h taken wide v =
             (λ o. asks_of o (slot_at slots.keeper.slots (i + 1)) ≤ slots.openings) i
             (λ none. rw none at (h.asks i low))
             (λ x y some d. rw d.asks (rw some at (h.asks i low)));
+        watched = λ i low. each (λ o. SlotIsWatched slots.watch i o) i (λ none. tt)
+            (λ x y some d. watched_same slots.watch i x y d.query
+            (rw some at (h.watched i low)));
       },
       λ i low. each (λ o. SlotIs IsServed o (slot_at slots.keeper.slots (i + 1))) i (λ none. tt)
           (λ x y some d. d.served),
@@ -107,37 +133,53 @@ all_served allows slots set number ys before s t h taken wide v =
           (λ none. rw none refl) (λ x y some d. rw some d.mark),
     )
 
--- all slots had the messages of a change prepared, unless memory ran out; no mark is new
+-- where a change is shown to no taken slot, its messages are prepared in each that it is shown to
+pub none_prepared : (both asked taken n : ℕ) (old new : List (Option Subscription)) (v : State)
+    (c : Change) → HasTaken taken old → ((i : ℕ) → has both i ≡ (has asked i && has taken i))
+    → IsEmpty (has both) → MarksCover n old new → (i : ℕ) → i < 64 → has asked i ≡ true
+    → HasPreparedAt (slot_in new i) v c
+none_prepared both asked taken n old new v c has_taken together none marks i low is =
+    let out : has taken i ≡ false = sym (rw is at (together i)) ∙ none i in
+    let free : slot_in old i ≡ None = outside_taken (λ o. o ≡ None) taken old i has_taken out refl in
+    let stays : slot_in new i ≡ None = rw free at (marks i low) in
+    rw stays tt
+
+-- the slots of a set had the messages of a change prepared, unless memory ran out; no mark is new
 pub all_prepared : (v : State) (c : Change) (allows : Bool → ℕ → Subscription → Type 0)
     (slots : ServerSlots) (set number : ℕ) (ys : List (Option Subscription)) (s t : Bool)
     → AreConsistent slots slots.keeper.book
-    → SlotsAre IsNoticed slots.subscriptions slots.keeper.slots
-    → HasTaken set slots.subscriptions → length ys ≡ 64
+    → SlotsAre IsNoticed slots.subscriptions slots.keeper.slots → length ys ≡ 64
     → Visits allows (λ t i x y. Prepares v c t x y) (has set) slots.subscriptions ys s t
     → AreConsistent (record slots { subscriptions = ys }) slots.keeper.book
-    × SlotsAre IsNoticed ys slots.keeper.slots × (t ≡ false → AllPrepared ys v c)
+    × SlotsAre IsNoticed ys slots.keeper.slots
+    × (t ≡ false → (i : ℕ) → i < 64 → has set i ≡ true → HasPreparedAt (slot_in ys i) v c)
     × MarksCover number slots.subscriptions ys
-all_prepared v c allows slots set number ys s t h noticed taken wide visits =
-    let each = visits-all allows (λ t i x y. Prepares v c t x y) set slots.subscriptions ys s t
-    visits taken in
+all_prepared v c allows slots set number ys s t h noticed wide visits =
+    let each = visits-some allows (λ t i x y. Prepares v c t x y) set slots.subscriptions ys s t
+    visits in
     let p : ℕ → KnownSlot Identity = λ i. slot_at slots.keeper.slots (i + 1) in (
       record {
         known = h.known;
         wide = wide;
         each = λ i low. each (λ o. SlotStands o (p i) slots.keeper.book) i
-            (λ none. rw none at (h.each i low))
+            (λ out. h.each i low) (λ none. rw none at (h.each i low))
             (λ x y some d. taken_alike x y (p i) slots.keeper.book
             (rw some at (h.each i low)) d.held d.others d.first_close);
         asks = λ i low. each (λ o. asks_of o (p i) ≤ slots.openings) i
-            (λ none. rw none at (h.asks i low))
+            (λ out. h.asks i low) (λ none. rw none at (h.asks i low))
             (λ x y some d. rw d.others.asks (rw some at (h.asks i low)));
+        watched = λ i low. each (λ o. SlotIsWatched slots.watch i o) i
+            (λ out. h.watched i low) (λ none. tt)
+            (λ x y some d. watched_same slots.watch i x y (d.others.query, d.others.flags)
+            (rw some at (h.watched i low)));
       },
-      λ i low. each (λ o. SlotIs IsNoticed o (p i)) i (λ none. tt)
+      λ i low. each (λ o. SlotIs IsNoticed o (p i)) i (λ out. noticed i low) (λ none. tt)
           (λ x y some d. rw (d.others.asks, d.held) (rw some at (noticed i low))),
-      λ whole i low. each (λ o. HasPreparedAt o v c) i (λ none. tt)
+      λ whole i low asked. each (λ o. HasPreparedAt o v c) i
+          (λ out. absurd (true≢false (sym asked ∙ out))) (λ none. tt)
           (λ x y some d. d.prepared whole),
       λ i low. each (λ o. SlotMarkCovers number (slot_in slots.subscriptions i) o) i
-          (λ none. rw none refl)
+          (λ out. slot_covers-same number (slot_in slots.subscriptions i)) (λ none. rw none refl)
           (λ x y some d. rw some (mark_covers-same number x.sub.held.mark y.sub.held.mark
           (ap (λ h. h.mark) d.held))),
     )

@@ -14,7 +14,7 @@ use Rattle.lq_board.specs.Token.{SeatToken}
 use Rattle.lq_server_slots.specs.declared.identity.Identity.{Identity}
 use Rattle.lq_server_slots.specs.declared.slots.ServerSlots.{ServerSlots}
 use Rattle.lq_server_slots.specs.Slots.{AllPrepared, IsNoticed, SlotsAre, KeepsSlots, MarksCover, IsGrown, IsTakenNoticed, before_of}
-use Rattle.lq_server_slots.specs.Standing.{HasPrepared, SameButHeld}
+use Rattle.lq_server_slots.specs.Standing.{HasPrepared, IsPreparedIf, SameButHeld}
 use Rattle.lq_board.specs.Known.{KnownSlot}
 use Rattle.lq_server_slots.specs.declared.subscription.Subscription.{Subscription}
 
@@ -35,13 +35,14 @@ pub record IsChangeMade (change : Change) (result : Result Applied Refusal) (v w
   pub later : OnOk result (Extends b s.book)
   pub stays : OnErr result (t ≡ s)
 
--- A change of a volume was checked, and its messages were prepared in all slots, or it was refused.
+-- A change of a volume was checked, and its messages were prepared in the slots that it is shown to,
+-- or it was refused.
 -- First each subscription ended whose reader had asked for that; its mark covers the changes so far.
 -- The book stays, and so does what stands over it; what the keeper knows of asks only rises.
 pub record IsPrepared (v : State) (change : Change) (result : Result (Unit {0}) Refusal)
     (old new : ServerSlots) : Type 0 where
   pub lawful : OnOk result (refused v change ≡ None)
-  pub prepared : OnOk result (AllPrepared new.subscriptions v change)
+  pub prepared : OnOk result (AllPrepared new.watch new.subscriptions v change)
   pub noticed : OnOk result (SlotsAre IsNoticed new.subscriptions new.keeper.slots)
   pub keeps : KeepsSlots old new
   pub marks : MarksCover v.number old.subscriptions new.subscriptions
@@ -57,8 +58,9 @@ pub record Prepares (v : State) (change : Change) (full : Bool) (s t : Subscript
   pub prepared : full ≡ false → HasPrepared t.sub v change
 
 -- a taken slot that stands over the book before its last change, the messages of which are prepared
-pub record MayCommit (change : Change) (s : Subscription) (p : KnownSlot Identity) (book : Book)
-    : Type 0 where
+-- if the slot is asked for them
+pub record MayCommit (change : Change) (asked : Bool) (s : Subscription) (p : KnownSlot Identity)
+    (book : Book) : Type 0 where
   pub grown : IsGrown book change
   pub stood : IsTakenNoticed s p (before_of book)
-  pub prepared : HasPrepared s.sub (state_of (before_of book)) change
+  pub prepared : IsPreparedIf asked s.sub (state_of (before_of book)) change

@@ -8,11 +8,14 @@ use Rattle.lq_board.specs.Known.{KnownSlot}
 use Rattle.lq_board.specs.Book.{IsFullBook}
 use Rattle.lq_board.specs.Slot.{slot_at}
 use Rattle.lq_board.specs.Token.{KeeperToken, SeatToken}
+use Rattle.lq_desk_sub.specs.declared.watch.Watch.{Watch}
+use Rattle.lq_desk_sub.specs.SlotSet.{has}
+use Rattle.lq_desk_sub.specs.Watch.{IsWatched, slots_for}
 use Rattle.lq_server_slots.specs.declared.identity.Identity.{Identity}
 use Rattle.lq_server_slots.specs.declared.subscription.Subscription.{Subscription}
 use Rattle.lq_server_slots.specs.Marking.{hung_mark, MarkCovers}
 use Rattle.lq_server_slots.specs.Identity.{identity_of}
-use Rattle.lq_server_slots.specs.Standing.{IsConsistentAt, IsFilled, HasPrepared, IsSeen, CannotPut}
+use Rattle.lq_server_slots.specs.Standing.{IsConsistentAt, IsFilled, HasPrepared, IsSeen, CannotPut, SameQuery}
 use Rattle.lq_server_slots.specs.declared.slots.ServerSlots.{ServerSlots}
 use Rattle.std.specs.Option.{option_flatten}
 
@@ -39,6 +42,15 @@ asks_of (Some s) p = s.asks + 1
 abbrev pub slot_in : List (Option Subscription) → ℕ → Option Subscription
 slot_in slots i = option_flatten (slice_get slots i)
 
+-- what a slot's subscription asks for is watched there
+abbrev pub SlotIsWatched : Watch → ℕ → Option Subscription → Type 0
+SlotIsWatched w i None = Unit {0}
+SlotIsWatched w i (Some s) = IsWatched w i s.sub.held.query s.sub.held.flags
+
+-- and so it is in all slots: no change has a message for one that it isn't shown to
+abbrev pub AreWatched : Watch → List (Option Subscription) → Type 0
+AreWatched w slots = (i : ℕ) → i < 64 → SlotIsWatched w i (slot_in slots i)
+
 -- all slots over a book
 pub record AreConsistent (s : ServerSlots) (book : Book) : Type 0 where
   pub known : length s.keeper.slots ≡ 65
@@ -47,6 +59,7 @@ pub record AreConsistent (s : ServerSlots) (book : Book) : Type 0 where
       → SlotStands (slot_in s.subscriptions i) (slot_at s.keeper.slots (i + 1)) book
   pub asks : (i : ℕ) → i < 64
       → asks_of (slot_in s.subscriptions i) (slot_at s.keeper.slots (i + 1)) ≤ s.openings
+  pub watched : AreWatched s.watch s.subscriptions
 
 -- the keeper's book is lawful, the volume is the state after it, and all slots stand over it
 pub record IsConsistentWith (slots : ServerSlots) (volume : State) : Type 0 where
@@ -76,6 +89,7 @@ pub record Serves (number : ℕ) (s t : Subscription) (p : KnownSlot Identity) (
   pub taken : IsTakenSlot t p book
   pub served : IsServed t p
   pub asks : t.asks ≡ s.asks
+  pub query : SameQuery s t
   pub mark : MarkCovers number s.sub.held.mark t.sub.held.mark
 
 -- A free slot stays free and a taken one taken. The mark of its subscription stays, and one that is
@@ -155,9 +169,10 @@ abbrev pub HasPreparedAt : Option Subscription → State → Change → Type 0
 HasPreparedAt None s c = Unit {0}
 HasPreparedAt (Some slot) s c = HasPrepared slot.sub s c
 
--- the messages of a change are prepared for all slots
-abbrev pub AllPrepared : List (Option Subscription) → State → Change → Type 0
-AllPrepared slots s c = (i : ℕ) → i < 64 → HasPreparedAt (slot_in slots i) s c
+-- the messages of a change are prepared for all slots that it is shown to
+abbrev pub AllPrepared : Watch → List (Option Subscription) → State → Change → Type 0
+AllPrepared w slots s c =
+    (i : ℕ) → i < 64 → has (slots_for w c).word i ≡ true → HasPreparedAt (slot_in slots i) s c
 
 -- a book without its last change
 abbrev pub before_of : Book → Book

@@ -11,6 +11,7 @@ use Rattle.lq_update.specs.declared.mark.Mark.{Mark}
 use Rattle.lq_update.specs.declared.mark.Cause.TheVariants.{Closed, Overrun}
 use Rattle.lq_update.specs.Updates.{step_of}
 use Rattle.lq_desk_sub.specs.Held.{Held, Prepared}
+use Rattle.lq_desk_sub.specs.Passing.{TellsNothing}
 use Rattle.lq_port.specs.End.{End, all_put, IsSamePort, AreBeside}
 use Rattle.lq_server_slots.specs.declared.identity.FirstClose.{FirstClose}
 use Rattle.lq_server_slots.specs.declared.identity.FirstClose.TheVariants.{Never, At, Late}
@@ -172,6 +173,16 @@ HasPrepared p s c =
     p.held.mark ≡ None
     → (p.ready ≡ step_of p.held.query p.held.flags s c (p.held.sent + 1))
     × (p.before ≡ s.number)
+
+-- the messages of a change are prepared for a subscription that is asked, and for another the change
+-- has none
+pub record IsPreparedIf (asked : Bool) (p : Prepared) (s : State) (c : Change) : Type 0 where
+  pub some : asked ≡ true → HasPrepared p s c
+  pub none : asked ≡ false → TellsNothing p.held.query p.held.flags c
+
+-- what a subscription asks for stays
+abbrev pub SameQuery : Subscription → Subscription → Type 0
+SameQuery s t = (t.sub.held.query ≡ s.sub.held.query) × (t.sub.held.flags ≡ s.sub.held.flags)
 
 -- everything but the held messages, their count, the mark and the answer of the close stays
 pub record SameButHeld (s t : Subscription) : Type 0 where

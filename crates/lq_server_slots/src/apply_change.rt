@@ -12,7 +12,7 @@ use crate::change_passes::{commit_all, prepare_all};
 use crate::identity::Identity;
 use crate::server_base::Named;
 use crate::server_state::ServerState;
-use crate::slots::{ServerSlots, serve_all};
+use crate::slots::{ServerSlots, notice_all, serve_all};
 use lq_board::{Board, Seat};
 use lq_value::Refusal;
 use lq_volume::{Applied, Change, Volume};
@@ -27,8 +27,9 @@ impl<N: Named> ServerState<N> {
     /// or the port is full. Refused as the volume refuses the change, or `NoMemory`; the book is
     /// then as it was, but the ports are filled.
     ///
-    /// A refused change walks over the taken slots twice, or four times where memory ran out. An
-    /// accepted one walks over them three times.
+    /// A refused change walks over the taken slots twice, or three times where memory ran out. An
+    /// accepted one walks over them twice, and prepares messages only in those slots that the watch
+    /// shows it to.
     pub fn apply<R: Wait>(
         &mut self,
         rt: &R,
@@ -85,7 +86,7 @@ fn add(
     ensures made { IsChangeMade change.now result volume.old volume.new
         slots.old.keeper.book slots.new.keeper.book seat.old seat.new }
     ensures lawful { OnOk result (refused volume.old change.now ≡ None) }
-    ensures prepared { OnOk result (AllPrepared slots.new.subscriptions
+    ensures prepared { OnOk result (AllPrepared slots.new.watch slots.new.subscriptions
         (state_of slots.old.keeper.book) change.now) }
     ensures noticed { OnOk result
         (SlotsAre IsNoticed slots.new.subscriptions slots.new.keeper.slots) }
@@ -104,8 +105,8 @@ fn add(
     Ok(applied)
 }
 
-// Checks a change, and prepares its messages in the taken slots. Where no slot is taken it makes no
-// plan, which is a large value.
+// Checks a change, and prepares its messages in the taken slots that it is shown to. Where it is
+// shown to none it makes no plan, which is a large value.
 fn prepare(
     board: &Board<Identity>,
     slots: &mut ServerSlots,
@@ -116,16 +117,19 @@ fn prepare(
     requires stands { IsConsistentWith slots.old volume.now }
     ensures { IsPrepared volume.now change.now result slots.old slots.new }
 {
-    if slots.subscriptions.taken().is_empty() {
+    let taken = slots.subscriptions.taken();
+    let asked = slots.watch.slots_for(change).intersection(taken);
+    if asked.is_empty() {
         volume.check(change)?;
+        notice_all(board, slots, volume.changes());
         return Ok(());
     }
-    prepare_taken(board, slots, volume, change)
+    prepare_asked(board, slots, volume, change)
 }
 
 // As `prepare`, by a plan.
 #[inline(never)]
-fn prepare_taken(
+fn prepare_asked(
     board: &Board<Identity>,
     slots: &mut ServerSlots,
     volume: &Volume,

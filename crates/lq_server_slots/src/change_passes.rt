@@ -1,4 +1,5 @@
-//! The two passes of a change over the slots: its messages are prepared, and then committed.
+//! The two passes of a change over the slots: its messages are prepared in those that it is shown to,
+//! and then committed, and all ports are filled.
 ghost use Rattle.std.specs.Prelude.{◌≡◌, length, None};
 ghost use Rattle.lq_volume.specs.Book.{state_of};
 ghost use Rattle.lq_volume.specs.Change.{refused};
@@ -8,9 +9,9 @@ ghost use Rattle.lq_server_slots.specs.Slots.{AreConsistent, IsConsistentWith, A
 use crate::fill_port::fill;
 use crate::identity::Identity;
 use crate::slots::{ServerSlots, notice_all};
-use crate::subscription::{Subscription, commit, prepare_messages};
+use crate::subscription::{Subscription, commit_if, prepare_messages};
 use lq_board::{Board, Keeper};
-use lq_desk_sub::{SlotIndex, Visit};
+use lq_desk_sub::{SlotIndex, SlotSet, Visit};
 use lq_value::Refusal;
 use lq_volume::{Change, Planned};
 use std::sync::Wait;
@@ -38,7 +39,7 @@ impl<'a, 'b> Visit<Subscription, bool> for Prepare<'a, 'b> {
 }
 
 /// Ends each subscription whose reader asked, and prepares the messages of a change for the live
-/// ones.
+/// ones that it is shown to.
 pub(crate) fn prepare_all(
     board: &Board<Identity>,
     slots: &mut ServerSlots,
@@ -51,47 +52,50 @@ pub(crate) fn prepare_all(
 {
     let number = planned.applied().change - 1;
     notice_all(board, slots, number);
-    let taken = slots.subscriptions.taken();
+    let asked = slots.watch.slots_for(planned.change());
     let mut full = false;
     slots
         .subscriptions
-        .visit(taken, &Prepare { planned }, &mut full);
+        .visit(asked, &Prepare { planned }, &mut full);
     if full {
         return Err(Refusal::NoMemory);
     }
     Ok(())
 }
 
-/// Commits the change that was just added, and fills the port.
+/// Commits the change that was just added, if the slot is asked for it, and fills the port.
 #[derive(Drop)]
 struct Commit<'a, R> {
     rt: &'a R,
     keeper: &'a Keeper<Identity>,
     change: &'a Change,
+    asked: SlotSet,
 }
 
 impl<'a, R: Wait> Visit<Subscription, ()> for Commit<'a, R> {
     ghost use Rattle.std.specs.Prelude.{◌+◌, length};
     ghost use Rattle.lq_board.specs.Slot.{slot_at};
+    ghost use Rattle.lq_desk_sub.specs.SlotSet.{has};
     ghost use Rattle.lq_server_slots.specs.Changing.{MayCommit};
     ghost use Rattle.lq_server_slots.specs.Slots.{Serves, before_of};
 
-    ghost allows = { λ v s i x. MayCommit v.change.now x
+    ghost allows = { λ v s i x. MayCommit v.change.now (has v.asked.word i) x
         (slot_at v.keeper.now.slots (i + 1)) v.keeper.now.book };
 
     ghost did = { λ v t i x y. Serves (length (before_of v.keeper.now.book).changes) x y
         (slot_at v.keeper.now.slots (i + 1)) v.keeper.now.book };
 
-    fn visit(&self, _state: &mut (), _slot: SlotIndex, item: &mut Subscription) {
-        commit(item, self.change);
+    fn visit(&self, _state: &mut (), slot: SlotIndex, item: &mut Subscription) {
+        commit_if(item, self.change, self.asked.contains(slot));
         fill(self.rt, self.keeper, item);
     }
 }
 
-/// Commits the change that was just added in each subscription, and fills each port.
+/// Commits the change that was just added in each subscription that it is shown to, and fills each
+/// port.
 pub(crate) fn commit_all<R: Wait>(rt: &R, slots: &mut ServerSlots, change: &Change)
     requires grown { IsGrown slots.old.keeper.book change.now }
-    requires prepared { AllPrepared slots.old.subscriptions
+    requires prepared { AllPrepared slots.old.watch slots.old.subscriptions
         (state_of (before_of slots.old.keeper.book)) change.now }
     requires holding { AreConsistent slots.old (before_of slots.old.keeper.book) }
     requires noticed { SlotsAre IsNoticed slots.old.subscriptions slots.old.keeper.slots }
@@ -107,6 +111,7 @@ pub(crate) fn commit_all<R: Wait>(rt: &R, slots: &mut ServerSlots, change: &Chan
         rt,
         keeper: &slots.keeper,
         change,
+        asked: slots.watch.slots_for(change),
     };
     slots.subscriptions.visit(taken, &commit, &mut ());
 }

@@ -130,6 +130,7 @@ fn settle(
     let asks = board.asks(&mut slots.keeper, number);
     slot.asks = asks;
     let seat = sit(board, &mut slots.keeper, &slot, index);
+    slots.watch.set(index, &slot.sub);
     slots.subscriptions.insert(index, slot);
     slots.openings += 1;
     Opened {

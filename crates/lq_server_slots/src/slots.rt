@@ -10,7 +10,7 @@ use crate::fill_port::fill;
 use crate::identity::Identity;
 use crate::subscription::{Subscription, notice};
 use lq_board::{Board, Keeper};
-use lq_desk_sub::{SlotIndex, SlotTable, Visit};
+use lq_desk_sub::{SlotIndex, SlotTable, Visit, Watch};
 use lq_value::Refusal;
 use std::alloc::Global;
 use std::sync::Wait;
@@ -21,6 +21,8 @@ use std::sync::Wait;
 pub struct ServerSlots {
     pub keeper: Keeper<Identity>,
     pub subscriptions: SlotTable<Subscription>,
+    /// Which subscriptions a change may have messages for.
+    pub watch: Watch,
     pub openings: u64,
 }
 
@@ -39,6 +41,7 @@ impl ServerSlots {
         Ok(ServerSlots {
             keeper,
             subscriptions,
+            watch: Watch::new(),
             openings: 0,
         })
     }
@@ -84,6 +87,7 @@ pub(crate) fn notice_all(board: &Board<Identity>, slots: &mut ServerSlots, numbe
     ensures rises { (k : ℕ) → (slot_at slots.old.keeper.slots k).asks
         ≤ (slot_at slots.new.keeper.slots k).asks }
     ensures marks { MarksCover number slots.old.subscriptions slots.new.subscriptions }
+    ensures watch { slots.new.watch ≡ slots.old.watch }
 {
     let mut rest = slots.subscriptions.taken();
     while let Some(index) = rest.pop_lowest() {

@@ -1,11 +1,11 @@
 //! A subscription under a lock: what a change does to it, and how it ends.
-ghost use Rattle.std.specs.Prelude.{◌≡◌, ◌<◌, ◌^◌, ◌⊎◌, [], ◌∷◌, length, true, is_none, is_some, IsSome, IfSome, OnOk};
+ghost use Rattle.std.specs.Prelude.{◌≡◌, ◌<◌, ◌^◌, ◌⊎◌, ℕ, None, [], ◌∷◌, length, true, is_none, is_some, IsSome, IfSome, OnOk};
 ghost use Rattle.lq_value.specs.Refusal.{FailsOnlyForMemory};
 ghost use Rattle.lq_volume.specs.Book.{Book, grown, state_of};
 ghost use Rattle.lq_volume.specs.Change.{IsLawful};
 ghost use Rattle.lq_board.specs.Book.{IsFullBook};
-ghost use Rattle.lq_server_slots.specs.Standing.{IsConsistentAt, IsFilled, HasPrepared, SameButHeld, FirstCloseFits};
-ghost use Rattle.lq_server_slots.specs.Marking.{hung_mark, after_close, held_committed, held_noticed, held_closed};
+ghost use Rattle.lq_server_slots.specs.Standing.{IsConsistentAt, IsFilled, HasPrepared, IsPreparedIf, SameButHeld, FirstCloseFits};
+ghost use Rattle.lq_server_slots.specs.Marking.{hung_mark, MarkCovers, after_close, held_committed, held_noticed, held_closed};
 
 use crate::delivery::Delivery;
 use crate::ghost_copy::GhostCopy;
@@ -91,6 +91,32 @@ pub fn commit(slot: &mut Subscription, change: &Change)
         return;
     }
     slot.sub.commit();
+}
+
+/// Commits a change as `commit` does, if the subscription was asked for its messages. For another it
+/// has none, and nothing changes.
+pub(crate) fn commit_if(slot: &mut Subscription, change: &Change, asked: bool)
+    requires few { slot.old.sub.held.sent < 2 ^ 63 }
+    requires filled { IsFilled slot.old }
+    ensures stands { (book : Book) → IsConsistentAt slot.old book
+        → IsPreparedIf asked slot.old.sub (state_of book) change.now
+        → IsLawful (state_of book) change.now
+        → IsFullBook (grown book (change.now ∷ []))
+        → IsConsistentAt slot.new (grown book (change.now ∷ [])) }
+    ensures others { SameButHeld slot.old slot.new }
+    ensures first_close { slot.new.first_close ≡ slot.old.first_close }
+    ensures hung { hung_mark slot.new.sub.held.mark → hung_mark slot.old.sub.held.mark }
+    ensures still { IsSome slot.old.sub.held.mark
+        → slot.new.sub.held.mark ≡ slot.old.sub.held.mark }
+    ensures mark { (n : ℕ)
+        → (asked ≡ true → slot.old.sub.held.mark ≡ None → slot.old.sub.before ≡ n)
+        → MarkCovers n slot.old.sub.held.mark slot.new.sub.held.mark }
+{
+    // For the proof: a change has at most three messages.
+    steps_are_few();
+    if asked {
+        commit(slot, change);
+    }
 }
 
 /// Ends the subscription as `HungUp` where it is live and its reader asked for that.

@@ -1,27 +1,28 @@
-use Rattle.lq_server_slots.specs.Slots.{IsNoticed, HasPreparedAt, SlotIs}
-use Rattle.std.proofs.Common.{arith, rules, ◌+◌}
-use Rattle.lq_server_slots.proofs.TakenLemmas.{outside_taken}
-use Rattle.lq_board.specs.Slot.{slot_at}
-use Rattle.lq_server_slots.proofs.TableLemmas.{slots_stay}
-use Rattle.lq_server_slots.proofs.MarkLemmas.{marks_cover-same}
+use Rattle.std.proofs.Common.{ap, rules, subst, ℕ, ◌∙◌}
+use Rattle.lq_volume.specs.State.{State}
+use Rattle.lq_server_slots.specs.Slots.{MarksCover}
+use Rattle.lq_server_slots.proofs.TakenLemmas.{none_prepared}
 use Rattle.lq_server_slots.proofs.apply_change.prepare.Goals as goal
+
+pub notice_all-requires-clause-number : goal.notice_all-requires-clause-number
+notice_all-requires-clause-number c =
+    let s = c.requires.stands in
+    c.changes.ensures.number ∙ ap (λ (x : State). x.number) s.state ∙ s.full.number
 
 pub returns-then-is_empty : goal.returns-then-is_empty
 returns-then-is_empty c =
-    let slots = c.args.slots.now in
-    let items = slots.subscriptions in
-    let none = c.is_empty.ensures.empty c.if-is_empty.true in
-    let taken = c.taken.ensures.taken in
+    let n = c.notice_all.ensures in
+    let old = c.args.slots.now.subscriptions in
+    let new = c.notice_all.new.slots.subscriptions in
     record {
       lawful = c.in_ok-check.ensures.ok;
-      prepared = λ i low. outside_taken (λ o. HasPreparedAt o c.args.volume.now c.args.change.now)
-          _ items
-          i taken (none i) tt;
-      noticed = λ i low. outside_taken
-          (λ o. SlotIs IsNoticed o (slot_at slots.keeper.slots (i + 1))) _ items i taken (none i)
-          tt;
-      keeps = slots_stay slots c.requires.stands.holding;
-      marks = marks_cover-same c.args.volume.now.number slots.subscriptions;
-      rises = λ k. omega arith;
+      prepared = λ i low is. none_prepared _ c.slots_for.result.word c.taken-taken.result.word _ old
+          new c.args.volume.now c.args.change.now c.taken-taken.ensures.taken
+          c.intersection-asked.ensures (c.is_empty.ensures.empty c.if-is_empty.true) n.marks i low
+          (rw (c.slots_for.ensures, ← n.watch) is);
+      noticed = n.noticed;
+      keeps = n.keeps;
+      marks = subst (λ (k : ℕ). MarksCover k old new) c.changes.ensures.number n.marks;
+      rises = n.rises;
       refused = search rules;
     }

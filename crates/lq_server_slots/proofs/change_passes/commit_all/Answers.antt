@@ -1,5 +1,5 @@
 use Rattle.lq_server_slots.proofs.change_passes.commit_all.Given.{Over}
-use Rattle.lq_server_slots.specs.Slots.{AreConsistent, HasPreparedAt, IsServed, MarksCover, SlotsAre, before_of}
+use Rattle.lq_server_slots.specs.Slots.{AreConsistent, HasPreparedAt, IsServed, MarksCover, SlotIsWatched, SlotsAre, before_of}
 use Rattle.std.proofs.Common.{Option, Some, ap, arith, length, subst}
 use Rattle.lq_server_slots.specs.declared.subscription.Subscription.{Subscription}
 use Rattle.lq_server_slots.proofs.TakenLemmas.{all_served, noticed_at}
@@ -17,9 +17,15 @@ visit-requires g c = record {
       record {
         grown = r.grown;
         stood = noticed_at slots (before_of slots.keeper.book) i x r.holding r.noticed found;
-        prepared = subst (λ (o : Option Subscription).
-            HasPreparedAt o (state_of (before_of slots.keeper.book)) c.args.change.now)
-            (ap option_flatten found) (r.prepared i (omega (arith, low, r.holding.wide)));
+        prepared = record {
+          some = λ asked. subst (λ (o : Option Subscription).
+              HasPreparedAt o (state_of (before_of slots.keeper.book)) c.args.change.now)
+              (ap option_flatten found) (r.prepared i (omega (arith, low, r.holding.wide))
+              (rw c.slots_for.ensures at asked));
+          none = λ out. subst (λ (o : Option Subscription). SlotIsWatched slots.watch i o)
+              (ap option_flatten found) (r.holding.watched i (omega (arith, low, r.holding.wide)))
+              c.args.change.now (rw c.slots_for.ensures at out);
+        };
       };
 }
 

@@ -39,3 +39,4 @@ returns-clause-keeps c =
     (f.stands book taken.stands (rw (n.keeper.book, m.ensures.met.keeper.book)
     m.ensures.met.number)) f.others f.messages f.hung u.ensures.asks u.ensures.place))
     (f.others.asks ∙ n.others.0.asks)
+    (f.others.query ∙ n.others.0.query, f.others.flags ∙ n.others.0.flags)

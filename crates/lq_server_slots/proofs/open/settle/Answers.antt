@@ -28,10 +28,12 @@ returns-clause-holding c =
     (subst (AreConsistent (record {
       keeper = c.sit-seat.new.keeper;
       subscriptions = slice_set was.subscriptions index.index (Some s);
+      watch = c.set.new.self;
       openings = was.openings + 1;
     })) book
     (settled was c.asks-asks.new.keeper c.sit-seat.new.keeper index.index c.asks-asks.result s
     was.keeper.book c.requires.holding index.within c.requires.free
     (rw number at (ap (λ (k : KeeperToken Identity). k.slots) keeper))
     (rw number at c.asks-asks.ensures.idle) (ap (λ (k : KeeperToken Identity). k.slots) seated) refl
-    b.stands (begun_seen c.args.slot c.args.reading was.keeper.book _ _ _ _ b) b.messages b.live))
+    b.stands (begun_seen c.args.slot c.args.reading was.keeper.book _ _ _ _ b) b.messages b.live
+    c.set.new.self c.set.ensures.here c.set.ensures.others))

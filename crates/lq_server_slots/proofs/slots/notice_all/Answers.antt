@@ -1,5 +1,5 @@
 use Rattle.lq_server_slots.specs.Slots.{IsNoticed, SlotIs}
-use Rattle.std.proofs.Common.{Option, Some, arith, subst, sym, ◌+◌, ◌∙◌, ◌≡◌, ◌≢◌}
+use Rattle.std.proofs.Common.{Option, Some, arith, refl, subst, sym, ◌+◌, ◌∙◌, ◌≡◌, ◌≢◌}
 use Rattle.lq_server_slots.specs.declared.subscription.Subscription.{Subscription}
 use Rattle.lq_server_slots.proofs.TakenLemmas.{asks_rise, outside_taken}
 use Rattle.lq_server_slots.proofs.CommitLemmas.{counted_more}
@@ -18,6 +18,7 @@ loop-index-init c = record {
       c.args.slots.now.subscriptions i c.taken-rest.ensures.taken out tt;
   rises = λ k. omega arith;
   marks = marks_cover-same c.args.number c.args.slots.now.subscriptions;
+  watch = refl;
 }
 
 pub notice_slot-requires-clause-taken : goal.notice_slot-requires-clause-taken
@@ -39,7 +40,8 @@ loop-index-preserved-in-Some-get_mut c =
     let t = c.notice_slot.new.slot in
     record {
       keeps = slots_kept-taken c.args.slots.now was now k c.in-Some-get_mut.slot.now t i.keeps
-          within c.in-Some-get_mut.ensures.value n.keeper n.taken n.others.0.asks;
+          within c.in-Some-get_mut.ensures.value n.keeper n.taken n.others.0.asks
+          (n.others.0.query, n.others.0.flags);
       noticed = λ j low left. place_cases (SlotIs IsNoticed) was.subscriptions known now.slots k j
           (Some t) (omega (arith, within, i.keeps.holding.wide)) n.keeper.only n.noticed
           (λ ne. i.noticed j low (sym (c.in-Some.ensures.others j ne) ∙ left));
@@ -49,6 +51,7 @@ loop-index-preserved-in-Some-get_mut c =
       marks = marks_cover-set c.args.number c.args.slots.now.subscriptions was.subscriptions k
           c.in-Some-get_mut.slot.now t i.marks (omega (arith, within, i.keeps.holding.wide))
           c.in-Some-get_mut.ensures.value n.mark;
+      watch = i.watch;
     }
 
 pub loop-index-preserved : goal.loop-index-preserved
@@ -65,6 +68,7 @@ loop-index-preserved c =
           (λ (ne : j ≢ k). i.noticed j low (sym (c.in-Some.ensures.others j ne) ∙ left));
       rises = i.rises;
       marks = i.marks;
+      watch = i.watch;
     }
 
 pub returns-clause-noticed : goal.returns-clause-noticed

@@ -12,6 +12,7 @@ invariant-loop-index l = record {
   rises : (k : ℕ) → (slot_at l.fn.slots.keeper.slots k).asks
       ≤ (slot_at l.slots.keeper.slots k).asks;
   marks : MarksCover l.fn.number l.fn.slots.subscriptions l.slots.subscriptions;
+  watch : l.slots.watch ≡ l.fn.slots.watch;
 }
 
 abbrev pub decreases-loop-index : goal.decreases-loop-index

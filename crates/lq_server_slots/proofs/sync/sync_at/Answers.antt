@@ -42,7 +42,10 @@ returns-clause-keeps g c =
     m.new.seat.asks c.notice_slot.new.keeper.book c.args.reading.now
     d.new.reading d.result (rw at at n.taken) d.ensures.between d.ensures.drained
     (search (rules, arith)) u.ensures.asks u.ensures.place))
-    (d.ensures.between.alike.asks ∙ n.others.0.asks)
+    (d.ensures.between.alike.asks ∙ n.others.0.asks) (
+      d.ensures.between.alike.held.query ∙ n.others.0.query,
+      d.ensures.between.alike.held.flags ∙ n.others.0.flags,
+    )
 
 pub returns-clause-seat : goal.returns-clause-seat
 returns-clause-seat g c =

@@ -27,7 +27,7 @@ invariant_of-self g c =
     (rw at back.0) (rw (at, back.1) refl)
     (rw (at, back.1)
     (joined_asks _ _ _ seat.name seat.asks c.args.hang_up_asked fits (f.was_out low).out
-    (f.was_out low).name c.requires.seat.1))))
+    (f.was_out low).name c.requires.seat.1)) tt))
 
 pub returns-clause-freed : goal.returns-clause-freed
 returns-clause-freed g c = search (rules, arith, in_here)

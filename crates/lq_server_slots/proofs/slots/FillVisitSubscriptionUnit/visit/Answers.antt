@@ -13,5 +13,6 @@ returns-clause-did g c =
           f.stuck;
       served = served_filled s t _ c.requires.noticed f.alike f.stuck;
       asks = f.alike.asks;
+      query = (f.alike.held.query, f.alike.held.flags);
       mark = mark_covers-same _ s.sub.held.mark t.sub.held.mark f.alike.held.mark;
     }

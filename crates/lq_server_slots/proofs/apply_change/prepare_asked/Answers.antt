@@ -1,6 +1,6 @@
 use Rattle.std.proofs.Common.{rules, arith}
 use Rattle.lq_server_slots.proofs.TableLemmas.{slots_stay}
-use Rattle.lq_server_slots.proofs.apply_change.prepare_taken.Goals as goal
+use Rattle.lq_server_slots.proofs.apply_change.prepare_asked.Goals as goal
 
 pub returns : goal.returns
 returns c = search (rules, arith)
