@@ -7,6 +7,8 @@
 #[cfg(test)]
 mod boards;
 #[cfg(test)]
+mod clients;
+#[cfg(test)]
 mod displays;
 #[cfg(test)]
 mod json_values;

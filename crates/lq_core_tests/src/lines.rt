@@ -1,6 +1,6 @@
 //! Of lq_script_lines: runs over devices that give and take little at a time, and fail.
-ghost use Rattle.std.specs.Prelude.{ℕ, [], ◌∷◌, ◌++◌, None};
-ghost use Rattle.lq_script_lines.specs.Lines.{Rules};
+ghost use Rattle.std.specs.Prelude.{ℕ, None};
+ghost use Rattle.lq_core_tests.specs.Echo.{echo_rules};
 
 use lq_script_lines::{Failed, Responder, RunFault, Sink, Source, run_lines};
 use lq_value::Refusal;
@@ -10,18 +10,14 @@ use std::test::Fail;
 
 /// Answers each line with the line itself.
 #[derive(Drop)]
-struct Echo;
+pub struct Echo;
 
 impl Responder for Echo {
     ghost State = { ℕ };
 
     ghost state = { λ _. 0 };
 
-    ghost rules = { record {
-      reply = λ _ line. line ++ 10 ∷ [];
-      after = λ _ _. 0;
-      long = [];
-    } };
+    ghost rules = { echo_rules };
 
     fn respond(&mut self, line: &[u8], out: &mut Vec<u8>) -> Result<(), Refusal> {
         out.extend_from_slice(line)?;

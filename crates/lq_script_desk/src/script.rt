@@ -34,7 +34,7 @@ use std::alloc::Global;
 /// let output = writer.into_device();
 /// assert!(rt; output.as_slice() == "{\"change\":1,\"node\":2}\n".as_bytes());
 /// ```
-pub fn run<R: Client, W: Sink>(
+pub fn run<R: Client<W>, W: Sink>(
     alloc: Global,
     reader: &mut R,
     writer: &mut W,

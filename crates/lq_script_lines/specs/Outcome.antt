@@ -33,21 +33,22 @@ log_of_writer written written' failed stalled flushed = record {
 }
 
 -- The reader may be read whenever exactly the lines that LF ended by then are answered: in each
--- state of it for which the writer has one where the replies to those lines are written, and no
--- more. A run is generic in its writer, so the only writer that it can show for this is its own.
+-- state of it, with each state of the writer in which the replies to those lines are written, and
+-- no more. A read is given the writer, so the state is that of the run's writer at the read.
 abbrev pub MayReadAfterReplies : {R W State : Type 0} → Rules State → State
-    → (R → Option (List ℕ)) → (W → Option (List ℕ)) → (R → Type 0) → R → W → Type 0
+    → (R → Option (List ℕ)) → (W → Option (List ℕ)) → (R → W → Type 0) → R → W → Type 0
 MayReadAfterReplies {R} {W} rules state left written may_read reader writer =
     (reader' : R) → (writer' : W)
     → Ended rules state (left reader) (left reader') (written writer) (written writer')
-    → may_read reader'
+    → may_read reader' writer'
 
 -- A run that succeeded wrote the whole output, and no device failed. After a fault, the bytes
 -- written are a prefix of the output for the bytes read; after a read fault and at a limit, they
 -- are the output for the lines that LF ended. Where memory ran out, they are that for the lines
 -- before one that has no reply, or the run never began; the reader hasn't failed, and each write
--- took some bytes. So where every line has its reply and only the flush failed, the fault is Write.
--- Read, Write and Limit have their cause in the run; no contract sees whether memory ran out.
+-- took some bytes. So if all replies are written, none of them is empty and only the flush failed,
+-- the fault is Write. Read, Write and Limit have their cause in the run; no contract sees whether
+-- memory ran out.
 pub record IsRunOutcome {State : Type 0} (rules : Rules State) (state : State)
     (result : Result (Unit {0}) RunFault) (r : ReaderLog) (w : WriterLog) : Type 0 where
   pub ok : OnOk result (Answered rules state r.left r.left' w.written w.written')

@@ -29,34 +29,35 @@ pub trait Source {
 }
 
 /// What a run reads: a device that gives bytes and may be read only at certain moments, as a client
-/// that sends a line and waits for its reply. A `Source` is one that may be read at any moment.
-pub trait Client {
+/// that sends a line and waits for its reply. Each read is given the run's writer, so a client may
+/// look at the replies first. A `Source` may be read at any moment.
+pub trait Client<W> {
     /// The bytes that reads will still give, if they are known.
     ghost left: { Self → Option (List ℕ) };
 
     /// Whether the device has failed.
     ghost failed: { Self → Bool };
 
-    /// Whether the device may be read now.
-    ghost may_read: { Self → Type 0 };
+    /// Whether the device may be read when the writer is this one.
+    ghost may_read: { Self → W → Type 0 };
 
     /// Reads bytes into the start of `buf`, and answers their number, as `read` of a `Source`.
-    fn receive(&mut self, buf: &mut [u8]) -> Result<usize, Failed>
-        requires waits { may_read self.old }
+    fn receive(&mut self, writer: &W, buf: &mut [u8]) -> Result<usize, Failed>
+        requires waits { may_read self.old writer.now }
         ensures bound { IfOk result (λ n. n ≤ length buf.new) }
         ensures bytes { ReadConsumes (left self.old) (left self.new) result buf.new }
         ensures works { OnOk result (failed self.new ≡ failed self.old) }
         ensures fails { OnErr result (failed self.new ≡ true) };
 }
 
-impl<R: Source> Client for R {
+impl<W, R: Source> Client<W> for R {
     ghost left = { R.left };
 
     ghost failed = { R.failed };
 
-    ghost may_read = { λ _. Unit {0} };
+    ghost may_read = { λ _ _. Unit {0} };
 
-    fn receive(&mut self, buf: &mut [u8]) -> Result<usize, Failed> {
+    fn receive(&mut self, _writer: &W, buf: &mut [u8]) -> Result<usize, Failed> {
         self.read(buf)
     }
 }

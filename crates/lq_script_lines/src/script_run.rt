@@ -84,7 +84,7 @@ fn is_write(fault: RunFault) -> bool
 /// 1,073,741,824 bytes, `Memory`. After `Read` and `Limit` exactly the lines that LF ended are
 /// answered, after `Memory` the lines before one that isn't, and after `Write` a prefix of the
 /// replies is written.
-pub fn run_lines<R: Client, W: Sink, S: Responder>(
+pub fn run_lines<R: Client<W>, W: Sink, S: Responder>(
     alloc: Global,
     reader: &mut R,
     writer: &mut W,
@@ -112,7 +112,7 @@ pub fn run_lines<R: Client, W: Sink, S: Responder>(
     let mut out = Vec::new(alloc);
     loop {
         write_replies(&mut out, writer)?;
-        let Ok(count) = reader.receive(&mut block) else {
+        let Ok(count) = reader.receive(writer, &mut block) else {
             write_and_flush(&mut out, writer)?;
             return Err(RunFault::Read);
         };
