@@ -36,7 +36,7 @@ abbrev outcome_by : Bool → Bool → Option ℕ → Option ℕ → Option ℕ �
 outcome_by utf8 short fault missing unused text = unless_unbound (first_of (
     (if utf8 then None else Some (Refused NotUtf8))
     ∷ (if short then None else Some (Refused (BadQuery 4096)))
-    ∷ option_map (λ place. Refused (BadQuery place)) fault
+    ∷ option_map (λ offset. Refused (BadQuery offset)) fault
     ∷ option_map (λ number. NoValue number) missing
     ∷ option_map (λ number. UnusedValue number) unused
     ∷ []

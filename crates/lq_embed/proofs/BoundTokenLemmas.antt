@@ -171,36 +171,36 @@ starts values before (t ∷ ts) at bs h have =
 -- ---- tokens
 
 -- a token stays one before a rest that begins as the other does
-kept : (end place : ℕ) (t : Token) (inside : ℕ) (part rest other : List ℕ)
-    → fault_of end place t ≡ None → IsToken t inside part rest → Starts (operator_of t) rest other
+kept : (end offset : ℕ) (t : Token) (inside : ℕ) (part rest other : List ℕ)
+    → fault_of end offset t ≡ None → IsToken t inside part rest → Starts (operator_of t) rest other
     → IsToken t inside part other
-kept end place t inside part rest other fine (inr q) s = inr q
-kept end place opens inside part rest other fine (inl u) s = inl u
-kept end place closes inside part rest other fine (inl u) s = inl u
-kept end place ands inside part rest other fine (inl u) s = inl u
-kept end place ors inside part rest other fine (inl u) s = inl u
-kept end place bang inside part rest other fine (inl (i, (e, free))) s =
+kept end offset t inside part rest other fine (inr q) s = inr q
+kept end offset opens inside part rest other fine (inl u) s = inl u
+kept end offset closes inside part rest other fine (inl u) s = inl u
+kept end offset ands inside part rest other fine (inl u) s = inl u
+kept end offset ors inside part rest other fine (inl u) s = inl u
+kept end offset bang inside part rest other fine (inl (i, (e, free))) s =
     inl (i, (e, not_next_same 61 rest other s free))
-kept end place (word raw) inside part rest other fine (inl (i, (e, (signs, some, ends)))) s =
+kept end offset (word raw) inside part rest other fine (inl (i, (e, (signs, some, ends)))) s =
     inl (i, (e, (signs, some, ends_word_same rest other s ends)))
-kept end place (op Ne) inside part rest other fine (inl u) s = inl u
-kept end place (op Le) inside part rest other fine (inl u) s = inl u
-kept end place (op Ge) inside part rest other fine (inl u) s = inl u
-kept end place (op Eq) inside part rest other fine (inl (i, inl e)) s = inl (i, inl e)
-kept end place (op Eq) inside part rest other fine (inl (i, inr (e, free))) (inl same) =
+kept end offset (op Ne) inside part rest other fine (inl u) s = inl u
+kept end offset (op Le) inside part rest other fine (inl u) s = inl u
+kept end offset (op Ge) inside part rest other fine (inl u) s = inl u
+kept end offset (op Eq) inside part rest other fine (inl (i, inl e)) s = inl (i, inl e)
+kept end offset (op Eq) inside part rest other fine (inl (i, inr (e, free))) (inl same) =
     inl (i, inr (e, not_next_same 61 rest other same free))
-kept end place (op Eq) inside part rest other fine (inl (i, inr (e, free))) (inr literal) =
+kept end offset (op Eq) inside part rest other fine (inl (i, inr (e, free))) (inr literal) =
     inl (i, inr (e, not_next_literal other literal))
-kept end place (op Lt) inside part rest other fine (inl (i, (e, free))) (inl same) =
+kept end offset (op Lt) inside part rest other fine (inl (i, (e, free))) (inl same) =
     inl (i, (e, not_next_same 61 rest other same free))
-kept end place (op Lt) inside part rest other fine (inl (i, (e, free))) (inr literal) =
+kept end offset (op Lt) inside part rest other fine (inl (i, (e, free))) (inr literal) =
     inl (i, (e, not_next_literal other literal))
-kept end place (op Gt) inside part rest other fine (inl (i, (e, free))) (inl same) =
+kept end offset (op Gt) inside part rest other fine (inl (i, (e, free))) (inl same) =
     inl (i, (e, not_next_same 61 rest other same free))
-kept end place (op Gt) inside part rest other fine (inl (i, (e, free))) (inr literal) =
+kept end offset (op Gt) inside part rest other fine (inl (i, (e, free))) (inr literal) =
     inl (i, (e, not_next_literal other literal))
-kept end place lone inside part rest other fine (inl u) s = absurd (let no : ⊥ = cc in no)
-kept end place cut inside part rest other fine (inl u) s = absurd (let no : ⊥ = cc in no)
+kept end offset lone inside part rest other fine (inl u) s = absurd (let no : ⊥ = cc in no)
+kept end offset cut inside part rest other fine (inl u) s = absurd (let no : ⊥ = cc in no)
 
 -- what may follow an unmarked word ends it
 pub word_end : (t : Placed) (inside at : ℕ) (part rest raw : List ℕ) → t.raw_offset ≡ t.offset

@@ -94,7 +94,7 @@ opens-not_utf8 is code = opens-as is (record {
 opened-session : (answer : Answer) (s : SessionState)
     → (state_after_opening answer s).session ≡ s.session
 opened-session (Opened slot at result) s = refl
-opened-session (Refused (BadQuery place)) s = refl
+opened-session (Refused (BadQuery offset)) s = refl
 opened-session (Refused refusal) s = refl
 opened-session answer s = refl
 

@@ -48,39 +48,39 @@ pub record IsParameter (before : Option Op) (t : Placed) (p : Parameter) : Type 
   pub unmarked : t.raw_offset ≡ t.offset
   pub raw : List ℕ
   pub is_word : t.token ≡ word raw
-  pub place : p.place ≡ t.offset
+  pub offset : p.offset ≡ t.offset
   pub end : p.end ≡ t.offset + length raw
   pub number : 1 ≤ p.number
 
 -- the parameter that a number makes
-made_by : (o : Op) (place : ℕ) (raw : List ℕ) (p : Parameter) (m : Option ℕ)
+made_by : (o : Op) (offset : ℕ) (raw : List ℕ) (p : Parameter) (m : Option ℕ)
     → number_named raw ≡ m → option_map (λ number.
-    record { place = place; end = place + length raw; number = number; op = o }) m ≡ Some p
-    → (p.op ≡ o) × (p.place ≡ place) × (p.end ≡ place + length raw) × (1 ≤ p.number)
-made_by o place raw p None named is = absurd (let no : ⊥ = cc in no)
-made_by o place raw p (Some n) named is =
-    let same : record { place = place; end = place + length raw; number = n; op = o } ≡ p = cc in (
+    record { offset = offset; end = offset + length raw; number = number; op = o }) m ≡ Some p
+    → (p.op ≡ o) × (p.offset ≡ offset) × (p.end ≡ offset + length raw) × (1 ≤ p.number)
+made_by o offset raw p None named is = absurd (let no : ⊥ = cc in no)
+made_by o offset raw p (Some n) named is =
+    let same : record { offset = offset; end = offset + length raw; number = n; op = o } ≡ p = cc in (
       sym (ap (λ (q : Parameter). q.op) same),
-      sym (ap (λ (q : Parameter). q.place) same),
+      sym (ap (λ (q : Parameter). q.offset) same),
       sym (ap (λ (q : Parameter). q.end) same),
       subst (λ (q : Parameter). 1 ≤ q.number) same (named_positive raw n named),
     )
 
 -- a token that a parameter is made of is a word
-made_of : (o : Op) (place : ℕ) (t : Token) (p : Parameter) → parameter_named o place t ≡ Some p
-    → (raw : List ℕ) × (t ≡ word raw) × (p.op ≡ o) × (p.place ≡ place)
-    × (p.end ≡ place + length raw) × (1 ≤ p.number)
-made_of o place (word raw) p is =
-    let m = made_by o place raw p (number_named raw) refl is in
+made_of : (o : Op) (offset : ℕ) (t : Token) (p : Parameter) → parameter_named o offset t ≡ Some p
+    → (raw : List ℕ) × (t ≡ word raw) × (p.op ≡ o) × (p.offset ≡ offset)
+    × (p.end ≡ offset + length raw) × (1 ≤ p.number)
+made_of o offset (word raw) p is =
+    let m = made_by o offset raw p (number_named raw) refl is in
     (raw, refl, m.0, m.1, m.2, m.3)
-made_of o place opens p is = absurd (let no : ⊥ = cc in no)
-made_of o place closes p is = absurd (let no : ⊥ = cc in no)
-made_of o place bang p is = absurd (let no : ⊥ = cc in no)
-made_of o place ands p is = absurd (let no : ⊥ = cc in no)
-made_of o place ors p is = absurd (let no : ⊥ = cc in no)
-made_of o place (op x) p is = absurd (let no : ⊥ = cc in no)
-made_of o place lone p is = absurd (let no : ⊥ = cc in no)
-made_of o place cut p is = absurd (let no : ⊥ = cc in no)
+made_of o offset opens p is = absurd (let no : ⊥ = cc in no)
+made_of o offset closes p is = absurd (let no : ⊥ = cc in no)
+made_of o offset bang p is = absurd (let no : ⊥ = cc in no)
+made_of o offset ands p is = absurd (let no : ⊥ = cc in no)
+made_of o offset ors p is = absurd (let no : ⊥ = cc in no)
+made_of o offset (op x) p is = absurd (let no : ⊥ = cc in no)
+made_of o offset lone p is = absurd (let no : ⊥ = cc in no)
+made_of o offset cut p is = absurd (let no : ⊥ = cc in no)
 
 -- what parameter_at finds is one
 pub is_parameter : (before : Option Op) (t : Placed) (p : Parameter)
@@ -98,7 +98,7 @@ is_parameter (Some o) t p is = by (t.raw_offset == t.offset) refl is
           unmarked = eqb-true t.raw_offset t.offset same;
           raw = m.0;
           is_word = m.1;
-          place = m.3;
+          offset = m.3;
           end = m.4;
           number = m.5;
         }

@@ -29,15 +29,15 @@ between_end bytes at =
 
 -- by offsets it is the same text
 replaced_is : (values : List Value) (formula : List ℕ) (before : Option Op) (ts : List Placed)
-    (pre bs : List ℕ) (at place : ℕ) (h : HasTokens place bs ts) → formula ≡ pre ++ bs
-    → place ≡ length pre → at ≤ length pre
+    (pre bs : List ℕ) (at offset : ℕ) (h : HasTokens offset bs ts) → formula ≡ pre ++ bs
+    → offset ≡ length pre → at ≤ length pre
     → replaced_from values formula at (parameters_after before ts)
-    ≡ drop at pre ++ rewritten values before ts place bs h
+    ≡ drop at pre ++ rewritten values before ts offset bs h
 unfolding rewritten
-replaced_is values formula before [] pre bs at place h whole is le =
+replaced_is values formula before [] pre bs at offset h whole is le =
     between_end formula at
     ∙ (ap (drop at) whole ∙ drop-append-le at pre bs le)
-replaced_is values formula before (t ∷ ts) pre bs at place h whole is le =
+replaced_is values formula before (t ∷ ts) pre bs at offset h whole is le =
     by (parameter_at before t) refl (λ from within.
     replaced_is values formula (operator_of t.token) ts ((pre ++ h.2.blank) ++ h.2.part) h.1 from
     h.0 h.3 split_more size_more within)
@@ -49,7 +49,7 @@ replaced_is values formula before (t ∷ ts) pre bs at place h whole is le =
     split_more : formula ≡ ((pre ++ h.2.blank) ++ h.2.part) ++ h.1
     split_more = split_front ∙ sym (append_assoc (pre ++ h.2.blank) h.2.part h.1)
 
-    size_front : length (pre ++ h.2.blank) ≡ place + length h.2.blank
+    size_front : length (pre ++ h.2.blank) ≡ offset + length h.2.blank
     size_front = omega (arith, length-append pre h.2.blank, is)
 
     size_more : h.0 ≡ length ((pre ++ h.2.blank) ++ h.2.part)
@@ -79,16 +79,16 @@ replaced_is values formula before (t ∷ ts) pre bs at place h whole is le =
         let front = pre ++ h.2.blank in
         let more = front ++ h.2.part in
         let k = is_parameter before t p some in
-        let w = word_end t h.2.token.inside (place + length h.2.blank) h.2.part h.1 k.raw k.unmarked
+        let w = word_end t h.2.token.inside (offset + length h.2.blank) h.2.part h.1 k.raw k.unmarked
         h.2.token.offset h.2.token.raw k.is_word h.2.token.token in
-        let begin : p.place ≡ length front =
-        omega (arith, k.place, h.2.token.offset, size_front) in
+        let begin : p.offset ≡ length front =
+        omega (arith, k.offset, h.2.token.offset, size_front) in
         let size : length h.2.part ≡ length k.raw = ap length w.0 in
         let end : p.end ≡ length more =
         omega (arith, k.end, h.2.token.offset, size_front, size, length-append front h.2.part) in
-        let first : between formula at p.place ≡ drop at pre ++ h.2.blank =
-        ap (λ f. between f at p.place) split_front
-        ∙ (between_front front (h.2.part ++ h.1) at p.place
+        let first : between formula at p.offset ≡ drop at pre ++ h.2.blank =
+        ap (λ f. between f at p.offset) split_front
+        ∙ (between_front front (h.2.part ++ h.1) at p.offset
         (omega (arith, le, length-append pre h.2.blank)) begin
         ∙ drop-append-le at pre h.2.blank le) in
         let others : replaced_from values formula p.end

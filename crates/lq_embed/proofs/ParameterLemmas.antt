@@ -19,24 +19,24 @@ pub record HasMore (formula : List ℕ) (found : List Parameter) (before : Optio
 
 -- how far the reading has come: the parameters found so far, and the rest at its offset, which
 -- comes after this operator if there is one
-pub record HasSoFar (formula : List ℕ) (found : List Parameter) (before : Option Op) (place : ℕ)
+pub record HasSoFar (formula : List ℕ) (found : List Parameter) (before : Option Op) (offset : ℕ)
     (rest : List ℕ) : Type 0 where
-  pub room : place + length rest ≡ length formula
-  pub more : (ts : List Placed) → HasTokens place rest ts → HasMore formula found before ts
+  pub room : offset + length rest ≡ length formula
+  pub more : (ts : List Placed) → HasTokens offset rest ts → HasMore formula found before ts
 
 -- the tokens of the rest, after its first one
-more_after : {formula : List ℕ} {found : List Parameter} {before : Option Op} {place : ℕ}
+more_after : {formula : List ℕ} {found : List Parameter} {before : Option Op} {offset : ℕ}
     {rest : List ℕ} {t : Placed} {next : ℕ} {left : List ℕ} (ts : List Placed)
-    → HasSoFar formula found before place rest → Yields place rest t next left
+    → HasSoFar formula found before offset rest → Yields offset rest t next left
     → HasTokens next left ts → HasMore formula found before (t ∷ ts)
 more_after {t = t} {next = next} {left = left} ts was yields has =
     was.more (t ∷ ts) (next, left, yields, has)
 
 -- a token that may be in a formula, and the parameter that it is, if it is one
 pub goes_on : {formula : List ℕ} {found more : List Parameter} {before after : Option Op}
-    {place : ℕ} {rest : List ℕ} {t : Placed} {next : ℕ} {left : List ℕ}
-    → HasSoFar formula found before place rest → Yields place rest t next left
-    → next + length left ≡ place + length rest
+    {offset : ℕ} {rest : List ℕ} {t : Placed} {next : ℕ} {left : List ℕ}
+    → HasSoFar formula found before offset rest → Yields offset rest t next left
+    → next + length left ≡ offset + length rest
     → fault_of (length formula) t.offset t.token ≡ None
     → more ≡ found ++ option_to_list (parameter_at before t) → after ≡ operator_of t.token
     → HasSoFar formula more after next left
@@ -56,24 +56,24 @@ goes_on {formula = formula} {found = found} {more = more} {before = before} {aft
     })
 
 -- a token that is in no formula
-pub stops_at : {formula : List ℕ} {found : List Parameter} {before : Option Op} {place : ℕ}
+pub stops_at : {formula : List ℕ} {found : List Parameter} {before : Option Op} {offset : ℕ}
     {rest : List ℕ} {t : Placed} {next : ℕ} {left : List ℕ} {fault : ℕ}
-    → HasSoFar formula found before place rest → Yields place rest t next left
+    → HasSoFar formula found before offset rest → Yields offset rest t next left
     → HasOneTokenList next left → fault_of (length formula) t.offset t.token ≡ Some fault
     → HasFault formula (BadQuery fault)
 stops_at {formula = formula} {fault = fault} was yields behind is =
     let m = more_after behind.tokens was yields behind.has in record {
       tokens = m.tokens;
       has = m.has;
-      place = fault;
+      offset = fault;
       fault = m.fault
           ∙ ap (λ f. or_later f (first_fault (length formula) behind.tokens)) is;
       is = refl;
     }
 
 -- no token is left
-pub ends_here : {formula : List ℕ} {found : List Parameter} {before : Option Op} {place : ℕ}
-    {rest : List ℕ} → HasSoFar formula found before place rest → IsBlank rest
+pub ends_here : {formula : List ℕ} {found : List Parameter} {before : Option Op} {offset : ℕ}
+    {rest : List ℕ} → HasSoFar formula found before offset rest → IsBlank rest
     → HasParameters formula found
 ends_here {found = found} was blank =
     let m = was.more [] blank in record {

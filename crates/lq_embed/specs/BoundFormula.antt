@@ -30,7 +30,7 @@ literal_at values p = literal_or_none (slice_get values (p.number - 1)) p
 abbrev pub replaced_from : List Value → List ℕ → ℕ → List Parameter → List ℕ
 replaced_from values formula at [] = between formula at (length formula)
 replaced_from values formula at (p ∷ ps) =
-    between formula at p.place ++ (literal_at values p ++ replaced_from values formula p.end ps)
+    between formula at p.offset ++ (literal_at values p ++ replaced_from values formula p.end ps)
 
 -- the formula with these tokens, where each parameter is replaced by the literal of its value
 abbrev pub with_values : List Value → List ℕ → List Placed → List ℕ
@@ -64,7 +64,7 @@ abbrev pub unbound_refusals : List Value → List ℕ → List Placed → List (
 unbound_refusals values formula ts =
     (if is_utf8 formula then None else Some (Refused NotUtf8))
     ∷ (if nat_le (length formula) 4096 then None else Some (Refused (BadQuery 4096)))
-    ∷ option_map (λ place. Refused (BadQuery place)) (first_fault (length formula) ts)
+    ∷ option_map (λ offset. Refused (BadQuery offset)) (first_fault (length formula) ts)
     ∷ option_map (λ number. NoValue number) (first_missing (length values) (parameters_of ts))
     ∷ option_map (λ number. UnusedValue number) (first_unused (parameters_of ts) 1 values)
     ∷ []

@@ -52,7 +52,7 @@ pub record Changes (old new : SessionState) (q : Result Request Refusal) (status
 
 -- the state after a refusal, whose place is kept if it has one
 abbrev pub state_after_refusal : Refusal → SessionState → SessionState
-state_after_refusal (BadQuery place) s = with_fault s place
+state_after_refusal (BadQuery offset) s = with_fault s offset
 state_after_refusal refusal s = s
 
 -- the state after the answer to an opening, whose result is to be given

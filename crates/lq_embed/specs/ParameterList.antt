@@ -18,13 +18,13 @@ pub record HasParameters (formula : List ℕ) (parameters : List Parameter) : Ty
   pub fine : first_fault (length formula) tokens ≡ None
   pub are : parameters ≡ parameters_of tokens
 
--- a token of the formula is in none, and the leftmost such token's place is told
+-- a token of the formula is in none, and the leftmost such token's offset is told
 pub record HasFault (formula : List ℕ) (refusal : Refusal) : Type 0 where
   pub tokens : List Placed
   pub has : HasTokens 0 formula tokens
-  pub place : ℕ
-  pub fault : first_fault (length formula) tokens ≡ Some place
-  pub is : refusal ≡ BadQuery place
+  pub offset : ℕ
+  pub fault : first_fault (length formula) tokens ≡ Some offset
+  pub is : refusal ≡ BadQuery offset
 
 -- the same, or memory ran out
 abbrev pub IsNotCut : List ℕ → Refusal → Type 0

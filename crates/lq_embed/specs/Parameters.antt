@@ -24,9 +24,9 @@ number_named (b ∷ bs) = if b == 36 then number_written bs else None
 
 -- the parameter at an offset after an operator, if the token is a word that names a number
 abbrev pub parameter_named : Op → ℕ → Token → Option Parameter
-parameter_named o place (word raw) = option_map (λ number.
-    record { place = place; end = place + length raw; number = number; op = o }) (number_named raw)
-parameter_named o place t = None
+parameter_named o offset (word raw) = option_map (λ number.
+    record { offset = offset; end = offset + length raw; number = number; op = o }) (number_named raw)
+parameter_named o offset t = None
 
 -- The parameter that a token is, where it comes after this operator. It has no marks, so its raw
 -- text begins where it does.
@@ -52,12 +52,12 @@ parameters_of ts = parameters_after None ts
 
 -- ---- tokens of no formula
 
--- the place of the fault where a token is in no formula: `&` or `|` alone, or a quoted text or a
+-- the offset of the fault where a token is in no formula: `&` or `|` alone, or a quoted text or a
 -- `\` that the end of the text cuts off
 abbrev pub fault_of : ℕ → ℕ → Token → Option ℕ
-fault_of end place lone = Some place
-fault_of end place cut = Some end
-fault_of end place t = None
+fault_of end offset lone = Some offset
+fault_of end offset cut = Some end
+fault_of end offset t = None
 
 abbrev pub or_later : Option ℕ → Option ℕ → Option ℕ
 or_later None later = later

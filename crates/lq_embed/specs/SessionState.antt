@@ -63,4 +63,4 @@ abbrev pub with_bound : SessionState → List Value → SessionState
 with_bound s values = record s { bound = values }
 
 abbrev pub with_fault : SessionState → ℕ → SessionState
-with_fault s place = record s { fault = place }
+with_fault s fault = record s { fault = fault }

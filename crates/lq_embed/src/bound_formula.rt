@@ -100,7 +100,7 @@ fn replace(
     let mut text = Vec::new(alloc);
     let mut at = 0;
     for parameter in parameters {
-        text.extend_from_slice(between(formula, at, parameter.place))?;
+        text.extend_from_slice(between(formula, at, parameter.offset))?;
         put_value(parameter, values, &mut text)?;
         at = parameter.end;
     }

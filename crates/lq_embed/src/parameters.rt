@@ -16,7 +16,7 @@ pub(crate) const MAX_VALUES: usize = 256;
 /// number of its value from 1, and the operator before it.
 #[derive(Clone, Copy, Drop)]
 pub(crate) struct Parameter {
-    pub place: usize,
+    pub offset: usize,
     pub end: usize,
     pub number: usize,
     pub op: Op,
@@ -39,9 +39,9 @@ pub(crate) fn read_parameters(alloc: Global, formula: &str) -> Result<Vec<Parame
         rest: formula,
     };
     while let Some((placed, after)) = next_token(cursor) {
-        if let Some(place) = fault_of(formula.len(), &placed) {
+        if let Some(offset) = fault_of(formula.len(), &placed) {
             return Err(Refusal::BadQuery {
-                place: place as u64,
+                place: offset as u64,
             });
         }
         if let Some(parameter) = parameter_at(before, &placed, after.offset) {
@@ -53,7 +53,7 @@ pub(crate) fn read_parameters(alloc: Global, formula: &str) -> Result<Vec<Parame
     Ok(parameters)
 }
 
-// The place of the fault where a token is in no formula of this size.
+// The offset of the fault where a token is in no formula of this size.
 fn fault_of(size: usize, placed: &Placed<'_>) -> Option<usize>
     ensures { result ≡ fault_of size placed.now.offset (token_of placed.now.token) }
 {
@@ -87,7 +87,7 @@ fn parameter_at(before: Option<Op>, placed: &Placed<'_>, end: usize) -> Option<P
         return None;
     };
     Some(Parameter {
-        place: placed.offset,
+        offset: placed.offset,
         end,
         number: number_named(raw.as_bytes())?,
         op,
