@@ -17,8 +17,10 @@ pub struct Opaque {
 }
 
 /// The handle: the pointer in C's `struct lq`. Contracts see the session behind it (`served`).
+///
+/// It isn't `Drop`, and its parts aren't: a call that gets a handle by value can't forget it, but
+/// has to make the box again.
 #[repr(C)]
-#[derive(Drop)]
 pub struct Lq {
     ptr: *mut Opaque,
     alloc: Global,
