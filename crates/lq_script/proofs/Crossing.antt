@@ -3,7 +3,7 @@ use denote.RattleType.{RattleType}
 use denote.Ref.{NamedLft}
 use denote.Param.Send.{IsSend, IsSync, sendable, shr_send}
 use denote.Param.SendFields.{declared_send}
-use Rattle.std.proofs.Crossing.{crosses, Vec-send}
+use Rattle.std.proofs.Crossing.{Vec-send}
 use Rattle.lq_desk_sub.specs.contracts.read.Read as read
 use Rattle.lq_server_slots.specs.declared.server_base.Named.{Ghosts}
 use Rattle.lq_server.specs.contracts.own_reader.OwnReader as own_reader

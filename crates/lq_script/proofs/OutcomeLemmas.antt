@@ -6,7 +6,8 @@ use Rattle.lq_script_lines.specs.Output.{Halted, NotBegun, Stopped, output_of}
 use Rattle.lq_script_lines.specs.Words.{IsCheckOf, IsRun, IsThreads, IsUsage}
 use Rattle.lq_script_lines.specs.declared.run_fault.RunFault.TheVariants.{Memory}
 use Rattle.lq_script_desk.specs.Script.{script_session, world_rules}
-use Rattle.lq_script.specs.Outcome.{HasChecked, HasRun, IsOutcome, TellsFault, TellsLine, Transcript, transcript_of}
+use Rattle.lq_script.proofs.ProgressLemmas.{tells_none}
+use Rattle.lq_script.specs.Outcome.{HasChecked, HasRun, HasRunThreads, IsOutcome, TellsFault, TellsLine, Transcript, transcript_of}
 use Rattle.lq_script.specs.Written.{fault_line, usage_line}
 
 -- `run` isn't `threads`
@@ -72,6 +73,23 @@ module _ {R W F : Type 0} (words : List (List ℕ)) (status : ℕ) (t : Transcri
     reads_nothing = λ not_run _. absurd (not_run run);
   }
 
+  -- `threads` was asked for
+  pub after_threads : IsThreads words → HasRunThreads status t
+      → (status ≡ 0 → t.faults' ≡ t.faults) → IsOutcome words status t
+  after_threads threads has quiet = let low : status ≤ 1 = has.never_refused in record {
+    at_most = omega arith;
+    run = λ run. absurd (run_or_threads words run threads);
+    threads = λ _. has;
+    check = λ formula check. absurd (one_word words (codes "threads") formula threads check);
+    usage = λ usage two. absurd (usage.not_threads threads);
+    other = λ usage. absurd (usage.not_threads threads);
+    quiet = quiet;
+    flushed = λ none. absurd (none threads);
+    fault = λ none. absurd (none threads);
+    writes_nothing = λ two. absurd (let bad : ⊥ = omega arith in bad);
+    reads_nothing = λ _ none. absurd (none threads);
+  }
+
   -- the check of a formula was asked for
   pub after_check : (formula : List ℕ) → IsCheckOf words formula → HasChecked formula status t
       → status ≤ 2 → (status ≡ 0 → t.faults' ≡ t.faults) → (status ≡ 0 → t.wrote.flushed ≡ true)
@@ -128,7 +146,18 @@ without_memory words status reader writer faults faults' left written failed fai
         stopped = λ _. stopped_none left written;
         never_refused = omega arith;
       };
-      threads = λ _. omega arith;
+      threads = λ _. record {
+        done = λ none. absurd (let bad : ⊥ = omega arith in bad);
+        stopped = λ _. (
+          Memory,
+          (
+            line,
+            tells_none Memory (log_of_reader left left failed) written written refl
+                (Keeps-refl written) refl,
+          ),
+        );
+        never_refused = omega arith;
+      };
       check = λ formula _. record {
         done = λ none. absurd (let bad : ⊥ = omega arith in bad);
         stopped = λ _. inl refl;

@@ -10,8 +10,11 @@ use Rattle.lq_desk_world.specs.Events.{Answer, Changed}
 use Rattle.lq_script_desk.specs.Response.{Response, Answers}
 use Rattle.lq_script_desk.specs.Reply.{reply_text}
 use Rattle.lq_script_desk.specs.Writes.{HasTaken}
+use Rattle.lq_script_lines.specs.Outcome.{ReaderLog}
 use Rattle.lq_script_lines.specs.declared.run_fault.RunFault.{RunFault}
 use Rattle.lq_script_lines.specs.declared.run_fault.RunFault.TheVariants.{Read, Write, Limit, Memory, Thread}
+use Rattle.lq_script.specs.Asked.{Asked}
+use Rattle.lq_script.specs.Reading.{AnswersScript, HasRead}
 
 -- ---- what replies tell
 
@@ -61,21 +64,25 @@ LeavesUntold (Ok done) untold rest = (untold ≡ []) × (rest ≡ [])
 LeavesUntold (Err fault) untold rest = LeavesAfter fault untold rest
 
 -- All changes of this book are those that a run's replies tell, in order, and `untold` at the end.
--- What was written is the text of these replies, but for `rest` at its end.
-pub record TellsAllOf (book : Book) (result : Result (Unit {0}) RunFault)
+-- What was written is the text of these replies, but for `rest` at its end. They are the replies to
+-- the lines that were read, and the book has the changes that these lines ask and the volume accepts.
+pub record TellsAllOf (book : Book) (result : Result (Unit {0}) RunFault) (reader : ReaderLog)
     (written written' : Option (List ℕ)) : Type 0 where
   pub replies : List Response
   pub untold : List Applied
   pub rest : List ℕ
+  pub asked : List Asked
   pub all : AreAllChanges book (changes_told replies ++ untold)
   pub took : HasTaken written written' (replies_text replies) rest
   pub leaves : LeavesUntold result untold rest
+  pub read : HasRead result reader asked
+  pub answered : AnswersScript result asked book replies
 
 -- A run tells all changes that its server made: there is one lawful book of them, over the first
 -- volume of a script.
-pub record TellsAllChanges (result : Result (Unit {0}) RunFault)
+pub record TellsAllChanges (result : Result (Unit {0}) RunFault) (reader : ReaderLog)
     (written written' : Option (List ℕ)) : Type 0 where
   pub book : Book
   pub lawful : IsBook book
   pub begins : book.start ≡ empty_state 1000000000000
-  pub tells : TellsAllOf book result written written'
+  pub tells : TellsAllOf book result reader written written'

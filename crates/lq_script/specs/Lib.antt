@@ -3,3 +3,7 @@ pub mod Written
 pub mod Outcome
 pub mod Changes
 pub mod Progress
+pub mod Input
+pub mod Asked
+pub mod Answers
+pub mod Reading

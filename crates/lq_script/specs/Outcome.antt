@@ -1,11 +1,12 @@
 -- What the program does with its three streams, for what its arguments ask.
-use Rattle.std.specs.Prelude.{◌≡◌, ◌⊎◌, ◌≤◌, ℕ, List, true}
+use Rattle.std.specs.Prelude.{◌≡◌, ◌⊎◌, ◌≤◌, ℕ, List, true, Ok, Err}
 use Rattle.lq_predicate.specs.Faults.{IsFaulty}
 use Rattle.lq_script_lines.specs.Output.{Answered, Stopped}
 use Rattle.lq_script_lines.specs.Outcome.{ReaderLog, WriterLog}
 use Rattle.lq_script_lines.specs.Words.{IsCheckOf, IsRun, IsThreads, IsUsage}
 use Rattle.lq_script_lines.specs.declared.run_fault.RunFault.{RunFault}
 use Rattle.lq_script_desk.specs.Script.{script_session, world_rules}
+use Rattle.lq_script.specs.Changes.{TellsAllChanges}
 use Rattle.lq_script.specs.Written.{IsRunFault, Prints, PrintsFront, WritesOrFails}
 use Rattle.lq_script.specs.Written.{fault_line, refusal_line, usage_line}
 
@@ -61,6 +62,14 @@ pub record HasRun {R W F : Type 0} (status : ℕ) (t : Transcript R W F) : Type 
       t.read.left t.read.left' t.wrote.written t.wrote.written'
   pub never_refused : status ≤ 1
 
+-- Of `threads`: status 0 where the whole script was carried out, or 1, with a fault. A server's
+-- changes and the replies are those of a script's lines.
+pub record HasRunThreads {R W F : Type 0} (status : ℕ) (t : Transcript R W F) : Type 0 where
+  pub done : status ≡ 0 → TellsAllChanges (Ok tt) t.read t.wrote.written t.wrote.written'
+  pub stopped : status ≡ 1 → (fault : RunFault) × (TellsLine t (fault_line fault)
+      × TellsAllChanges (Err fault) t.read t.wrote.written t.wrote.written')
+  pub never_refused : status ≤ 1
+
 -- Of `check`: status 0 where the formula was printed, 1 with a prefix of that, or nothing, and 2
 -- where the formula is refused.
 pub record HasChecked {R W F : Type 0} (formula : List ℕ) (status : ℕ)
@@ -70,14 +79,13 @@ pub record HasChecked {R W F : Type 0} (formula : List ℕ) (status : ℕ)
       (t.writer' ≡ t.writer) ⊎ PrintsFront formula t.wrote.written t.wrote.written'
   pub refused : status ≡ 2 → TellsRefusal t formula
 
--- What each status says, by the arguments. `threads` carries out a script too, and no more is said
--- of its output. Status 0 says nothing on standard error, 1 says a fault there, and 2 writes
--- nothing. Only a script is read, and other arguments never succeed.
+-- What each status says, by the arguments. Status 0 says nothing on standard error, 1 says a fault
+-- there, and 2 writes nothing. Only a script is read, and other arguments never succeed.
 pub record IsOutcome {R W F : Type 0} (words : List (List ℕ)) (status : ℕ)
     (t : Transcript R W F) : Type 0 where
   pub at_most : status ≤ 2
   pub run : IsRun words → HasRun status t
-  pub threads : IsThreads words → status ≤ 1
+  pub threads : IsThreads words → HasRunThreads status t
   pub check : (formula : List ℕ) → IsCheckOf words formula → HasChecked formula status t
   pub usage : IsUsage words → status ≡ 2 → TellsLine t usage_line
   pub other : IsUsage words → (1 ≤ status) × (t.writer' ≡ t.writer)

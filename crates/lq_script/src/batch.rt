@@ -1,5 +1,5 @@
-//! Reads of several slots, side by side. Clauses say only that the replies tell no change.
-ghost use Rattle.std.specs.Prelude.{◌≡◌, [], IfOk, OnOk, OnErr};
+//! Reads of several slots, side by side. Clauses say only that each has a reply that tells no change.
+ghost use Rattle.std.specs.Prelude.{◌≡◌, [], length, IfOk, OnOk, OnErr};
 ghost use Rattle.std.specs.Thread.{IsSend};
 ghost use Rattle.lq_script_desk.specs.Answer.{response_of};
 ghost use mathlib.Core.List.{IsPrefix};
@@ -88,7 +88,7 @@ pub fn read_beside<
     slots: &[u64],
     out: &mut Vec<u8>,
 ) -> Result<(), Refusal>
-    ensures ok { OnOk result (AppendsReads out.old.items out.new.items) }
+    ensures ok { OnOk result (AppendsReads (length slots.now) out.old.items out.new.items) }
     ensures err { OnErr result (IsPrefix out.old.items out.new.items) }
 {
     let batch = batch_of(alloc, server, gate, readers, slots)?;
@@ -120,7 +120,7 @@ fn put_replies<N: Named, G>(
     slots: &[u64],
     out: &mut Vec<u8>,
 ) -> Result<(), Refusal>
-    ensures ok { OnOk result (AppendsReads out.old.items out.new.items) }
+    ensures ok { OnOk result (AppendsReads (length slots.now) out.old.items out.new.items) }
     ensures err { OnErr result (IsPrefix out.old.items out.new.items) }
 {
     for slot in slots {

@@ -1,5 +1,10 @@
-//! The runner of a script's lines: it carries out each. No clause ties a reply to its line.
-ghost use Rattle.std.specs.Prelude.{◌≡◌, ◌⊎◌, ◌+◌, ◌<◌, [], length, IfErr, OnOk, true};
+//! The runner of a script's lines: it carries out each. Clauses tie each reply to its line
+//! (`Replies`), but for what a read gives and what a slot's other lines are answered.
+ghost use Rattle.std.specs.Prelude.{◌≡◌, ◌⊎◌, ◌+◌, ◌<◌, [], ◌∷◌, length, drop, IfErr, IfOk, IfSome, OnOk, Ok, Err, true, false, ◌≢◌};
+ghost use Rattle.lq_value.specs.declared.refusal.Refusal.TheVariants.{NoMemory};
+ghost use Rattle.lq_desk_world.specs.declared.event.Event.TheVariants as events;
+ghost use Rattle.lq_script_request.specs.declared.request.Request.TheVariants as requests;
+ghost use Rattle.lq_script.specs.Asked.{asked_by, asked_by_all, asked_reads};
 ghost use Rattle.lq_script.specs.Progress.{Carries, standing_of_seat};
 
 use crate::gate::Gate;
@@ -48,6 +53,7 @@ impl<
         ensures writer { result.output.writer.now ≡ writer.old }
         ensures seat { result.session.seat ≡ session.entry.seat }
         ensures empty { result.output.replies.items ≡ [] }
+        ensures no_reads { result.slots.items ≡ [] }
     {
         Runner {
             alloc,
@@ -66,12 +72,13 @@ impl<
         ensures cause { IfErr result (λ e. e ≡ RunFault.Write →
             (W.failed self.new.output.writer.now ≡ true)
             ⊎ (W.stalled self.new.output.writer.now ≡ true)) }
-        ensures carried { Carries result
+        ensures carried { Carries (asked_by_all lines.now) result
             (standing_of_seat self.old.session.seat (W.written self.old.output.writer.now)
-            self.old.output.replies.items)
+            self.old.output.replies.items self.old.slots.items)
             (standing_of_seat self.new.session.seat (W.written self.new.output.writer.now)
-            self.new.output.replies.items) }
+            self.new.output.replies.items self.new.slots.items) }
         ensures empty { OnOk result (self.new.output.replies.items ≡ []) }
+        ensures no_reads { OnOk result (self.new.slots.items ≡ []) }
     {
         let mut rest = lines;
         while let Some(count) = memchr(LF, rest) {
@@ -104,16 +111,18 @@ impl<
         ensures cause { IfErr result (λ e. e ≡ RunFault.Write →
             (W.failed self.new.output.writer.now ≡ true)
             ⊎ (W.stalled self.new.output.writer.now ≡ true)) }
-        ensures carried { Carries result
+        ensures carried { Carries (asked_by line.now ∷ []) result
             (standing_of_seat self.old.session.seat (W.written self.old.output.writer.now)
-            self.old.output.replies.items)
+            self.old.output.replies.items self.old.slots.items)
             (standing_of_seat self.new.session.seat (W.written self.new.output.writer.now)
-            self.new.output.replies.items) }
+            self.new.output.replies.items self.new.slots.items) }
     {
         match asked_by(self.alloc, &mut self.scratch, line) {
             Ok(request) => self.take_request(&request),
-            Err(Refusal::NoMemory) => Err(RunFault::Memory),
             Err(refusal) => {
+                if is_memory(refusal) {
+                    return Err(RunFault::Memory);
+                }
                 self.end_batch()?;
                 self.output.put(&Response::Refused(refusal))
             }
@@ -125,11 +134,11 @@ impl<
         ensures cause { IfErr result (λ e. e ≡ RunFault.Write →
             (W.failed self.new.output.writer.now ≡ true)
             ⊎ (W.stalled self.new.output.writer.now ≡ true)) }
-        ensures carried { Carries result
+        ensures carried { Carries (Ok request.now ∷ []) result
             (standing_of_seat self.old.session.seat (W.written self.old.output.writer.now)
-            self.old.output.replies.items)
+            self.old.output.replies.items self.old.slots.items)
             (standing_of_seat self.new.session.seat (W.written self.new.output.writer.now)
-            self.new.output.replies.items) }
+            self.new.output.replies.items self.new.slots.items) }
     {
         if let Some(slot) = slot_of_read(request) {
             return self.put_read(slot);
@@ -137,8 +146,12 @@ impl<
         self.end_batch()?;
         match self.session.answer(request) {
             Ok(response) => self.output.put(&response),
-            Err(Refusal::NoMemory) => Err(RunFault::Memory),
-            Err(refusal) => self.output.put(&Response::Refused(refusal)),
+            Err(refusal) => {
+                if is_memory(refusal) {
+                    return Err(RunFault::Memory);
+                }
+                self.output.put(&Response::Refused(refusal))
+            }
         }
     }
 
@@ -147,11 +160,11 @@ impl<
         ensures cause { IfErr result (λ e. e ≡ RunFault.Write →
             (W.failed self.new.output.writer.now ≡ true)
             ⊎ (W.stalled self.new.output.writer.now ≡ true)) }
-        ensures carried { Carries result
+        ensures carried { Carries (asked_reads (slot ∷ [])) result
             (standing_of_seat self.old.session.seat (W.written self.old.output.writer.now)
-            self.old.output.replies.items)
+            self.old.output.replies.items self.old.slots.items)
             (standing_of_seat self.new.session.seat (W.written self.new.output.writer.now)
-            self.new.output.replies.items) }
+            self.new.output.replies.items self.new.slots.items) }
     {
         if self.slots.push(slot).is_err() {
             return Err(RunFault::Memory);
@@ -168,11 +181,12 @@ impl<
         ensures cause { IfErr result (λ e. e ≡ RunFault.Write →
             (W.failed self.new.output.writer.now ≡ true)
             ⊎ (W.stalled self.new.output.writer.now ≡ true)) }
-        ensures carried { Carries result
+        ensures carried { Carries [] result
             (standing_of_seat self.old.session.seat (W.written self.old.output.writer.now)
-            self.old.output.replies.items)
+            self.old.output.replies.items self.old.slots.items)
             (standing_of_seat self.new.session.seat (W.written self.new.output.writer.now)
-            self.new.output.replies.items) }
+            self.new.output.replies.items self.new.slots.items) }
+        ensures no_reads { OnOk result (self.new.slots.items ≡ []) }
     {
         if self.slots.is_empty() {
             return Ok(());
@@ -189,21 +203,38 @@ impl<
 // What comes after the byte at this place.
 fn after(bytes: &[u8], place: usize) -> &[u8]
     requires { place < length bytes.now }
-    ensures { length result.now + (place + 1) ≡ length bytes.now }
+    ensures rest { result.now ≡ drop (place + 1) bytes.now }
+    ensures shorter { length result.now + (place + 1) ≡ length bytes.now }
 {
     &bytes[place + 1..]
 }
 
 // The request of a line, which is empty where the line was too long. Refused as the line is.
-fn asked_by(alloc: Global, scratch: &mut Scratch, line: &[u8]) -> Result<Request, Refusal> {
+fn asked_by(alloc: Global, scratch: &mut Scratch, line: &[u8]) -> Result<Request, Refusal>
+    ensures value { IfOk result (λ request. asked_by line.now ≡ Ok request) }
+    ensures refused { IfErr result (λ e. (e ≡ NoMemory) ⊎ (asked_by line.now ≡ Err e)) }
+{
     if line.is_empty() {
         return Err(Refusal::LongLine);
     }
     request_in(alloc, scratch, line)
 }
 
+// Whether memory was wanting.
+fn is_memory(refusal: Refusal) -> bool
+    ensures yes { result ≡ true → refusal ≡ NoMemory }
+    ensures no { result ≡ false → refusal ≢ NoMemory }
+{
+    match refusal {
+        Refusal::NoMemory => true,
+        _ => false,
+    }
+}
+
 // The slot of a read; `None` of any other request.
-fn slot_of_read(request: &Request) -> Option<u64> {
+fn slot_of_read(request: &Request) -> Option<u64>
+    ensures read { IfSome result (λ slot. request.now ≡ requests.Event (events.Take slot)) }
+{
     match request {
         Request::Event(Event::Take(slot)) => Some(*slot),
         _ => None,

@@ -1,7 +1,11 @@
-//! The replies to lines, by a server's public calls. Clauses say only which changes they tell.
-ghost use Rattle.std.specs.Prelude.{◌≡◌, [], IfOk, OnOk, OnErr};
+//! The replies to lines, by a server's public calls. Clauses say which changes they tell, and of a
+//! change and of a look at the volume that the reply is that of the script's world (`Answers`).
+ghost use Rattle.std.specs.Prelude.{◌≡◌, [], ◌∷◌, length, IfOk, IfErr, OnOk, OnErr, Ok};
 ghost use Rattle.lq_server.specs.Made.{MakesMore};
 ghost use Rattle.lq_script_desk.specs.Answer.{response_of};
+ghost use Rattle.lq_script_request.specs.declared.request.Request.TheVariants as asked;
+ghost use Rattle.lq_desk_world.specs.declared.event.Event.TheVariants as events;
+ghost use Rattle.lq_script.specs.Answers.{Answers, AnswersRefusal};
 ghost use Rattle.lq_script.specs.Changes.{change_told};
 ghost use Rattle.lq_script.specs.Progress.{AppendsReads};
 
@@ -82,7 +86,8 @@ impl<
     /// session is of no more use.
     pub fn read(&mut self, slots: &[u64], out: &mut Vec<u8>) -> Result<(), Refusal>
         ensures seat { self.new.seat ≡ self.old.seat }
-        ensures ok { OnOk result (AppendsReads out.old.items out.new.items) }
+        ensures ok { OnOk result
+            (AppendsReads (length slots.now) out.old.items out.new.items) }
         ensures err { OnErr result (out.new.items ≡ out.old.items) }
     {
         let before = out.len();
@@ -108,6 +113,10 @@ impl<
         ensures made { IfOk result (λ r.
             MakesMore self.old.seat self.new.seat (change_told (response_of r))) }
         ensures err { OnErr result (MakesMore self.old.seat self.new.seat []) }
+        ensures replied { IfOk result (λ r. Answers self.old.seat self.new.seat
+            (Ok request.now ∷ []) [] (response_of r ∷ [])) }
+        ensures refused { IfErr result
+            (AnswersRefusal self.old.seat self.new.seat (Ok request.now)) }
     {
         match request {
             Request::Event(event) => self.event(event),
@@ -118,6 +127,10 @@ impl<
     fn look(&mut self, look: &Look) -> Result<Response, Refusal>
         ensures made { MakesMore self.old.seat self.new.seat [] }
         ensures none { IfOk result (λ r. change_told (response_of r) ≡ []) }
+        ensures replied { IfOk result (λ r. Answers self.old.seat self.new.seat
+            (Ok (asked.Look look.now) ∷ []) [] (response_of r ∷ [])) }
+        ensures refused { IfErr result
+            (AnswersRefusal self.old.seat self.new.seat (Ok (asked.Look look.now))) }
     {
         match look {
             Look::Find { dir, name } => {
@@ -146,6 +159,10 @@ impl<
         ensures made { IfOk result (λ r.
             MakesMore self.old.seat self.new.seat (change_told (response_of r))) }
         ensures err { OnErr result (MakesMore self.old.seat self.new.seat []) }
+        ensures replied { IfOk result (λ r. Answers self.old.seat self.new.seat
+            (Ok (asked.Event event.now) ∷ []) [] (response_of r ∷ [])) }
+        ensures refused { IfErr result
+            (AnswersRefusal self.old.seat self.new.seat (Ok (asked.Event event.now))) }
     {
         match event {
             Event::Change(change) => self.change(change),
@@ -172,6 +189,10 @@ impl<
         ensures made { IfOk result (λ r.
             MakesMore self.old.seat self.new.seat (change_told (response_of r))) }
         ensures err { OnErr result (MakesMore self.old.seat self.new.seat []) }
+        ensures replied { IfOk result (λ r. Answers self.old.seat self.new.seat
+            (Ok (asked.Event (events.Change change.now)) ∷ []) [] (response_of r ∷ [])) }
+        ensures refused { IfErr result (AnswersRefusal self.old.seat self.new.seat
+            (Ok (asked.Event (events.Change change.now)))) }
     {
         let applied = self.seat.apply(self.rt, self.server, change)?;
         let reply = Reply::Changed(applied);

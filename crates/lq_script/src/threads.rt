@@ -2,6 +2,8 @@
 ghost use Rattle.std.specs.Prelude.{◌≡◌, ◌⊎◌, [], ◌∷◌, IfErr, false, true};
 ghost use Rattle.lq_board.specs.Author.{leader, with_roll};
 ghost use Rattle.lq_board.specs.Token.{counted_board};
+ghost use Rattle.lq_volume.specs.State.{empty_state};
+ghost use Rattle.lq_script_lines.specs.Outcome.{log_of_reader};
 ghost use Rattle.lq_script.specs.Changes.{TellsAllChanges};
 ghost use Rattle.lq_script.specs.Progress.{TellsMade, TellsRetired};
 
@@ -22,10 +24,14 @@ use std::sync::Wait;
 use std::thread;
 use std::thread::{Scope, Threads};
 
-/// Carries out a script, its reads in threads. Only tests show that it writes what `run` writes.
+/// Carries out a script, its reads in threads.
 ///
-/// Its server makes no change but those that the replies tell, and at most one that they don't,
-/// where memory is wanting or the writer fails.
+/// It writes a reply to each line that isn't empty: to all of them where it succeeds, after `Read`
+/// and `Limit` to those that LF ended, else to a first part of them, with a rest unwritten where the
+/// writer fails. A change, a look at the volume and a line without a request have the reply that
+/// `run` writes; of what reads and other lines of slots are answered only tests show that. The
+/// server makes just the changes that the lines with replies ask and the volume accepts, and at
+/// most that of the next line, where memory is wanting or the writer fails.
 pub fn run_threads<T: Threads + Wait + Sync, R: Source, W: Sink, G: Gate + Sync>(
     rt: &T,
     alloc: Global,
@@ -37,8 +43,12 @@ pub fn run_threads<T: Threads + Wait + Sync, R: Source, W: Sink, G: Gate + Sync>
     requires writer_works { W.failed writer.old ≡ false }
     requires writer_moves { W.stalled writer.old ≡ false }
 
-    // The server made no change but the script's.
-    ensures changes { TellsAllChanges result (W.written writer.old) (W.written writer.new) }
+    // The server made no change but the script's. Each line that was read has its reply, but for a
+    // rest after a fault: that of `run` to a change, to a look at the volume, and to a line without a
+    // request.
+    ensures changes { TellsAllChanges result
+        (log_of_reader (R.left reader.old) (R.left reader.new) (R.failed reader.new))
+        (W.written writer.old) (W.written writer.new) }
 
     // A fault of the writer has its cause there.
     ensures cause { IfErr result (λ e. e ≡ RunFault.Write →
@@ -67,8 +77,11 @@ fn serve<N: Named + Send + Sync, T: Threads + Wait + Sync, R: Source, W: Sink, G
     gate: &G,
 ) -> RetiredRun
     requires base { (N.board ≡ counted_board base.board) × (base.volume ≡ N.start) }
+    requires start { N.start ≡ empty_state 1000000000000 }
     ensures changes { TellsRetired N.start result.retired.volume result.retired.changes
-        result.ran (W.written writer.old) (W.written writer.new) }
+        result.ran
+        (log_of_reader (R.left reader.old) (R.left reader.new) (R.failed reader.new))
+        (W.written writer.old) (W.written writer.new) }
     ensures cause { IfErr result.ran (λ e. e ≡ RunFault.Write →
         (W.failed writer.new ≡ true) ⊎ (W.stalled writer.new ≡ true)) }
 {
@@ -93,14 +106,21 @@ fn serve_over<N: Named + Send + Sync, T: Threads + Wait + Sync, R: Source, W: Si
     writer: &mut W,
     gate: &G,
 ) -> (Result<(), RunFault>, OwnSeat<N>)
-    ensures made { TellsMade result.0 seat result.1
-        (W.written writer.old) (W.written writer.new) }
+    ensures made { TellsMade result.0
+        (log_of_reader (R.left reader.old) (R.left reader.new) (R.failed reader.new))
+        seat result.1 (W.written writer.old) (W.written writer.new) }
     ensures cause { IfErr result.0 (λ e. e ≡ RunFault.Write →
         (W.failed writer.new ≡ true) ⊎ (W.stalled writer.new ≡ true)) }
 {
     let ended = serve_within(rt, alloc, server, seat, reader, writer, gate);
-    // The loan of the writer ends.
-    let EndedRun { ran, seat, writer } = ended;
+    // The loans of the reader and the writer end.
+    let EndedRun {
+        ran,
+        seat,
+        reader,
+        writer,
+    } = ended;
+    let _ = reader;
     let _ = writer;
     (ran, seat)
 }
@@ -112,11 +132,12 @@ struct Streams<'w, R, W> {
     writer: &'w mut W,
 }
 
-// How a run ended, with its seat and its writer.
+// How a run ended, with its seat, its reader and its writer.
 #[derive(Drop)]
-struct EndedRun<'w, N: Named, W> {
+struct EndedRun<'w, N: Named, R, W> {
     ran: Result<(), RunFault>,
     seat: OwnSeat<N>,
+    reader: &'w mut R,
     writer: &'w mut W,
 }
 
@@ -136,10 +157,13 @@ fn serve_within<
     reader: &'w mut R,
     writer: &'w mut W,
     gate: &G,
-) -> EndedRun<'w, N, W>
+) -> EndedRun<'w, N, R, W>
     ensures same { result.writer.ghost_name ≡ writer.entry.ghost_name }
-    ensures made { TellsMade result.ran seat result.seat
-        (W.written writer.old) (W.written result.writer.now) }
+    ensures same_reader { result.reader.ghost_name ≡ reader.entry.ghost_name }
+    ensures made { TellsMade result.ran
+        (log_of_reader (R.left reader.old) (R.left result.reader.now)
+        (R.failed result.reader.now))
+        seat result.seat (W.written writer.old) (W.written result.writer.now) }
     ensures cause { IfErr result.ran (λ e. e ≡ RunFault.Write →
         (W.failed result.writer.now ≡ true) ⊎ (W.stalled result.writer.now ≡ true)) }
 {
@@ -167,9 +191,13 @@ fn serve_in<
     seat: OwnSeat<N>,
     gate: &'s G,
     streams: Streams<'w, R, W>,
-) -> EndedRun<'w, N, W>
+) -> EndedRun<'w, N, R, W>
     ensures same { result.writer.ghost_name ≡ streams.entry.writer.ghost_name }
-    ensures made { TellsMade result.ran seat result.seat
+    ensures same_reader { result.reader.ghost_name ≡ streams.entry.reader.ghost_name }
+    ensures made { TellsMade result.ran
+        (log_of_reader (R.left streams.entry.reader.now) (R.left result.reader.now)
+        (R.failed result.reader.now))
+        seat result.seat
         (W.written streams.entry.writer.now) (W.written result.writer.now) }
     ensures cause { IfErr result.ran (λ e. e ≡ RunFault.Write →
         (W.failed result.writer.now ≡ true) ⊎ (W.stalled result.writer.now ≡ true)) }
@@ -177,13 +205,23 @@ fn serve_in<
     let Streams { reader, writer } = streams;
     let Ok((readers, workers)) = readers_and_workers(rt, alloc, scope) else {
         let ran = Err(out_of_memory(writer));
-        return EndedRun { ran, seat, writer };
+        return EndedRun {
+            ran,
+            seat,
+            reader,
+            writer,
+        };
     };
     let session = ServerSession::new(rt, alloc, seat, server, gate, readers, workers);
     let mut runner = Runner::new(alloc, session, writer);
     let ran = carry_all(rt, alloc, reader, &mut runner);
     let (seat, writer) = runner.end();
-    EndedRun { ran, seat, writer }
+    EndedRun {
+        ran,
+        seat,
+        reader,
+        writer,
+    }
 }
 
 // What a run's reads need: no slot has a reader yet, or a thread. None where memory is wanting.
@@ -213,8 +251,11 @@ fn carry_all<
     runner: &mut Runner<'s, 'w, E, N, T, G, W>,
 ) -> Result<(), RunFault>
     requires empty { runner.old.output.replies.items ≡ [] }
+    requires no_reads { runner.old.slots.items ≡ [] }
     ensures same { runner.new.output.writer.ghost_name ≡ runner.old.output.writer.ghost_name }
-    ensures made { TellsMade result runner.old.session.seat runner.new.session.seat
+    ensures made { TellsMade result
+        (log_of_reader (R.left reader.old) (R.left reader.new) (R.failed reader.new))
+        runner.old.session.seat runner.new.session.seat
         (W.written runner.old.output.writer.now) (W.written runner.new.output.writer.now) }
     ensures cause { IfErr result (λ e. e ≡ RunFault.Write →
         (W.failed runner.new.output.writer.now ≡ true)

@@ -1,10 +1,10 @@
 -- What the command that the arguments ask for does is what the program does.
-use Rattle.std.proofs.Common.{◌≡◌, ◌⊎◌, inl, inr, ap, refl, subst, sym, Err}
+use Rattle.std.proofs.Common.{arith, ◌≡◌, ◌⊎◌, inl, inr, ap, refl, subst, sym, Err}
 use Rattle.lq_script_lines.specs.Words.{IsAskedBy, texts_of}
 use Rattle.lq_script_lines.specs.declared.run_fault.RunFault.{RunFault}
 use Rattle.lq_script_lines.specs.declared.run_fault.RunFault.TheVariants.{Memory, Write}
 use Rattle.lq_script.specs.Written.{IsRunFault, WritesOrFails, fault_line}
-use Rattle.lq_script.proofs.OutcomeLemmas.{after_check, after_run, after_usage, never_began, without_memory}
+use Rattle.lq_script.proofs.OutcomeLemmas.{after_check, after_run, after_threads, after_usage, never_began, without_memory}
 use Rattle.lq_script.proofs.arguments.program.Goals as goal
 
 pub returns-in-Ok-Run : goal.returns-in-Ok-Run
@@ -20,6 +20,37 @@ returns-in-Ok-Run g c =
             line = fault.1.0;
             is = fault.1.1;
           });
+    }
+
+pub returns-in-Ok : goal.returns-in-Ok
+returns-in-Ok g c = record {
+  outcome = after_threads (texts_of c.args.words.now) 0 _
+      (subst (IsAskedBy (texts_of c.args.words.now)) c.in-Ok-Threads.field-0-is
+      c.in-Ok-Threads.ensures.ok)
+      (record {
+        done = λ _. c.in-Ok.ensures.changes;
+        stopped = λ one. absurd (let bad : ⊥ = omega (arith, one) in bad);
+        never_refused = omega arith;
+      })
+      (λ _. refl);
+}
+
+pub returns-in-Err : goal.returns-in-Err
+returns-in-Err g c =
+    let said = c.report_fault.ensures in
+    record {
+      outcome = after_threads (texts_of c.args.words.now) c.report_fault.result _
+          (subst (IsAskedBy (texts_of c.args.words.now)) c.in-Ok-Threads.field-0-is
+          c.in-Ok-Threads.ensures.ok)
+          (record {
+            done = λ none. absurd (let bad : ⊥ = omega (arith, none, said.status) in bad);
+            stopped = λ _. (
+              c.in-Err.fault,
+              (said.reported, c.in-Err.ensures.changes),
+            );
+            never_refused = omega (arith, said.status);
+          })
+          (λ none. absurd (let bad : ⊥ = omega (arith, none, said.status) in bad));
     }
 
 -- a fault of memory or of the writer is a fault
