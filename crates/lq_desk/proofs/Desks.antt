@@ -1,6 +1,6 @@
 -- What is so of all that a desk keeps, after each event.
 use Rattle.std.proofs.Common.{◌≡◌, ℕ, zero, suc, ◌+◌, ◌*◌, ◌-◌, ◌^◌, List, refl, ap, ◌∙◌, arith, Some, None, Option, map}
-use Rattle.std.specs.Prelude.{Bool, slice_get, slice_set, replicate, ◌==◌}
+use Rattle.std.specs.Prelude.{slice_get, slice_set, replicate, ◌==◌}
 use Rattle.std.specs.Option.{option_map, option_flatten}
 use Rattle.std.specs.List.{AllByRecursion}
 use Rattle.std.proofs.lemmas.Bool.{cond_both}

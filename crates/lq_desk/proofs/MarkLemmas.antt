@@ -106,7 +106,7 @@ places-none ends moves w = record {
   wide = refl;
   ends = λ i k found is. absurd (free 64 i k found);
   moves = λ i k found is. absurd (free 64 i k found);
-  watched = λ c i k found clear. absurd (free 64 i k found);
+  watched = λ i k found c clear. absurd (free 64 i k found);
 }
   where
     free : (n i : ℕ) (k : KeptSlot) → slice_get (map kept_slot (replicate n None)) i

@@ -1,6 +1,6 @@
 -- What a desk keeps, its answer to each event by that, and which worlds it shows. Only the clauses
 -- of private functions name it: those of `Desk` name the world.
-use Rattle.std.specs.Prelude.{◌≡◌, ◌⊎◌, ℕ, ◌+◌, ◌-◌, ◌*◌, ◌≤◌, List, [], ◌∷◌, length, map, ◌==◌, nat_le, nat_lt, Option, Some, None, slice_get, slice_set, if◌then◌else◌}
+use Rattle.std.specs.Prelude.{◌≡◌, ◌⊎◌, ℕ, ◌+◌, ◌-◌, ◌*◌, ◌≤◌, List, length, map, ◌==◌, nat_le, nat_lt, Option, Some, None, slice_get, slice_set, if◌then◌else◌}
 use Rattle.std.specs.Option.{option_map, option_flatten}
 use Rattle.std.specs.List.{AllByRecursion}
 use Rattle.lq_value.specs.declared.refusal.Refusal.{Refusal}

@@ -4,9 +4,8 @@ use Rattle.lq_volume.specs.declared.change.Change.{Change}
 use Rattle.lq_volume.specs.State.{State}
 use Rattle.lq_desk_sub.specs.declared.watch.Watch.{Watch}
 use Rattle.lq_desk_sub.specs.Held.{is_live, messages_due}
-use Rattle.lq_desk_sub.specs.Passing.{TellsNothing}
 use Rattle.lq_desk_sub.specs.SlotSet.{has}
-use Rattle.lq_desk_sub.specs.Watch.{slots_for}
+use Rattle.lq_desk_sub.specs.Watch.{IsWatched}
 use Rattle.lq_desk.specs.declared.desk_slots.Preparation.{Preparation}
 use Rattle.lq_desk.specs.Slot.{KeptSlot, PreparedSlot, can_move, is_ending, slot_of}
 
@@ -15,14 +14,10 @@ abbrev pub MarksPassing : {T : Type 0} → (T → Bool) → ℕ → List (Option
 MarksPassing {T} test set slots = (i : ℕ) (x : T) → slice_get slots i ≡ Some (Some x) → test x ≡ true
     → has set i ≡ true
 
--- the change has no message for a slot outside this set
-abbrev pub PassOver : Change → ℕ → List (Option KeptSlot) → Type 0
-PassOver c set ks = (i : ℕ) (k : KeptSlot) → slice_get ks i ≡ Some (Some k) → has set i ≡ false
-    → TellsNothing k.held.query k.held.flags c
-
--- no change has a message for a slot that isn't to be asked for it
+-- what each subscription asks is watched at its slot
 abbrev pub AreWatched : Watch → List (Option KeptSlot) → Type 0
-AreWatched w ks = (c : Change) → PassOver c (slots_for w c).word ks
+AreWatched w ks = (i : ℕ) (k : KeptSlot) → slice_get ks i ≡ Some (Some k)
+    → IsWatched w i k.held.query k.held.flags
 
 -- there are 64 places; the sets have the slots that are ending, and those whose port could take a
 -- parcel; and all are watched

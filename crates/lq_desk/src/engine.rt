@@ -98,11 +98,13 @@ impl Engine {
     pub fn answer_event(&mut self, event: &Event) -> Reply
         ensures { KeptStep self.old event.now (answer_of result) self.new }
     {
-        match event {
-            Event::Change(change) => match self.change(change) {
-                Ok(applied) => Reply::Changed(applied),
-                Err(refusal) => Reply::Refused(refusal),
-            },
+        let (slot, act) = match event {
+            Event::Change(change) => {
+                return match self.change(change) {
+                    Ok(applied) => Reply::Changed(applied),
+                    Err(refusal) => Reply::Refused(refusal),
+                };
+            }
             Event::Open {
                 predicate,
                 port,
@@ -110,22 +112,26 @@ impl Engine {
                 moved,
             } => {
                 let options = OpenOptions::without_values(*port, *backlog, *moved);
-                match self.open(predicate, &options) {
+                return match self.open(predicate, &options) {
                     Ok(reply) => reply,
                     Err(refusal) => Reply::Refused(refusal),
-                }
+                };
             }
-            Event::OpenBy { predicate, options } => match self.open(predicate, options) {
-                Ok(reply) => reply,
-                Err(refusal) => Reply::Refused(refusal),
-            },
-            Event::Put(slot) => self.act(*slot, Act::Put),
-            Event::Take(slot) => self.act(*slot, Act::Take),
-            Event::HangUp(slot) => self.act(*slot, Act::HangUp),
-            Event::Notice(slot) => self.act(*slot, Act::Notice),
-            Event::Close(slot) => self.act(*slot, Act::Close),
-            Event::Finish(slot) => self.act(*slot, Act::Finish),
-        }
+            Event::OpenBy { predicate, options } => {
+                return match self.open(predicate, options) {
+                    Ok(reply) => reply,
+                    Err(refusal) => Reply::Refused(refusal),
+                };
+            }
+            Event::Put(slot) => (*slot, Act::Put),
+            Event::Take(slot) => (*slot, Act::Take),
+            Event::HangUp(slot) => (*slot, Act::HangUp),
+            Event::Notice(slot) => (*slot, Act::Notice),
+            Event::Close(slot) => (*slot, Act::Close),
+            Event::Finish(slot) => (*slot, Act::Finish),
+        };
+        let number = self.volume.changes();
+        self.slots.act(slot, act, number)
     }
 
     // Makes a change and notifies each live query. It first makes the messages, which may fail for
@@ -143,8 +149,9 @@ impl Engine {
         changes_are_counted();
         let _ = self.volume.changes();
         let planned = self.volume.plan(change)?;
+        let resolved = planned.resolved();
         let prepared = self.slots.prepare(&planned)?;
-        let applied = self.volume.make(change)?;
+        let applied = self.volume.make(change, &resolved)?;
         self.slots.commit(prepared);
         Ok(applied)
     }
@@ -182,14 +189,6 @@ impl Engine {
             at,
             result,
         })
-    }
-
-    // Carries out an act at a slot.
-    fn act(&mut self, slot: u64, act: Act) -> Reply
-        ensures { (answer_of result, self.new) ≡ kept_act self.old slot act }
-    {
-        let number = self.volume.changes();
-        self.slots.act(slot, act, number)
     }
 
     /// Carries out a turn and answers its event.

@@ -7,9 +7,8 @@
 //! what each push gives, and when it doesn't fit). A formula is read twice: first without memory,
 //! which finds its leftmost fault if it has one, and then to build the tree, by one `machine` with
 //! two builders; `specs/Building` says what it has built of the specified machine's state. Nothing
-//! here waits, and `holds` takes no memory. Tests: `predicates` of lq_core_tests,
-//! `predicate_copies` of lq_tests. Begin with `predicate`, then `predicate_truth`, `formula_reader`
-//! and `stack`.
+//! here waits, and `holds` takes no memory. Tests: `predicates` and `predicate_copies` of
+//! lq_core_tests. Begin with `predicate`, then `predicate_truth`, `formula_reader` and `stack`.
 #![tactic(auto)]
 
 mod builder;

@@ -4,6 +4,7 @@ use Rattle.std.specs.Option.{option_copied, option_map}
 use Rattle.lq_volume.specs.declared.change.Applied.{Applied}
 use Rattle.lq_volume.specs.declared.change.Change.{Change}
 use Rattle.lq_volume.specs.declared.change.Change.TheVariants.{Write}
+use Rattle.lq_volume.specs.declared.change.Resolved.{Resolved}
 use Rattle.lq_volume.specs.declared.planned.LookedUp.{LookedUp}
 use Rattle.lq_volume.specs.declared.planned.WrittenNumbers.{WrittenNumbers}
 use Rattle.lq_volume.specs.State.{State, Record, record_at, IsVolume}
@@ -13,6 +14,14 @@ use Rattle.lq_volume.specs.Change.{node_of, record_left, clobbered, IsLawful}
 pub record Plan : Type 0 where
   pub before : State
   pub change : Change
+
+-- what an accepted change answers, and the other node that a move removes
+abbrev pub resolved_of : State → Change → Resolved
+resolved_of s c =
+    record {
+      applied = record { change = s.number + 1; node = node_of s c };
+      clobbered = clobbered s c;
+    }
 
 -- each look-up of a change's check gave what the definitions say
 pub record IsLookedUp (s : State) (c : Change) (found : LookedUp) : Type 0 where

@@ -63,3 +63,11 @@ pub struct Applied {
     pub change: u64,
     pub node: u64,
 }
+
+/// What `make` needs of an accepted change: what it answers, and the other node that a move
+/// removes.
+#[derive(Clone, Copy, Drop)]
+pub struct Resolved {
+    pub applied: Applied,
+    pub clobbered: Option<u64>,
+}

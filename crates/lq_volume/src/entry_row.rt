@@ -3,9 +3,12 @@ ghost use Rattle.std.specs.Prelude.{◌≡◌, ◌<◌, ◌^◌, Some, IfOk, IsS
 ghost use Rattle.std.specs.Option.{option_copied};
 ghost use Rattle.lq_value.specs.Refusal.{FailsOnlyForMemory};
 ghost use Rattle.lq_volume_entries.specs.Attributes.{value_of};
+ghost use Rattle.lq_volume.specs.Change.{node_of, record_left, IsLawful};
 ghost use Rattle.lq_volume.specs.EntryRow.{view_of, IsEntryRow};
+ghost use Rattle.lq_volume.specs.State.{record_at, IsVolume};
 
 use crate::change::Change;
+use crate::volume::Volume;
 use lq_predicate::Row;
 use lq_value::{AttrName, Entry, Field, Name, Refusal, Value, View, same_text};
 use lq_volume_entries::{StoredRecord, values_are_found};
@@ -155,6 +158,30 @@ pub(crate) fn record_of<'a>(stored: Option<&'a StoredRecord>) -> &'a StoredRecor
     match stored {
         None => unreachable!(),
         Some(stored) => stored,
+    }
+}
+
+// The entry of the change's own node after the change.
+pub(crate) fn view_after<'a>(
+    volume: &Volume,
+    change: &'a Change,
+    stored: Option<&'a StoredRecord>,
+) -> Option<EntryRow<'a>>
+    requires volume { IsVolume volume.now }
+    requires lawful { IsLawful volume.now change.now }
+    requires stored { option_copied stored
+        ≡ record_at volume.now (node_of volume.now change.now) }
+    ensures { result ≡ record_left volume.now change.now }
+{
+    match change {
+        Change::Remove { .. } => None,
+        Change::Create { dir, name, .. } | Change::Move { dir, name, .. } => {
+            Some(EntryRow::changed(*dir, name, stored, change))
+        }
+        Change::Write { .. } | Change::SetAttr { .. } | Change::RemoveAttr { .. } => {
+            let record = record_of(stored);
+            Some(EntryRow::changed(record.dir(), record.name(), stored, change))
+        }
     }
 }
 

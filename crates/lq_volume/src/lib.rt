@@ -16,7 +16,7 @@ mod lookup;
 mod planned;
 mod volume;
 
-pub use change::{Applied, Change};
+pub use change::{Applied, Change, Resolved};
 pub use entry_ref::{EntryRef, Listing};
 pub use entry_row::EntryRow;
 pub use laws::{

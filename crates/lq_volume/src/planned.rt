@@ -4,14 +4,14 @@ ghost use Rattle.std.specs.Prelude.{◌≡◌, ◌+◌, Some, None, IfErr, IfOk,
 ghost use Rattle.std.specs.Option.{option_copied, option_map};
 ghost use Rattle.lq_volume.specs.State.{record_at, IsVolume};
 ghost use Rattle.lq_value.specs.Refusal.{first_refusal};
-ghost use Rattle.lq_volume.specs.Change.{after, clobbered, own_tests, node_of, record_left, refused, IsLawful};
-ghost use Rattle.lq_volume.specs.Plan.{WritesNumbers, IsLookedUp, IsNoWrite};
+ghost use Rattle.lq_volume.specs.Change.{after, clobbered, own_tests, node_of, refused, IsLawful};
+ghost use Rattle.lq_volume.specs.Plan.{WritesNumbers, IsLookedUp, IsNoWrite, resolved_of};
 
-use crate::change::{Applied, Change};
+use crate::change::{Applied, Change, Resolved};
 use crate::checks::{
     check_create, check_move, check_remove, check_remove_attr, check_set_attr, check_write,
 };
-use crate::entry_row::{EntryRow, record_of};
+use crate::entry_row::{EntryRow, view_after};
 use crate::volume::Volume;
 use lq_value::Refusal;
 use lq_volume_entries::{StoredRecord, records_are_kept};
@@ -57,6 +57,19 @@ impl<'a> Model for Planned<'a> {
 }
 
 impl Volume {
+    /// What `make` needs of a change that would be accepted. It takes no memory and changes nothing.
+    ///
+    /// Refused exactly as `check`.
+    #[inline(always)]
+    pub fn resolve(&self, change: &Change) -> Result<Resolved, Refusal>
+        ensures ok { OnOk result (refused self.now change.now ≡ None) }
+        ensures err { IfErr result (λ e. refused self.now change.now ≡ Some e) }
+        ensures value { IfOk result (λ resolved. resolved ≡ resolved_of self.now change.now) }
+    {
+        let planned = self.plan(change)?;
+        Ok(planned.resolved())
+    }
+
     /// A plan of a change that would be accepted, with what it touches. It takes no memory and
     /// changes nothing.
     ///
@@ -101,6 +114,16 @@ impl<'a> Planned<'a> {
         ensures volume { IsVolume self.now.before }
     {
         self.applied
+    }
+
+    /// What `make` needs of the change, so that it looks nothing up again.
+    pub fn resolved(&self) -> Resolved
+        ensures { result ≡ resolved_of self.now.before self.now.change }
+    {
+        Resolved {
+            applied: self.applied,
+            clobbered: self.clobbered.as_ref().map(|(node, _)| *node),
+        }
     }
 
     /// The change.
@@ -190,30 +213,6 @@ fn found_by<'a>(volume: &'a Volume, change: &'a Change) -> Result<LookedUp<'a>, 
         stored,
         other: None,
     })
-}
-
-// The entry of the change's own node after the change.
-fn view_after<'a>(
-    volume: &Volume,
-    change: &'a Change,
-    stored: Option<&'a StoredRecord>,
-) -> Option<EntryRow<'a>>
-    requires volume { IsVolume volume.now }
-    requires lawful { IsLawful volume.now change.now }
-    requires stored { option_copied stored
-        ≡ record_at volume.now (node_of volume.now change.now) }
-    ensures { result ≡ record_left volume.now change.now }
-{
-    match change {
-        Change::Remove { .. } => None,
-        Change::Create { dir, name, .. } | Change::Move { dir, name, .. } => {
-            Some(EntryRow::changed(*dir, name, stored, change))
-        }
-        Change::Write { .. } | Change::SetAttr { .. } | Change::RemoveAttr { .. } => {
-            let record = record_of(stored);
-            Some(EntryRow::changed(record.dir(), record.name(), stored, change))
-        }
-    }
 }
 
 // The numbers that a write finds and leaves; `None` where the change is no write.

@@ -1,7 +1,7 @@
 //! The volume: it checks and makes changes, and numbers those that it accepts.
 ghost use Rattle.std.specs.Prelude.{◌≡◌, ◌≤◌, ◌+◌, Some, None, IfOk, IfErr, OnErr, OnOk};
 
-use crate::change::{Applied, Change};
+use crate::change::{Applied, Change, Resolved};
 use crate::laws::accepted_changes_keep_trees;
 use lq_value::Refusal;
 use lq_volume_entries::{Entries, StoredRecord, records_are_kept};
@@ -85,6 +85,7 @@ impl Volume {
     ghost use Rattle.lq_value.specs.Refusal.{FailsOnlyForMemory, IsRefusedBy};
     ghost use Rattle.lq_volume.specs.State.{empty_state, IsVolume};
     ghost use Rattle.lq_volume.specs.Change.{refused, after, node_of, is_full, IsLawful};
+    ghost use Rattle.lq_volume.specs.Plan.{resolved_of};
 
     /// A volume with the root alone. It accepts at most `limit` changes, 1 to 1,000,000,000,000.
     ///
@@ -135,8 +136,7 @@ impl Volume {
         ensures value { IfOk result (λ applied.
             applied ≡ record { change = self.now.number + 1; node = node_of self.now change.now }) }
     {
-        let planned = self.plan(change)?;
-        Ok(planned.applied())
+        Ok(self.resolve(change)?.applied)
     }
 
     /// Makes a change. Refused: as `check` refuses it, or `NoMemory`.
@@ -149,15 +149,16 @@ impl Volume {
         ensures ok { OnOk result (self.new ≡ after self.old change.now) }
         ensures err { OnErr result (self.new ≡ self.old) }
     {
-        self.check(change)?;
-        Ok(self.make(change)?)
+        let resolved = self.resolve(change)?;
+        self.make(change, &resolved)
     }
 
-    /// Makes a change that `check` doesn't refuse.
+    /// Makes a change that `check` doesn't refuse, with what `resolve` or a plan found for it.
     ///
     /// Refused: `NoMemory`, which leaves the volume unchanged.
-    pub fn make(&mut self, change: &Change) -> Result<Applied, Refusal>
-        requires { IsLawful self.old change.now }
+    pub fn make(&mut self, change: &Change, resolved: &Resolved) -> Result<Applied, Refusal>
+        requires lawful { IsLawful self.old change.now }
+        requires resolved { resolved.now ≡ resolved_of self.old change.now }
         ensures refused { FailsOnlyForMemory result }
         ensures value { IfOk result (λ applied.
             applied ≡ record { change = self.old.number + 1; node = node_of self.old change.now }) }
@@ -166,7 +167,6 @@ impl Volume {
     {
         accepted_changes_keep_trees();
         records_are_kept();
-        let applied = self.applied_by(change);
         match change {
             Change::Create {
                 dir,
@@ -193,15 +193,15 @@ impl Volume {
                 name,
                 ..
             } => {
-                let other = self.other_at(*node, *dir, name);
-                self.entries.move_entry(*node, *dir, name, other)?;
+                self.entries
+                    .move_entry(*node, *dir, name, resolved.clobbered)?;
             }
             Change::Write { node, size, time } => self.entries.write(*node, *size, *time),
             Change::SetAttr { node, attr, value } => self.entries.set_attr(*node, attr, value)?,
             Change::RemoveAttr { node, attr } => self.entries.remove_attr(*node, attr),
         }
         self.changes += 1;
-        Ok(applied)
+        Ok(resolved.applied)
     }
 
     /// A copy of the volume. Refused: `NoMemory`.

@@ -66,8 +66,8 @@ returns-clause-prepared c i y at live =
           c.self.view_is c.requires.few c.new.ensures i f.0 f.1)).outside in
           record {
             some = λ is. absurd (both_ways _ none is);
-            none = λ out. c.self.invariant.watched change i (slot_of y)
-                (rw d.1 at (kept-there xs i f.0 f.1))
+            none = λ out. c.self.invariant.watched i (slot_of y)
+                (rw d.1 at (kept-there xs i f.0 f.1)) change
                 (rw (← c.change.ensures, ← c.slots_for-asked.ensures) d.0)
                 s (y.sub.held.sent + 1) c.applied.ensures.volume
                 c.applied.ensures.lawful;

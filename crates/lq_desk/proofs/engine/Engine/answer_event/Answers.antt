@@ -1,13 +1,21 @@
 use Rattle.std.proofs.Common.{◌≡◌, Some, None, Option, refl, ap, inl, inr}
-use Rattle.std.specs.Prelude.{unwrap_or}
+use Rattle.std.specs.Prelude.{unwrap_or, ℕ}
 use Rattle.lq_value.specs.declared.refusal.Refusal.{Refusal}
 use Rattle.lq_value.specs.declared.refusal.Refusal.TheVariants.{NoMemory}
 use Rattle.lq_volume.specs.declared.change.Change.{Change as Change_}
 use Rattle.lq_volume.specs.Change.{refused}
+use Rattle.lq_desk_world.specs.declared.event.Act.{Act}
+use Rattle.lq_desk_world.specs.declared.event.Event.{Event}
+use Rattle.lq_desk_world.specs.declared.event.Act.TheVariants as act
+use Rattle.lq_desk_world.specs.declared.event.Event.TheVariants as event
 use Rattle.lq_desk_world.specs.declared.event.Event.TheVariants.{Change}
-use Rattle.lq_desk_world.specs.Events.{Refused}
-use Rattle.lq_desk.specs.DeskState.{DeskState, KeptStep, change_if}
+use Rattle.lq_desk_world.specs.Events.{Answer, Refused}
+use Rattle.lq_desk.specs.Act.{act_of}
+use Rattle.lq_desk.specs.DeskState.{DeskState, KeptStep, change_if, kept_act, kept_outcome}
+use Rattle.lq_desk.proofs.Desks.{IsKept-at, at-view, few-desk}
+use Rattle.lq_desk.proofs.PutLemmas.{act-keeps}
 use Rattle.lq_desk.proofs.engine.Engine.answer_event.Goals as goal
+use Rattle.lq_desk.proofs.engine.Engine.answer_event.Goals.{in-Put, in-Take, in-HangUp, in-Notice, in-Close, in-Finish}
 
 -- a change that is refused leaves what is kept
 refused_step : (k l : DeskState) (c : Change_) (o : Option Refusal) (r : Refusal)
@@ -23,3 +31,39 @@ pub returns-in-Err : goal.returns-in-Err
 returns-in-Err c = rw c.in-Change.is (refused_step c.args.self.now c.change.new.self
     c.in-Change.change (refused c.args.self.now.volume c.in-Change.change) c.in-Err.refusal
     refl c.in-Err.ensures.refused.1 c.in-Err.ensures.err)
+
+pub act-requires : goal.act-requires
+act-requires c = few-desk _ c.changes-number.ensures.volume c.self.invariant
+
+pub invariant_of-self : goal.invariant_of-self
+invariant_of-self c = IsKept-at _ c.match-event.slot.0 _ _ _
+    (act-keeps c.changes-number.result c.match-event.slot.1) c.self.invariant c.act.ensures
+
+-- an event that is an act at a slot, with what that act answers and leaves
+acted : (k l : DeskState) (e : Event) (s : ℕ × Act) (slot : ℕ) (act : Act) (a : Answer)
+    → kept_outcome k e ≡ kept_act k slot act → s ≡ (slot, act) → (a, l) ≡ kept_act k s.0 s.1
+    → KeptStep k e a l
+acted k l e s slot act a is same does =
+    let there = rw same at does in
+    inl (rw is (ap (λ p. p.0) there), rw is (ap (λ p. p.1) there))
+
+pub returns : goal.returns
+returns c =
+    let k = c.args.self.now in
+    let s = c.match-event.slot in
+    let does = at-view (λ n. act_of n s.1) _ _ _ s.0 _ _ c.self.view_is
+    c.changes-number.ensures.number c.act.ensures in
+    elim c.match-event.branch [
+      | in-Put w ↦ rw w.in-Put.is (acted k _ (event.Put w.in-Put.slot) s w.in-Put.slot act.Put _ refl
+          w.slot-is does)
+      | in-Take w ↦ rw w.in-Take.is (acted k _ (event.Take w.in-Take.slot) s w.in-Take.slot act.Take _ refl
+          w.slot-is does)
+      | in-HangUp w ↦ rw w.in-HangUp.is (acted k _ (event.HangUp w.in-HangUp.slot) s w.in-HangUp.slot act.HangUp _ refl
+          w.slot-is does)
+      | in-Notice w ↦ rw w.in-Notice.is (acted k _ (event.Notice w.in-Notice.slot) s w.in-Notice.slot act.Notice _ refl
+          w.slot-is does)
+      | in-Close w ↦ rw w.in-Close.is (acted k _ (event.Close w.in-Close.slot) s w.in-Close.slot act.Close _ refl
+          w.slot-is does)
+      | in-Finish w ↦ rw w.in-Finish.is (acted k _ (event.Finish w.in-Finish.slot) s w.in-Finish.slot act.Finish _ refl
+          w.slot-is does)
+    ]

@@ -13,7 +13,7 @@ use Rattle.lq_volume.proofs.volume.Volume.make.Goals.{Joined-change, in-Create+i
 pub add-requires-clause-free : goal.add-requires-clause-free
 add-requires-clause-free c =
     let may = subst (λ (s : State). refused s c.args.change.now ≡ None)
-    (sym c.self.view_is) c.requires in
+    (sym c.self.view_is) c.requires.lawful in
     let s : State = record {
       limit = c.self.inside.limit;
       number = c.self.inside.changes;
@@ -34,8 +34,8 @@ add-requires-clause-free c =
 pub move_entry-requires : goal.move_entry-requires
 move_entry-requires c =
     let may = subst (λ (s : State). refused s c.args.change.now ≡ None)
-    (sym c.self.view_is) c.requires in
-    rw (c.other_at-other.ensures, ← c.self.view_is)
+    (sym c.self.view_is) c.requires.lawful in
+    rw (c.requires.resolved, c.in-Move.is, ← c.self.view_is)
     (can-move c.records_are_kept.ensures _ _ _ _ _ c.self.invariant (rw c.in-Move.is at may))
 
 -- each change leaves the state that its definition says
@@ -72,7 +72,7 @@ stepped c =
       | in-Move+in_ok-move_entry-in-Move w ↦ rw (
         w.self-inside-is,
         w.in_ok-move_entry-in-Move.ensures.ok,
-        w.other_at-other.ensures,
+        c.requires.resolved,
         w.in-Move.is,
         ← c.self.view_is,
       )
@@ -105,7 +105,7 @@ returns-clause-ok c = stepped (goal.at.returns-clause-ok c).Joined-change
 pub invariant_of-self-2 : goal.invariant_of-self-2
 invariant_of-self-2 c =
     subst IsVolume (sym (stepped (goal.at.invariant_of-self-2 c).Joined-change))
-    (c.accepted_changes_keep_trees.ensures _ _ (rw c.self.view_is at c.self.invariant) c.requires)
+    (c.accepted_changes_keep_trees.ensures _ _ (rw c.self.view_is at c.self.invariant) c.requires.lawful)
 
 pub invariant_of-self : goal.invariant_of-self
 invariant_of-self c = rw c.in_err-add-in-Create.ensures.err c.self.invariant
@@ -124,4 +124,4 @@ overflow_add-self-2 c =
     grind (arith, fits)
 
 pub returns-clause-value : goal.returns-clause-value
-returns-clause-value c = rw (c.applied_by-applied.ensures, ← c.self.view_is) refl
+returns-clause-value c = rw c.requires.resolved refl
