@@ -1,23 +1,23 @@
 -- Who made each change, where one change more is made, or one seat more goes out.
-use Rattle.std.proofs.Common.{◌≡◌, ◌≢◌, ℕ, ◌+◌, ◌≤◌, Bool, true, true≢false, List, [], ◌∷◌, ◌++◌, length, refl, sym, ap, ◌∙◌, arith, length-append}
+use Rattle.std.proofs.Common.{◌≡◌, ◌≢◌, ℕ, zero, suc, ◌+◌, ◌≤◌, Bool, true, true≢false, List, [], ◌∷◌, ◌++◌, length, refl, sym, ap, ◌∙◌, arith, length-append}
 use Rattle.lq_volume.specs.declared.change.Change.{Change}
 use Rattle.lq_volume.specs.Book.{Book, grown}
 use Rattle.lq_board.specs.Known.{Author, Register}
 use Rattle.lq_board.specs.Book.{IsFullBook}
 use Rattle.lq_board.specs.Roll.{is_listed}
-use Rattle.lq_board.specs.Author.{IsAuthor, AreDisjoint, new_author, with_author, with_change}
+use Rattle.lq_board.specs.Author.{IsAuthor, AreDisjoint, new_author, come_home, with_author, with_change}
 use Rattle.lq_board.specs.Rule.{BookFits, Roll, Owns}
 use Rattle.lq_board.proofs.RollLemmas.{own_after, else_after, seats_more, seats_later, none_after, none_has, one_author, others_added}
 use Rattle.lq_board.proofs.ViewLemmas.{owner_here, owner_else, moved, numbers_apart}
 
--- the register, where one seat more has a number, and so many openings are counted
-abbrev pub numbered : (ℕ → ℕ) → Register → Register
-numbered f r = record r { seats = r.seats + 1; openings = f r.openings }
+-- the register, where one seat more has a number, with these counts of openings and of seats out
+abbrev pub numbered : (ℕ → ℕ) → (ℕ → ℕ) → Register → Register
+numbered f h r = record r { seats = r.seats + 1; openings = f r.openings; out = h r.out }
 
 -- its book fits as before
-pub fits_later : (f : ℕ → ℕ) (book : Book) (r : Register) (roll : Roll) → BookFits book r roll
-    → BookFits book (numbered f r) roll
-fits_later f book r roll b =
+pub fits_later : (f h : ℕ → ℕ) (book : Book) (r : Register) (roll : Roll) → BookFits book r roll
+    → BookFits book (numbered f h r) roll
+fits_later f h book r roll b =
     record {
       full = b.full;
       signed =
@@ -27,9 +27,9 @@ fits_later f book r roll b =
     }
 
 -- that seat as an author
-pub owns_new : (f : ℕ → ℕ) (n : ℕ) (book : Book) (r : Register) (roll : Roll)
-    → BookFits book r roll → Owns (numbered f r) (moved roll (r.seats + 1) n) n (new_author r)
-owns_new f n book r roll b =
+pub owns_new : (f h : ℕ → ℕ) (n : ℕ) (book : Book) (r : Register) (roll : Roll)
+    → BookFits book r roll → Owns (numbered f h r) (moved roll (r.seats + 1) n) n (new_author r)
+owns_new f h n book r roll b =
     record {
       author =
           record {
@@ -47,9 +47,9 @@ owns_new f n book r roll b =
     }
 
 -- another author, where one seat more has a number
-pub owns_later : {r : Register} {roll : Roll} {by : ℕ} {a : Author} (f : ℕ → ℕ) (n : ℕ)
-    → Owns r roll by a → Owns (numbered f r) (moved roll (r.seats + 1) n) by a
-owns_later {r = r} {roll = roll} {a = a} f n o =
+pub owns_later : {r : Register} {roll : Roll} {by : ℕ} {a : Author} (f h : ℕ → ℕ) (n : ℕ)
+    → Owns r roll by a → Owns (numbered f h r) (moved roll (r.seats + 1) n) by a
+owns_later {r = r} {roll = roll} {a = a} f h n o =
     let is = o.author in
     let most : a.number ≤ r.seats + 1 = omega (arith, is.most) in
     record {
@@ -60,6 +60,31 @@ owns_later {r = r} {roll = roll} {a = a} f n o =
       signs = o.signs;
       leads = o.leads;
     }
+
+-- the book and an author, where a seat of this slot came home
+pub fits_home : {book : Book} {r : Register} (roll : Roll) (slot : ℕ) → BookFits book r roll
+    → BookFits book (come_home r slot) roll
+fits_home roll zero b =
+    record {
+      full = b.full;
+      signed = record { each = b.signed.each; seats = b.signed.seats };
+      enlisted = b.enlisted;
+      gathered = b.gathered;
+    }
+fits_home roll (suc slot) b = b
+
+pub owns_home : {r : Register} {roll : Roll} {by : ℕ} {a : Author} (slot : ℕ)
+    → Owns r roll by a → Owns (come_home r slot) roll by a
+owns_home zero o =
+    let is = o.author in
+    record {
+      author =
+          record { least = is.least; most = is.most; changes = is.changes; free = is.free };
+      only = o.only;
+      signs = o.signs;
+      leads = o.leads;
+    }
+owns_home (suc slot) o = o
 
 -- the book, where an author that may make changes makes one more
 pub fits_more : (book : Book) (r : Register) (roll : Roll) (by : ℕ) (a : Author) (x : Change)

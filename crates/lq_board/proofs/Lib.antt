@@ -1,6 +1,7 @@
 -- Read in this order: BookLemmas (the book), RollLemmas (who made which change), SlotLemmas (the
 -- words), ViewLemmas (who sees what), AuthorLemmas (the authors); TokenLemmas (what is known of a
--- token); PlayLemmas, SplitLemmas, JoinLemmas and PairLemmas (each step keeps the rule).
+-- token, and a seat that comes back); PlayLemmas, SplitLemmas and PairLemmas (each step keeps the
+-- rule).
 pub mod BookLemmas
 pub mod RollLemmas
 pub mod SlotLemmas
@@ -9,5 +10,4 @@ pub mod AuthorLemmas
 pub mod TokenLemmas
 pub mod PlayLemmas
 pub mod SplitLemmas
-pub mod JoinLemmas
 pub mod PairLemmas

@@ -13,13 +13,13 @@ use Rattle.lq_volume.specs.Book.{Book, grown, state_of}
 use Rattle.lq_board.specs.Known.{Author, Sitting, Keeping, TokenView, Keeper, Seat}
 use Rattle.lq_board.specs.Book.{IsFullBook}
 use Rattle.lq_board.specs.Roll.{numbers, others_after}
-use Rattle.lq_board.specs.Author.{IsWhole, with_author, with_change}
+use Rattle.lq_board.specs.Author.{IsWhole, with_author, with_change, come_home}
 use Rattle.lq_board.specs.Slot.{counted}
 use Rattle.lq_board.specs.View.{keeping, keeping_of, newborn}
 use Rattle.lq_board.specs.Rule.{ViewFits, Owns, BoardState, BoardRule, IsKept}
-use Rattle.lq_board.specs.Step.{AddsChange, Sees, Checks, Counts, AsksAgain}
+use Rattle.lq_board.specs.Step.{AddsChange, Sees, Checks, ComesHome, Counts, AsksAgain}
 use Rattle.lq_board.proofs.RollLemmas.{others_all}
-use Rattle.lq_board.proofs.AuthorLemmas.{fits_more, owns_more, owns_added}
+use Rattle.lq_board.proofs.AuthorLemmas.{fits_more, owns_more, owns_added, fits_home, owns_home}
 use Rattle.lq_board.proofs.BookLemmas.{extends_self, extends_more, full_more, room_of}
 use Rattle.lq_board.proofs.SlotLemmas.{counted_same, agrees_unused, agrees_slot, agrees_word}
 use Rattle.lq_board.proofs.ViewLemmas.{numbers_apart, fits_set, fits_still, rule_of, came_self, sits_at, sits_same, slots_apart}
@@ -187,6 +187,33 @@ module _ {M : Type 0} where
       let k = rule_of s kept id v at in (
         Keeper v,
         viewed s kept id (Keeper v) (kept.1.fits id (Keeper v) at),
+        (refl, k.came, k.number, λ pos. whole k ((k.fits id (Keeper v) at).2 pos).1),
+      ))
+
+  -- the seat that came back last came home
+  pub comes_home : {me : Me ℕ (TokenView M)} (slots id : ℕ) (v : Keeping M)
+      → me ≡ (Keeper v, [])
+      → Allows IsKept slots id me 0 (λ n. n) (ComesHome (step slots 0 0 0 none) me)
+  comes_home slots id v is =
+      looks slots id 0 (Keeper v) (ComesHome (step slots 0 0 0 none)) is (λ s kept at.
+      let k = rule_of s kept id v at in
+      let slot : ℕ = v.back.slot in
+      let w : Keeping M = keeping v.book v.slots (come_home v.register slot) in
+      let b : BoardState M = record kept.0 { id = id; view = w } in (
+        Keeper w,
+        (
+          b,
+          record {
+            number = k.number;
+            agrees = k.agrees;
+            came = came_self v.book;
+            books = fits_home kept.0.roll slot k.books;
+            fits = fits_set (ViewFits b s.words) s.views id (Keeper w)
+                (fits_still k b s.words (λ by. by ≢ id) (λ by apart is. absurd (apart is))
+                (λ by u apart f. (f.0, owns_home slot f.1, f.2)))
+                (refl, refl, λ (lt : 0 < 0). absurd (omega arith));
+          },
+        ),
         (refl, k.came, k.number, λ pos. whole k ((k.fits id (Keeper v) at).2 pos).1),
       ))
 

@@ -7,7 +7,7 @@ use Rattle.atomic_table.specs.Table.{State, Me, Splits}
 use Rattle.lq_board.specs.Known.{KnownSlot, Author, Register, Sitting, Keeping, TokenView, Keeper, Seat}
 use Rattle.lq_board.specs.Author.{no_register, leader_register, new_author}
 use Rattle.lq_board.specs.Slot.{slot_at, go_out, come_back}
-use Rattle.lq_board.specs.View.{keeping, keeper, keeping_of, sitting_of, taken, with_new_seat, copy_of, led, lead_of, with_slot_seat, seated, parted, again_of}
+use Rattle.lq_board.specs.View.{keeping, keeper, keeping_of, sitting_of, taken, with_new_number, with_new_seat, copy_of, led, lead_of, with_slot_seat, seated, parted, again_of}
 use Rattle.lq_board.specs.Rule.{Agrees, Sits, ViewFits, BookFits, Roll, Owns, BoardState, IsKept}
 use Rattle.lq_board.proofs.AuthorLemmas.{numbered, fits_later, owns_new, owns_later}
 use Rattle.lq_board.proofs.BookLemmas.{extends_self}
@@ -120,25 +120,32 @@ module _ {M : Type 0} where
       )
 
   -- a new seat goes out
-  enters : (f : ℕ → ℕ) (id : ℕ) (v : Keeping M) (new : Sitting M) → new.slot < 65
+  enters : (f h : ℕ → ℕ) (id : ℕ) (v : Keeping M) (new : Sitting M) → new.slot < 65
       → IsFree v.slots new.slot new.asks
       → Splits IsKept id (Keeper v)
-      (keeper v.book (go_out v.slots new.slot new.name) (numbered f v.register))
+      (keeper v.book (go_out v.slots new.slot new.name) (numbered f h v.register))
       (Seat (record new { book = v.book; author = new_author v.register }))
-  enters f id v new within free s kept at =
+  enters f h id v new within free s kept at =
       let books = (rule_of s kept id v at).books in
       let n : ℕ = length s.views in
-      goes_out s kept id v at (numbered f v.register) (moved kept.0.roll (v.register.seats + 1) n)
+      goes_out s kept id v at (numbered f h v.register) (moved kept.0.roll (v.register.seats + 1) n)
       (record new { author = new_author v.register }) within free
-      (fits_later f v.book v.register kept.0.roll books) (λ by a apart o. owns_later f n o)
-      (owns_new f n v.book v.register kept.0.roll books)
+      (fits_later f h v.book v.register kept.0.roll books) (λ by a apart o. owns_later f h n o)
+      (owns_new f h n v.book v.register kept.0.roll books)
 
-  -- a new seat of no slot
+  -- a new seat of no slot, which goes out or stays within a call
   pub copies : {me : Me ℕ (TokenView M)} (id : ℕ) (v : Keeping M) → me ≡ (Keeper v, [])
       → Splits IsKept id me.0 (with_new_seat me.0) (copy_of me.0)
   copies id v is =
       splits_as id with_new_seat copy_of is
-      (enters (λ n. n) id v (sitting_of (copy_of (Keeper v))) (omega arith)
+      (enters (λ n. n) (λ n. n + 1) id v (sitting_of (copy_of (Keeper v))) (omega arith)
+      (λ (lt : 0 < 0). absurd (omega arith)))
+
+  pub stays : {me : Me ℕ (TokenView M)} (id : ℕ) (v : Keeping M) → me ≡ (Keeper v, [])
+      → Splits IsKept id me.0 (with_new_number me.0) (copy_of me.0)
+  stays id v is =
+      splits_as id with_new_number copy_of is
+      (enters (λ n. n) (λ n. n) id v (sitting_of (copy_of (Keeper v))) (omega arith)
       (λ (lt : 0 < 0). absurd (omega arith)))
 
   -- a slot's new seat
@@ -148,7 +155,7 @@ module _ {M : Type 0} where
   sits_down id zero name v is pos within free = absurd (omega (arith, pos))
   sits_down id (suc k) name v is pos within free =
       splits_as id (with_slot_seat (suc k) name) (seated (suc k) name) is
-      (enters (λ n. n + 1) id v (sitting_of (seated (suc k) name (Keeper v))) within
+      (enters (λ n. n + 1) (λ n. n) id v (sitting_of (seated (suc k) name (Keeper v))) within
       (λ _. (free, refl)))
 
   -- the leading seat
@@ -184,13 +191,13 @@ module _ {M : Type 0} where
 
   -- the latest seat that came back
   pub again : {now : Me ℕ (TokenView M)} {more : List (ℕ × ℕ)} (id : ℕ) (name : Option M)
-      (v : Keeping M) → now ≡ (Keeper v, more) → IsBack v
-      → Splits IsKept id now.0 (parted name now.0) (again_of name now.0)
-  again id name v is back =
-      splits_as id (parted name) (again_of name) is (λ s kept at.
+      (seats openings : ℕ → ℕ) (v : Keeping M) → now ≡ (Keeper v, more) → IsBack v
+      → Splits IsKept id now.0 (parted name now.0) (again_of name seats openings now.0)
+  again id name seats openings v is back =
+      splits_as id (parted name) (again_of name seats openings) is (λ s kept at.
       let k = rule_of s kept id v at in
       let n : ℕ = length s.views in
       let o = ((k.fits id (Keeper v) at).2 back.0).1 in
       goes_out s kept id v at v.register (moved kept.0.roll v.back.author.number n)
-      (sitting_of (again_of name (Keeper v))) back.1 back.2 k.books
+      (sitting_of (again_of name seats openings (Keeper v))) back.1 back.2 k.books
       (λ by a apart other. owns_else n o apart other) (owns_here n o))

@@ -1,6 +1,6 @@
 -- Who made each change of a book. Each seat is an author, under a number that no other seat has.
 -- The changes of a book have the numbers 1, 2, 3 and so on.
-use Rattle.std.specs.Prelude.{◌≡◌, ℕ, ◌+◌, ◌<◌, ◌≤◌, Bool, true, false, List, [], ◌∷◌, ◌++◌, length, Contains}
+use Rattle.std.specs.Prelude.{◌≡◌, ℕ, zero, suc, ◌+◌, ◌-◌, ◌<◌, ◌≤◌, Bool, true, false, List, [], ◌∷◌, ◌++◌, length, Contains}
 use Rattle.lq_volume.specs.Book.{Book}
 use Rattle.lq_board.specs.Known.{Author, Register}
 use Rattle.lq_board.specs.Roll.{changes_after, numbers, AreSeats}
@@ -27,7 +27,7 @@ IsWhole a n = a.leads ≡ true → a.enlisted ≡ [] → a.gathered ≡ numbers 
 
 -- no author and no seat
 abbrev pub no_register : Register
-no_register = record { authors = []; seats = 0; openings = 0; free = true }
+no_register = record { authors = []; seats = 0; openings = 0; out = 0; free = true }
 
 -- the first seat of a counted board, which leads
 abbrev pub leader : Author
@@ -43,19 +43,28 @@ leader =
     }
 
 abbrev pub leader_register : Register
-leader_register = record { authors = []; seats = 1; openings = 0; free = false }
+leader_register = record { authors = []; seats = 1; openings = 0; out = 1; free = false }
 
 -- no author, and no change
 abbrev pub no_author : Author
 no_author = record leader { number = 0; free = true; leads = false }
 
--- one seat more, and that seat, which made no change
+-- one number more is given out
+abbrev pub with_number : Register → Register
+with_number r = record r { seats = r.seats + 1 }
+
+-- one seat of no slot more, which is out; and a new seat, which made no change
 abbrev pub with_seat : Register → Register
-with_seat r = record r { seats = r.seats + 1 }
+with_seat r = record r { seats = r.seats + 1; out = r.out + 1 }
 
 -- one seat more, which went out to a slot
 abbrev pub with_opening : Register → Register
 with_opening r = record r { seats = r.seats + 1; openings = r.openings + 1 }
+
+-- a seat of this slot came home; just those of no slot are counted
+abbrev pub come_home : Register → ℕ → Register
+come_home r zero = record r { out = r.out - 1 }
+come_home r (suc slot) = r
 
 abbrev pub new_author : Register → Author
 new_author r = record no_author { number = r.seats + 1; free = r.free; signs = r.free }

@@ -23,12 +23,13 @@ pub record Author : Type 0 where
   pub gathered : List ℕ
 
 -- Who made a book: the number of each change's author, how many seats have a number, how many of
--- them went out to a slot, and whether each seat may make changes, or just those that the leading
--- seat enlists.
+-- them went out to a slot, how many seats of no slot are out, and whether each seat may make
+-- changes, or just those that the leading seat enlists.
 pub record Register : Type 0 where
   pub authors : List ℕ
   pub seats : ℕ
   pub openings : ℕ
+  pub out : ℕ
   pub free : Bool
 
 -- The keeper at one moment: its book, what it knew of each slot, and how many seats had gone out
@@ -38,7 +39,8 @@ pub record Moment (M : Type 0) : Type 0 where
   pub slots : List (KnownSlot M)
   pub openings : ℕ
 
--- What a seat knows. A seat of no slot has slot 0. `moments` are those that it has noted.
+-- What a seat knows. A seat of no slot has slot 0. `moments` are those that it has recorded.
+-- `seats` and `openings` are how many seats of no slot and of a slot calls made for this one.
 pub record Sitting (M : Type 0) : Type 0 where
   pub slot : ℕ
   pub book : Book
@@ -46,6 +48,8 @@ pub record Sitting (M : Type 0) : Type 0 where
   pub name : Option M
   pub author : Author
   pub moments : List (Moment M)
+  pub seats : ℕ
+  pub openings : ℕ
 
 -- What the keeper knows. `back` is the seat that came back last, `was` the slot that it had. Before
 -- a seat came back, and once one went out again, `back` has the number 0.

@@ -9,7 +9,7 @@ use Rattle.lq_board.specs.Known.{KnownSlot, Sitting, TokenView, Seat}
 use Rattle.lq_board.specs.Author.{new_author, with_author, with_change, with_opening}
 use Rattle.lq_board.specs.Book.{IsFullBook}
 use Rattle.lq_board.specs.Slot.{slot_at, gone_out, go_out, come_back}
-use Rattle.lq_board.specs.Token.{KeeperToken, SeatToken}
+use Rattle.lq_board.specs.Token.{KeeperToken, SeatToken, slotless_token}
 use Rattle.lq_board.specs.Rule.{CameBack}
 
 module _ {M : Type 0} where
@@ -18,14 +18,10 @@ module _ {M : Type 0} where
   pub record GoesOut (old new : KeeperToken M) (slot : ℕ) (name : Option M) (s : SeatToken M)
       : Type 0 where
     pub seat : s
-        ≡ record {
-          board = old.board;
+        ≡ record (slotless_token old.board old.book (new_author old.register)) {
           slot = slot;
-          book = old.book;
           asks = (slot_at old.slots slot).asks;
           name = name;
-          author = new_author old.register;
-          moments = [];
         }
     pub signs : s.author.signs ≡ old.board.free
     pub full : IsFullBook s.book
@@ -41,6 +37,10 @@ module _ {M : Type 0} where
     pub name : (slot_at slots s.slot).name ≡ s.name
     pub asks : (slot_at slots s.slot).asks ≤ s.asks
     pub out : (slot_at slots s.slot).out ≡ true
+
+  -- what the keeper knows of the slots once it has met this seat, which keeps its name
+  abbrev pub slots_met : List (KnownSlot M) → SeatToken M → List (KnownSlot M)
+  slots_met slots s = go_out (come_back slots s.slot s.asks s.name) s.slot s.name
 
   -- A slot's seat, s before and t after, met the keeper. It knows the keeper's book, the keeper
   -- knows how often it has asked, and both have this name.
@@ -71,7 +71,7 @@ module _ {M : Type 0} where
     pub keeper : new
         ≡ record old {
           book = grown old.book (change ∷ []);
-          slots = go_out (come_back old.slots s.slot s.asks s.name) s.slot s.name;
+          slots = slots_met old.slots s;
           register = with_author old.register s.author.number;
         }
     pub was_out : 0 < s.slot → WasOut old.slots s

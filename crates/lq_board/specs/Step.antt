@@ -6,7 +6,7 @@ use Rattle.lq_volume.specs.Book.{grown, Extends}
 use Rattle.lq_board.specs.Known.{TokenView, Keeper, Seat, Pair}
 use Rattle.lq_board.specs.Book.{IsFullBook}
 use Rattle.lq_board.specs.Roll.{IsMerged, without_number}
-use Rattle.lq_board.specs.Author.{AreDisjoint, IsWhole, with_author, with_change}
+use Rattle.lq_board.specs.Author.{AreDisjoint, IsWhole, with_author, with_change, come_home}
 use Rattle.lq_board.specs.Slot.{slot_at, counted}
 use Rattle.lq_board.specs.View.{keeper, keeping_of, sitting_of, first_sitting, second_of, of_roll, of_signs}
 use Rattle.lq_board.specs.Rule.{CameBack}
@@ -42,6 +42,15 @@ module _ {M : Type 0} where
   Checks s m found n =
       let was = keeping_of m.0 in
       (n ≡ m)
+      × CameBack was.book was.back was.was
+      × (found ≡ length was.book.changes)
+      × (0 < was.back.author.number → IsWhole was.back.author found)
+
+  -- the same, and the seat came home: it doesn't go out again
+  abbrev pub ComesHome : Step ℕ → Me ℕ (TokenView M) → ℕ → Me ℕ (TokenView M) → Type 0
+  ComesHome s m found n =
+      let was = keeping_of m.0 in
+      (n ≡ (keeper was.book was.slots (come_home was.register was.back.slot), m.1))
       × CameBack was.book was.back was.was
       × (found ≡ length was.book.changes)
       × (0 < was.back.author.number → IsWhole was.back.author found)

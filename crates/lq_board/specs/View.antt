@@ -5,14 +5,23 @@ use Rattle.lq_volume.specs.State.{State}
 use Rattle.lq_volume.specs.Book.{Book}
 use Rattle.lq_board.specs.Known.{KnownSlot, Author, Register, Moment, Sitting, Keeping, TokenView, Keeper, Seat, Pair}
 use Rattle.lq_board.specs.Book.{no_book, IsFullBook}
-use Rattle.lq_board.specs.Author.{no_author, no_register, leader, leader_register, with_seat, with_opening, new_author, with_signs, with_roll}
+use Rattle.lq_board.specs.Author.{no_author, no_register, leader, leader_register, with_seat, with_number, with_opening, new_author, with_signs, with_roll}
 use Rattle.lq_board.specs.Slot.{unused, unused_slots, slot_at, gone_out, go_out, come_back}
 
 module _ {M : Type 0} where
   -- a seat of no slot
   abbrev pub slotless_sitting : Book → Author → Sitting M
   slotless_sitting book author =
-      record { slot = 0; book = book; asks = 0; name = None; author = author; moments = [] }
+      record {
+        slot = 0;
+        book = book;
+        asks = 0;
+        name = None;
+        author = author;
+        moments = [];
+        seats = 0;
+        openings = 0;
+      }
 
   -- a keeper to which no seat came back since the latest one went out
   abbrev pub keeping : Book → List (KnownSlot M) → Register → Keeping M
@@ -62,9 +71,9 @@ module _ {M : Type 0} where
   abbrev pub of_signs : Sitting M → Bool → Sitting M
   of_signs w signs = record w { author = with_signs w.author signs }
 
-  -- the second has noted the first's moments too
-  abbrev pub second_noted : TokenView M → TokenView M
-  second_noted v =
+  -- the second has recorded the first's moments too
+  abbrev pub second_recorded : TokenView M → TokenView M
+  second_recorded v =
       let b = second_of v in
       Seat (record b { moments = b.moments ++ (first_sitting v).moments })
 
@@ -74,7 +83,12 @@ module _ {M : Type 0} where
   abbrev pub second_seat : TokenView M → TokenView M
   second_seat v = Seat (second_of v)
 
-  -- the keeper and the seat after a new seat of no slot is split off, which has noted this moment
+  -- the keeper after a new seat of no slot is split off, which goes out or stays within a call; and
+  -- that seat, which has recorded this moment
+  abbrev pub with_new_number : TokenView M → TokenView M
+  with_new_number v =
+      keeper (keeping_of v).book (keeping_of v).slots (with_number (keeping_of v).register)
+
   abbrev pub with_new_seat : TokenView M → TokenView M
   with_new_seat v =
       keeper (keeping_of v).book (keeping_of v).slots (with_seat (keeping_of v).register)
@@ -103,18 +117,31 @@ module _ {M : Type 0} where
   seated slot name v =
       let k = keeping_of v in
       let asks = (slot_at k.slots slot).asks in
-      Seat (record (slotless_sitting k.book (new_author k.register)) { slot = slot; asks = asks; name = name })
+      Seat (record (slotless_sitting k.book (new_author k.register)) {
+        slot = slot;
+        asks = asks;
+        name = name;
+      })
 
   -- the keeper and the seat after the latest seat that came back is split off again, under this
-  -- name
+  -- name, and with these counts of the seats and of the openings made for it
   abbrev pub parted : Option M → TokenView M → TokenView M
   parted name v =
       keeper (keeping_of v).book (go_out (keeping_of v).slots (keeping_of v).back.slot name)
       (keeping_of v).register
 
-  abbrev pub again_of : Option M → TokenView M → TokenView M
-  again_of name v =
-      Seat (record (keeping_of v).back { book = (keeping_of v).book; name = name })
+  abbrev pub sits_again : Sitting M → Book → Option M → (ℕ → ℕ) → (ℕ → ℕ) → Sitting M
+  sits_again w book name seats openings =
+      record w {
+        book = book;
+        name = name;
+        seats = seats w.seats;
+        openings = openings w.openings;
+      }
+
+  abbrev pub again_of : Option M → (ℕ → ℕ) → (ℕ → ℕ) → TokenView M → TokenView M
+  again_of name seats openings v =
+      Seat (sits_again (keeping_of v).back (keeping_of v).book name seats openings)
 
   -- the keeper after a seat comes back
   abbrev pub taken : TokenView M → TokenView M → TokenView M

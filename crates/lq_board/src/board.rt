@@ -1,17 +1,17 @@
 //! Makes a board and its tokens, and reads its words: a thread learns the number of changes, or
 //! asks for an end, without the lock.
-ghost use Rattle.std.specs.Prelude.{◌≡◌, ◌+◌, ◌<◌, ◌≤◌, [], ◌∷◌, length, IfOk, true, false, Some, None};
+ghost use Rattle.std.specs.Prelude.{◌≡◌, ◌+◌, ◌<◌, ◌≤◌, [], length, IfOk, true, false, Some};
 ghost use Rattle.lq_value.specs.Refusal.{FailsOnlyForMemory};
 ghost use Rattle.lq_volume.specs.Book.{Extends};
-ghost use Rattle.lq_board.specs.Author.{IsWhole, leader, leader_register, no_register, with_seat, new_author};
+ghost use Rattle.lq_board.specs.Author.{IsWhole, leader, leader_register, no_register, with_seat, come_home};
 ghost use Rattle.lq_board.specs.Book.{IsFullBook};
 ghost use Rattle.lq_board.specs.Meeting.{GoesOut, WasOut};
 ghost use Rattle.lq_board.specs.Slot.{unused_slots, slot_at, come_back, counted};
-ghost use Rattle.lq_board.specs.Token.{counted_board, moment_of};
+ghost use Rattle.lq_board.specs.Token.{counted_board, slotless_token, new_seat_of};
 
 use crate::token_views::{Law, TokenView};
 use crate::tokens::{Keeper, Seat};
-use crate::word_steps::{Ask, Back, Check, Count, Lead, See, Slotless};
+use crate::word_steps::{Ask, Back, Count, Home, Lead, See};
 use atomic_table::Table;
 use lq_value::Refusal;
 use lq_volume::Volume;
@@ -86,15 +86,7 @@ impl<M> Board<M> {
         requires board { keeper.old.board ≡ self.old }
         requires first { keeper.old.register ≡ no_register }
         ensures board { self.new ≡ counted_board self.old }
-        ensures seat { result ≡ record {
-          board = self.new;
-          slot = 0;
-          book = keeper.old.book;
-          asks = 0;
-          name = None;
-          author = leader;
-          moments = [];
-        } }
+        ensures seat { result ≡ slotless_token self.new keeper.old.book leader }
         ensures full { IsFullBook result.book }
         ensures keeper { keeper.new ≡ record keeper.old {
           board = self.new;
@@ -109,43 +101,34 @@ impl<M> Board<M> {
         }
     }
 
-    /// A seat of no slot, with a new number, which knows the keeper's book and has noted this
+    /// A seat of no slot, with a new number, which knows the keeper's book and has recorded this
     /// moment of the keeper. It takes no memory.
     ///
-    /// It may make changes just where no seat leads.
+    /// It may make changes. Where a seat leads, `seat_by` gives out seats.
     pub fn seat(&self, keeper: &mut Keeper<M>) -> Seat<M>
         requires board { keeper.old.board ≡ self.now }
-        ensures seat { result ≡ record {
-          board = keeper.old.board;
-          slot = 0;
-          book = keeper.old.book;
-          asks = 0;
-          name = None;
-          author = new_author keeper.old.register;
-          moments = moment_of keeper.old ∷ [];
-        } }
+        requires uncounted { self.now.free ≡ true }
+        ensures seat { result ≡ new_seat_of keeper.old }
         ensures signs { result.author.signs ≡ keeper.old.board.free }
         ensures full { IsFullBook result.book }
         ensures keeper { keeper.new ≡ record keeper.old {
           register = with_seat keeper.old.register;
         } }
     {
-        Seat {
-            token: Some(self.table.shared.split_seat::<Slotless>(&mut keeper.token)),
-            slot: 0,
-        }
+        self.slotless_seat(keeper)
     }
 
     /// The seat of a slot, 1 to 64, under the name that the caller gives for contracts alone.
     ///
     /// It has a new number, and knows the keeper's book and how often the slot's seats have asked.
-    /// It may make changes just where no seat leads. No other seat of the slot may be out. It takes
-    /// no memory.
+    /// It may make changes. No other seat of the slot may be out. Where a seat leads,
+    /// `slot_seat_by` gives out a slot's seat. It takes no memory.
     pub fn slot_seat(&self, keeper: &mut Keeper<M>, slot: u64) -> Seat<M>
         ghost name: { M }
         requires board { keeper.old.board ≡ self.now }
         requires slot { (0 < slot) × (slot < 65) }
         requires free { (slot_at keeper.old.slots slot).out ≡ false }
+        requires uncounted { self.now.free ≡ true }
         ensures out { GoesOut keeper.old keeper.new slot (Some name) result }
     {
         Seat {
@@ -154,7 +137,8 @@ impl<M> Board<M> {
         }
     }
 
-    /// Takes a seat back. The keeper then knows how often it has asked. It takes no memory.
+    /// Takes a seat back. The keeper then knows how often it has asked, and that one seat less is
+    /// out. It takes no memory.
     ///
     /// The keeper's book extends the seat's. A slot's seat was out under the name that the keeper
     /// knew, and had asked at least as often as the keeper knew. Where it leads and no seat is
@@ -163,6 +147,7 @@ impl<M> Board<M> {
         requires board { (keeper.old.board ≡ self.now) × (seat.board ≡ self.now) }
         ensures keeper { keeper.new ≡ record keeper.old {
           slots = come_back keeper.old.slots seat.slot seat.asks seat.name;
+          register = come_home keeper.old.register seat.slot;
         } }
         ensures whole { IsWhole seat.author (length keeper.old.book.changes) }
         ensures later { Extends keeper.old.book seat.book }
@@ -172,8 +157,8 @@ impl<M> Board<M> {
         self.table
             .shared
             .join_seat::<Back>(&mut keeper.token, token.unwrap());
-        // For the proof: this read tells what holds for the seat.
-        self.table.shared.load::<Check>(&mut keeper.token, 0);
+        // For the proof: this read tells what holds for the seat, and counts it.
+        self.table.shared.load::<Home>(&mut keeper.token, 0);
     }
 
     /// How often a slot's seats have asked. The keeper then knows it. It takes no memory.

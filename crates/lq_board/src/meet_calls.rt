@@ -2,15 +2,16 @@
 ghost use Rattle.std.specs.Prelude.{◌≡◌, ◌≢◌, ◌+◌, ◌<◌, [], ◌∷◌, ◌++◌, length, Some, true, false};
 ghost use Rattle.lq_volume.specs.Book.{grown, state_of, Extends};
 ghost use Rattle.lq_volume.specs.Change.{after, IsLawful};
-ghost use Rattle.lq_board.specs.Author.{AreDisjoint, with_seat, with_author, with_signs, with_roll};
+ghost use Rattle.lq_board.specs.Author.{AreDisjoint, with_number, with_seat, with_author, with_signs, with_roll};
 ghost use Rattle.lq_board.specs.Book.{IsFullBook};
-ghost use Rattle.lq_board.specs.Meeting.{HasAdded, HasMet};
+ghost use Rattle.lq_board.specs.Meeting.{GoesOut, HasAdded, HasMet, WasOut, slots_met};
 ghost use Rattle.lq_board.specs.Roll.{IsMerged, without_number};
-ghost use Rattle.lq_board.specs.Token.{moment_of};
+ghost use Rattle.lq_board.specs.Token.{MayOpen, moment_of, new_seat_of};
+ghost use Rattle.lq_board.specs.Slot.{slot_at};
 
 use crate::board::Board;
 use crate::tokens::{Keeper, Seat};
-use crate::word_steps::{Compare, Dismiss, Enlist, Note, Part, Together};
+use crate::word_steps::{Compare, Dismiss, Enlist, Inner, Part, RecordMoment, Together};
 use lq_volume::Change;
 use std::marker::Brand;
 
@@ -29,10 +30,10 @@ impl<M> Board<M> {
         ensures state { state_of keeper.new.book ≡ after (state_of keeper.old.book) change.now }
         ensures keeper { keeper.new ≡ record keeper.old {
           book = grown keeper.old.book (change.now ∷ []);
-          register = with_author (with_seat keeper.old.register) (keeper.old.register.seats + 1);
+          register = with_author (with_number keeper.old.register) (keeper.old.register.seats + 1);
         } }
     {
-        let mut seat = self.seat(keeper);
+        let mut seat = self.slotless_seat(keeper);
         let number = self.add_by(keeper, &mut seat, change);
         self.join(keeper, seat);
         number
@@ -92,25 +93,79 @@ impl<M> Board<M> {
         number
     }
 
-    /// The seat notes this moment of the keeper: its book, what it knows of the slots, and how many
-    /// seats went out to a slot.
+    /// A seat of no slot, as `seat` gives it, made for a leading seat, which counts it.
     ///
-    /// For contracts alone: a moment that a seat has noted is one that the keeper had. One number
-    /// more is given out. It takes no memory.
-    pub fn note(&self, keeper: &mut Keeper<M>, seat: &mut Seat<M>)
+    /// The leading seat then knows the keeper's book. It takes no memory.
+    pub fn seat_by(&self, keeper: &mut Keeper<M>, by: &mut Seat<M>) -> Seat<M>
+        requires board { (keeper.old.board ≡ self.now) × (by.old.board ≡ self.now) }
+        requires slot { by.old.slot ≡ 0 }
+        requires leads { by.old.author.leads ≡ true }
+        ensures seat { result ≡ new_seat_of keeper.old }
+        ensures signs { result.author.signs ≡ keeper.old.board.free }
+        ensures full { IsFullBook result.book }
+        ensures by { by.new ≡ record by.old {
+          book = keeper.old.book;
+          seats = by.old.seats + 1;
+        } }
+        ensures later { Extends keeper.old.book by.old.book }
+        ensures keeper { keeper.new ≡ record keeper.old {
+          register = with_seat keeper.old.register;
+        } }
+    {
+        let token = by.token.take().unwrap();
+        let (_, again) = self.met::<Brand>(keeper, token);
+        by.token = Some(again);
+        self.slotless_seat(keeper)
+    }
+
+    /// The seat of a slot, as `slot_seat` gives it, made for a seat that may open, which counts it.
+    ///
+    /// First that seat meets the keeper, as in `meet` or `meet_slot`, and keeps its name. It takes
+    /// no memory.
+    pub fn slot_seat_by(&self, keeper: &mut Keeper<M>, by: &mut Seat<M>, slot: u64) -> Seat<M>
+        ghost name: { M }
+        requires board { (keeper.old.board ≡ self.now) × (by.old.board ≡ self.now) }
+        requires slot { (0 < slot) × (slot < 65) }
+        requires free { (slot_at keeper.old.slots slot).out ≡ false }
+        requires may { MayOpen by.old }
+        ensures out { GoesOut (record keeper.old { slots = slots_met keeper.old.slots by.old })
+            keeper.new slot (Some name) result }
+        ensures by { by.new ≡ record by.old {
+          book = keeper.old.book;
+          openings = by.old.openings + 1;
+        } }
+        ensures later { Extends keeper.old.book by.old.book }
+        ensures was_out { 0 < by.old.slot → WasOut keeper.old.slots by.old }
+    {
+        // For the proof: this call says that the seat's slot is one of 64, or 0.
+        let _ = by.slot();
+        let token = by.token.take().unwrap();
+        let (_, again) = self.met::<Brand>(keeper, token);
+        by.token = Some(again);
+        Seat {
+            token: Some(self.slot_token::<Brand>(keeper, slot)),
+            slot,
+        }
+    }
+
+    /// The seat records this moment of the keeper: its book, what it knows of the slots, and how
+    /// many seats went out to a slot.
+    ///
+    /// For contracts alone: the keeper had each moment that a seat has recorded. One number more is
+    /// given out. It takes no memory.
+    pub fn record_moment(&self, keeper: &mut Keeper<M>, seat: &mut Seat<M>)
         requires board { (keeper.old.board ≡ self.now) × (seat.old.board ≡ self.now) }
         ensures seat { seat.new ≡ record seat.old {
           moments = seat.old.moments ++ moment_of keeper.old ∷ [];
         } }
         ensures keeper { keeper.new ≡ record keeper.old {
-          register = with_seat keeper.old.register;
+          register = with_number keeper.old.register;
         } }
     {
-        let Seat { token, slot: _ } = self.seat(keeper);
-        let mut first = token.unwrap();
+        let mut first = self.table.shared.split_seat::<Inner>(&mut keeper.token);
         let second = seat.token.take().unwrap();
         self.table.shared.join_seat::<Together>(&mut first, second);
-        seat.token = Some(self.table.shared.split_seat::<Note>(&mut first));
+        seat.token = Some(self.table.shared.split_seat::<RecordMoment>(&mut first));
     }
 
     /// Compares two seats, for contracts alone: they are two authors. The first is of no slot.

@@ -3,18 +3,35 @@
 ghost use Rattle.std.specs.Prelude.{◌≡◌, ◌<◌, [], ◌∷◌, length, true, false, Some};
 ghost use Rattle.lq_volume.specs.Book.{grown, state_of};
 ghost use Rattle.lq_volume.specs.Change.{after, IsLawful};
-ghost use Rattle.lq_board.specs.Author.{with_opening, new_author, with_author, with_change};
+ghost use Rattle.lq_board.specs.Author.{with_seat, with_opening, new_author, with_author, with_change};
 ghost use Rattle.lq_board.specs.Book.{IsFullBook};
 ghost use Rattle.lq_board.specs.Slot.{slot_at, gone_out};
-ghost use Rattle.lq_board.specs.View.{sitting_of, slotless_sitting, IsSeat};
+ghost use Rattle.lq_board.specs.View.{sitting_of, slotless_sitting, sits_again, IsSeat};
 ghost use Rattle.lq_board.specs.Meeting.{GoesOutAgain};
+ghost use Rattle.lq_board.specs.Token.{new_seat_of};
 
 use crate::board::Board;
-use crate::tokens::{Keeper, Token};
-use crate::word_steps::{Add, Again, Back, Check, Chosen, Open};
+use crate::tokens::{Keeper, Seat, Token};
+use crate::word_steps::{Add, Again, Back, Check, Chosen, Open, Slotless};
 use lq_volume::{Change, accepted_changes_keep_trees};
 
 impl<M> Board<M> {
+    // Splits a new seat of no slot off the keeper, which goes out.
+    pub(crate) fn slotless_seat(&self, keeper: &mut Keeper<M>) -> Seat<M>
+        requires board { keeper.old.board ≡ self.now }
+        ensures seat { result ≡ new_seat_of keeper.old }
+        ensures signs { result.author.signs ≡ keeper.old.board.free }
+        ensures full { IsFullBook result.book }
+        ensures keeper { keeper.new ≡ record keeper.old {
+          register = with_seat keeper.old.register;
+        } }
+    {
+        Seat {
+            token: Some(self.table.shared.split_seat::<Slotless>(&mut keeper.token)),
+            slot: 0,
+        }
+    }
+
     // Splits a slot's new seat off the keeper. `slot` is for the proof: the call takes W's slot
     // from it.
     pub(crate) fn slot_token<W: Chosen<M>>(&self, keeper: &mut Keeper<M>, slot: u64) -> Token<M>
@@ -54,7 +71,7 @@ impl<M> Board<M> {
         requires slot { (sitting_of token.me.0).slot < 65 }
         ensures number { result.0 ≡ length keeper.old.book.changes }
         ensures again { let w = sitting_of token.me.0 in GoesOutAgain keeper.old keeper.new w
-            (record w { book = keeper.old.book; name = W.name })
+            (sits_again w keeper.old.book W.name W.seats W.openings)
             result.1.table_id result.1.me }
         ensures register { keeper.new.register ≡ keeper.old.register }
     {
@@ -84,11 +101,9 @@ impl<M> Board<M> {
         requires lawful { IsLawful (state_of keeper.old.book) change.now }
         ensures number { result.0 ≡ length keeper.new.book.changes }
         ensures again { let w = sitting_of token.me.0 in GoesOutAgain keeper.old keeper.new w
-            (record w {
-              book = grown keeper.old.book (change.now ∷ []);
-              name = W.name;
-              author = with_change w.author result.0;
-            }) result.1.table_id result.1.me }
+            (record (sits_again w (grown keeper.old.book (change.now ∷ [])) W.name W.seats
+            W.openings) { author = with_change w.author result.0 })
+            result.1.table_id result.1.me }
         ensures state { state_of keeper.new.book ≡ after (state_of keeper.old.book) change.now }
         ensures register { keeper.new.register
             ≡ with_author keeper.old.register (sitting_of token.me.0).author.number }

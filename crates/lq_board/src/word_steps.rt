@@ -4,7 +4,8 @@ use atomic_table::{Join, Play, Split};
 use lq_volume::Change;
 use std::marker::{Brand, PhantomData};
 
-/// What a call chooses for its step: a slot, a name and a change.
+/// What a call chooses for its step: a slot, a name and a change, and what becomes of the counts
+/// of seats and of openings made for a seat.
 pub trait Chosen<M> {
     ghost use Rattle.std.specs.Prelude.{ℕ, Option};
     ghost use Rattle.lq_volume.specs.declared.change.Change.{Change};
@@ -14,6 +15,10 @@ pub trait Chosen<M> {
     ghost name: { Option M };
 
     ghost change: { Option Change };
+
+    ghost seats: { ℕ → ℕ };
+
+    ghost openings: { ℕ → ℕ };
 }
 
 impl<M> Chosen<M> for Brand {
@@ -24,6 +29,10 @@ impl<M> Chosen<M> for Brand {
     ghost name = { None };
 
     ghost change = { None };
+
+    ghost seats = { λ n. n };
+
+    ghost openings = { λ n. n };
 }
 
 // Adds a change by the latest seat that came back.
@@ -55,6 +64,15 @@ impl<M> Play<u8, TokenView<M>> for Check {
     ghost then = { Checks };
 }
 
+// As `Check`, for a seat that comes home.
+pub(crate) struct Home;
+
+impl<M> Play<u8, TokenView<M>> for Home {
+    ghost use Rattle.lq_board.specs.Step.{ComesHome};
+
+    ghost then = { ComesHome };
+}
+
 // The keeper reads a slot's word.
 pub(crate) struct Count;
 
@@ -73,13 +91,24 @@ impl<M> Play<u8, TokenView<M>> for Ask {
     ghost then = { AsksAgain };
 }
 
-// Makes a new seat of no slot.
+// Makes a new seat of no slot, which goes out.
 pub(crate) struct Slotless;
 
 impl<M> Split<TokenView<M>> for Slotless {
     ghost use Rattle.lq_board.specs.View.{with_new_seat, copy_of};
 
     ghost left = { with_new_seat };
+
+    ghost right = { copy_of };
+}
+
+// Makes a new seat of no slot, which stays within a call.
+pub(crate) struct Inner;
+
+impl<M> Split<TokenView<M>> for Inner {
+    ghost use Rattle.lq_board.specs.View.{with_new_number, copy_of};
+
+    ghost left = { with_new_number };
 
     ghost right = { copy_of };
 }
@@ -118,7 +147,7 @@ impl<M, W: Chosen<M>> Split<TokenView<M>> for Again<W> {
 
     ghost left = { parted W.name };
 
-    ghost right = { again_of W.name };
+    ghost right = { again_of W.name W.seats W.openings };
 }
 
 // Joins a seat to the keeper.
@@ -183,13 +212,13 @@ impl<M> Split<TokenView<M>> for Part {
     ghost right = { second_seat };
 }
 
-// Parts the two. The second has then noted the first's moments too.
-pub(crate) struct Note;
+// Parts the two. The second has then recorded the first's moments too.
+pub(crate) struct RecordMoment;
 
-impl<M> Split<TokenView<M>> for Note {
-    ghost use Rattle.lq_board.specs.View.{first_seat, second_noted};
+impl<M> Split<TokenView<M>> for RecordMoment {
+    ghost use Rattle.lq_board.specs.View.{first_seat, second_recorded};
 
     ghost left = { first_seat };
 
-    ghost right = { second_noted };
+    ghost right = { second_recorded };
 }

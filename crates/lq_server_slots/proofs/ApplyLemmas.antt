@@ -1,20 +1,71 @@
--- A change that a seat applied, which knew a book that the keeper's extends.
-use Rattle.std.proofs.Common.{◌≡◌, Ok, Err, [], ◌∷◌, length, sym, ap, ◌∙◌, subst, arith, length-append}
+-- What calls do to what always holds under the lock; and a change that a seat applied, which knew a
+-- book that the keeper's extends.
+use Rattle.std.proofs.Common.{◌≡◌, ℕ, ◌<◌, arith, sym, ap, ◌∙◌, subst, Ok, Err, [], ◌∷◌, length, length-append}
+use Rattle.lq_volume.specs.State.{State}
+use Rattle.lq_volume.specs.Book.{Book, state_of, Extends, grown}
+use Rattle.lq_board.specs.Book.{IsFullBook}
+use Rattle.lq_board.specs.Token.{BoardName, SeatToken}
+use Rattle.lq_server_slots.specs.declared.slots.ServerSlots.{ServerSlots}
+use Rattle.lq_server_slots.specs.Slots.{AreConsistent, KeepsCounts, KeepsSlots, CountsOne, IsState}
 use Rattle.std.specs.Prelude.{unwrap_or}
 use Rattle.lq_value.specs.declared.refusal.Refusal.{Refusal}
 use Rattle.lq_value.specs.declared.refusal.Refusal.TheVariants.{NoMemory}
-use Rattle.lq_volume.specs.State.{State}
 use Rattle.lq_volume.specs.declared.change.Change.{Change}
 use Rattle.lq_volume.specs.declared.change.Applied.{Applied}
 use Rattle.lq_volume.specs.Change.{node_of, refused}
-use Rattle.lq_volume.specs.Book.{Book, Extends, grown, state_of}
 use Rattle.lq_board.specs.Author.{with_change}
-use Rattle.lq_board.specs.Token.{SeatToken}
 use Rattle.lq_server_slots.specs.declared.identity.Identity.{Identity}
 use Rattle.lq_server_slots.specs.Applied.{IsAdded, IsApplied}
 use Rattle.lq_server_slots.specs.Changing.{IsChangeMade}
-use Rattle.lq_server_slots.proofs.Books.{extends_trans, extends_length}
+use Rattle.lq_server_slots.proofs.UpdateLemmas.{extends_trans, extends_length}
 use Rattle.lq_server_slots.proofs.SlotLemmas.{before_is}
+
+module _ (board : BoardName) (start : State) (old new : ServerSlots) (v : State)
+    (seats : ℕ) (is : IsState board start old v seats) where
+  -- the slots were kept
+  pub state_kept : KeepsSlots old new → IsState board start new v seats
+  state_kept k = (
+    k.counts.board ∙ is.0,
+    is.1 ∙ ap state_of (sym k.book),
+    subst IsFullBook (sym k.book) is.2,
+    ap (λ (b : Book). b.start) k.book ∙ is.3,
+    is.4,
+    omega (arith, k.counts.openings, is.5),
+    k.holding,
+    k.counts.openings ∙ is.7 ∙ sym k.counts.counted,
+    is.8 ∙ sym k.counts.out,
+  )
+
+  -- a change was made, or refused
+  pub state_changed : (w : State) → KeepsCounts old new → w ≡ state_of new.keeper.book
+      → IsFullBook new.keeper.book → new.keeper.book.start ≡ old.keeper.book.start
+      → w.limit ≡ v.limit → AreConsistent new new.keeper.book → IsState board start new w seats
+  state_changed w counts after full began limit stand = (
+    counts.board ∙ is.0,
+    after,
+    full,
+    began ∙ is.3,
+    limit ∙ is.4,
+    omega (arith, counts.openings, is.5, limit),
+    stand,
+    counts.openings ∙ is.7 ∙ sym counts.counted,
+    is.8 ∙ sym counts.out,
+  )
+
+  -- a subscription was opened
+  pub state_opened : CountsOne old new → AreConsistent new new.keeper.book → old.openings < v.limit
+      → IsState board start new v seats
+  state_opened k stand less = (
+    k.board ∙ is.0,
+    is.1 ∙ ap state_of (sym k.book),
+    subst IsFullBook (sym k.book) is.2,
+    ap (λ (b : Book). b.start) k.book ∙ is.3,
+    is.4,
+    omega (arith, k.openings, less),
+    stand,
+    k.openings ∙ omega (arith, is.7, k.counted),
+    is.8 ∙ sym k.out,
+  )
 
 -- a book that grew by a change was added to each that it extended
 added_to : (c : Change) (a : Applied) (k b d : Book) → Extends b k → d ≡ grown b (c ∷ [])

@@ -27,8 +27,7 @@ use Rattle.lq_server_slots.specs.Updates.{updates}
 use Rattle.lq_server_slots.specs.Rule.{floor_of, query_of, messages_in}
 use Rattle.lq_server_slots.specs.LegalList.{known_by}
 use Rattle.lq_server_slots.specs.Standing.{messages_given, Stands, IsOverrun, HasPrepared, seen_of, report_of}
-use Rattle.lq_server_slots.proofs.Books.{extends_self, extends_trans, extends_length}
-use Rattle.lq_server_slots.proofs.UpdateLemmas.{updates-add, updates-same, updates-none}
+use Rattle.lq_server_slots.proofs.UpdateLemmas.{extends_self, extends_trans, extends_length, updates-add, updates-same, updates-none}
 
 -- messages that overrun are some, and more than the backlog has room for
 overrun_test : (h : Held) (more : List Message) → overruns h more ≡ true

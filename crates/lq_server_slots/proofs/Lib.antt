@@ -2,7 +2,6 @@
 -- puts, ends, reads. The slots: one slot and all of them; which changes their marks cover; visits of
 -- all taken slots; a change that is committed; what a reader does; a subscription that was just made;
 -- the world that the slots show.
-pub mod Books
 pub mod UpdateLemmas
 pub mod PortLemmas
 pub mod PutLemmas
@@ -15,6 +14,5 @@ pub mod TakenLemmas
 pub mod CommitLemmas
 pub mod SyncLemmas
 pub mod ApplyLemmas
-pub mod StateLemmas
 pub mod OpenLemmas
 pub mod ShownLemmas

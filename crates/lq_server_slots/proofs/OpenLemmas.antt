@@ -33,11 +33,10 @@ use Rattle.lq_server_slots.specs.Standing.{IsSeen, IsConsistentAt}
 use Rattle.lq_server_slots.specs.Laws.{NewSubscriptionsStand}
 use Rattle.lq_server_slots.specs.declared.slots.ServerSlots.{ServerSlots}
 use Rattle.lq_server_slots.specs.declared.open.Opened.{Opened}
-use Rattle.lq_server_slots.specs.Slots.{SlotStands, IsTakenSlot, slot_in, AreConsistent, SlotIsWatched, OnlyAt, SameButKnown}
+use Rattle.lq_server_slots.specs.Slots.{SlotStands, IsTakenSlot, slot_in, AreConsistent, SlotIsWatched, OnlyAt, SameButKnown, IsState}
 use Rattle.lq_server_slots.specs.Opening.{IsNewSubscription, IsOpeningAnswer, size_refusal}
 use Rattle.lq_server_slots.specs.Hold.{LockHold}
 use Rattle.lq_server_slots.specs.Noted.{IsOpenedOver}
-use Rattle.lq_server_slots.proofs.StateLemmas.{IsState}
 use Rattle.lq_desk_sub.specs.SlotTable.{first_free}
 use Rattle.lq_server_slots.proofs.TableLemmas.{counted_here, only_set, slots_set}
 
@@ -212,33 +211,31 @@ module _ {T U : Type 0} (f : T → ℕ) (g : U → ℕ) (slots : ServerSlots) (l
 
 -- ---- the slots over which an opening under the lock was answered
 
--- Its seat noted the moment of the keeper of these slots.
+-- Its seat recorded the moment of the keeper of these slots.
 pub opened_over : (board : BoardName) (start : State) (old at new : LockHold) (v : State)
     (s t : SeatToken Identity) (limit port backlog : ℕ) (result : Result Opened Refusal)
-    → IsState board start at.slots v → at ≡ new → SameButKnown old.slots new.slots
-    → t ≡ record s {
-      book = old.slots.keeper.book;
-      moments = s.moments ++ moment_of new.slots.keeper ∷ [];
-    }
+    → IsState board start at.slots v at.seats → at ≡ new → SameButKnown old.slots new.slots
+    → t.book ≡ old.slots.keeper.book
+    → t.moments ≡ s.moments ++ moment_of new.slots.keeper ∷ []
     → limit ≡ v.limit
     → IsOpeningAnswer (λ (o : Opened). o.slot) at.slots limit port backlog result
     → IfOk result (λ o. o.reading.port.floor.book.value ≡ at.slots.keeper)
     → (under : ServerSlots) × SameButKnown old.slots under
     × IsOpenedOver under start s t port backlog result
-opened_over board start old at new v s t limit port backlog result is there same seat most answered
-    keeper =
+opened_over board start old at new v s t limit port backlog result is there same book moments most
+    answered keeper =
     let under = at.slots in
     let kept : SameButKnown old.slots under =
     subst (λ (h : LockHold). SameButKnown old.slots h.slots) (sym there) same in
     let keeps : under.keeper.book ≡ t.book =
-    kept.book ∙ sym (ap (λ (x : SeatToken Identity). x.book) seat) in (
+    kept.book ∙ sym book in (
       under,
       kept,
       record {
         keeps = keeps;
         stands = subst (AreConsistent under) keeps is.6;
         noted = record {
-          moments = ap (λ (x : SeatToken Identity). x.moments) seat
+          moments = moments
               ∙ (λ k. s.moments ++ moment_of ((sym there k).slots.keeper) ∷ []);
           counted = is.7;
         };

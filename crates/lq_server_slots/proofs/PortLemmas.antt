@@ -11,8 +11,7 @@ use Rattle.lq_server_slots.specs.declared.delivery.Delivery.{Delivery}
 use Rattle.lq_server_slots.specs.declared.delivery.Opening.{Opening}
 use Rattle.lq_server_slots.specs.Rule.{book_of, floor_of, query_of, message_of, mark_or, messages_in, mark_in, last_book, all_updates, IsMark, Tells, MayFollow}
 use Rattle.lq_server_slots.specs.LegalList.{known_by, LegalList}
-use Rattle.lq_server_slots.proofs.Books.{extends_self, extends_trans}
-use Rattle.lq_server_slots.proofs.UpdateLemmas.{updates-front}
+use Rattle.lq_server_slots.proofs.UpdateLemmas.{extends_self, extends_trans, updates-front}
 
 -- an option that has no value
 pub none-of : {A : Type 0} (o : Option A) → is_some o ≡ false → o ≡ None

@@ -17,8 +17,7 @@ use Rattle.lq_server_slots.specs.declared.subscription.Subscription.{Subscriptio
 use Rattle.lq_server_slots.specs.Rule.{book_of, message_of, mark_or, messages_in, mark_in, IsMark, Tells, MayFollow}
 use Rattle.lq_server_slots.specs.LegalList.{known_by}
 use Rattle.lq_server_slots.specs.Standing.{messages_given, upto, Stands, IsConsistentAt, SameHeld, SameButPuts, left_of, left_to_put, IsOut, CannotPut, IsDrained, SideBySide}
-use Rattle.lq_server_slots.proofs.Books.{extends_self}
-use Rattle.lq_server_slots.proofs.UpdateLemmas.{updates-front}
+use Rattle.lq_server_slots.proofs.UpdateLemmas.{extends_self, updates-front}
 use Rattle.lq_server_slots.proofs.PortLemmas.{prefix_self, prefix_trans, messages_in-snoc, mark_in-append, last_book-snoc}
 
 -- ---- one parcel

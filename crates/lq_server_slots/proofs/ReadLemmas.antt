@@ -24,7 +24,7 @@ use Rattle.lq_server_slots.specs.Updates.{updates}
 use Rattle.lq_server_slots.specs.Rule.{floor_of, query_of, message_of, mark_or, messages_in, mark_in, all_updates, IsMark, MayFollow}
 use Rattle.lq_server_slots.specs.LegalList.{known_by, LegalList}
 use Rattle.lq_server_slots.specs.Reading.{ReadingHold, opening_of, known_book, received, ready, mark_read, what_of, IsTold, IsReadStep}
-use Rattle.lq_server_slots.proofs.Books.{extends_length, extends_self}
+use Rattle.lq_server_slots.proofs.UpdateLemmas.{extends_length, extends_self}
 use Rattle.lq_server_slots.proofs.PortLemmas.{prefix_trans, messages_in-snoc, mark_in-append, last_book-snoc, legal_list-none, legal_list-step}
 
 -- ---- what was read

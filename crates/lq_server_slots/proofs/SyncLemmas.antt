@@ -6,8 +6,9 @@ use Rattle.lq_volume.specs.declared.change.Change.{Change}
 use Rattle.lq_volume.specs.Book.{Book}
 use Rattle.lq_board.specs.Known.{KnownSlot}
 use Rattle.lq_board.specs.Slot.{slot_at, unused, gone_out, go_out, come_back}
+use Rattle.lq_board.specs.Author.{come_home}
 use Rattle.lq_board.specs.Token.{KeeperToken, SeatToken}
-use Rattle.lq_board.specs.Meeting.{HasAdded, HasMet}
+use Rattle.lq_board.specs.Meeting.{GoesOut, HasAdded, HasMet, WasOut}
 use Rattle.lq_port.specs.End.{End}
 use Rattle.lq_server_slots.specs.declared.delivery.Delivery.{Delivery}
 use Rattle.lq_server_slots.specs.declared.delivery.Opening.{Opening}
@@ -19,7 +20,7 @@ use Rattle.lq_server_slots.specs.Marking.{hung_mark}
 use Rattle.lq_server_slots.specs.Identity.{identity_of, port_id_inj}
 use Rattle.lq_server_slots.specs.Reading.{ReadingHold}
 use Rattle.lq_server_slots.specs.Standing.{IsConsistentAt, IsDrained, IsSeen, CannotPut, SameButHeld, SideBySide, report_of}
-use Rattle.lq_server_slots.specs.Slots.{IsTakenSlot, SlotStands, IsSlotMet, KeepsBook, asks_of, OnlyAt, AreConsistent, slot_in, KeepsSlots, SameButKnown}
+use Rattle.lq_server_slots.specs.Slots.{IsTakenSlot, SlotStands, IsSlotMet, KeepsBook, asks_of, OnlyAt, AreConsistent, slot_in, KeepsSlots, KnowsAsks, SameButKnown}
 use Rattle.lq_server_slots.specs.Opening.{IdentityFits, asks_after, name_or}
 use Rattle.lq_server_slots.proofs.EndLemmas.{told_now}
 use Rattle.lq_server_slots.proofs.SlotLemmas.{stuck_filled}
@@ -72,6 +73,7 @@ keeps_then old mid new k j a b e =
     record {
       board = c.board ∙ a.board;
       counted = c.counted ∙ a.counted;
+      out = c.out ∙ a.out;
       book = c.book ∙ a.book;
       only = record {
         wide = c.only.wide ∙ a.only.wide;
@@ -114,7 +116,9 @@ taken_closed s t p q n book taken stands others messages hung le is = grind arit
 
 -- a slot's seat came back
 pub seat_joined : (old new : KeeperToken Identity) (k n : ℕ) (name : Option Identity)
-    → new ≡ record old { slots = come_back old.slots k n name } → 0 < k → k < length old.slots
+    → new
+    ≡ record old { slots = come_back old.slots k n name; register = come_home old.register k }
+    → 0 < k → k < length old.slots
     → KeepsBook old new k
     × (slot_at new.slots k ≡ record { out = false; asks = n; name = name })
 seat_joined old new zero n name is pos lt = absurd (omega arith)
@@ -124,6 +128,7 @@ seat_joined old new (suc j) n name is pos lt =
       record {
         board = rw is refl;
         counted = rw is refl;
+        out = rw is refl;
         book = rw is refl;
         only = rw slots (only_set old.slots (suc j) q);
       },
@@ -187,11 +192,16 @@ seat_named slots i x s t n h within there met at =
 
 -- slots of which only what the keeper knows changed are kept
 pub kept_known : (old new : ServerSlots) → SameButKnown old new
+    → new.keeper.register.out ≡ old.keeper.register.out
     → AreConsistent new new.keeper.book → KeepsSlots old new
-kept_known old new same h =
+kept_known old new same out h =
     record {
-      counts =
-          record { board = same.board; counted = same.counted; openings = same.openings };
+      counts = record {
+        board = same.board;
+        counted = same.counted;
+        out = out;
+        openings = same.openings;
+      };
       book = same.book;
       holding = h;
     }
@@ -210,6 +220,20 @@ back_out slots (suc k) asks name lt named most out least =
     ∙ (λ i. slice_set slots (suc k)
     (record { out = sym (out pos) i; asks = just i; name = sym (named pos) i }))
     ∙ set-get_or slots (suc k) unused
+
+-- a seat goes out where another has met the keeper first, of which nothing is known anew
+pub out_by : (old new : KeeperToken Identity) (s t : SeatToken Identity) (slot : ℕ)
+    (name : Option Identity)
+    → GoesOut (record old {
+      slots = go_out (come_back old.slots s.slot s.asks s.name) s.slot s.name;
+    }) new slot name t
+    → (0 < s.slot → WasOut old.slots s) → KnowsAsks old.slots s → s.slot < length old.slots
+    → GoesOut old new slot name t
+out_by old new s t slot name out was least lt =
+    subst (λ (slots : List (KnownSlot Identity)). GoesOut (record old { slots = slots }) new slot
+    name t)
+    (back_out old.slots s.slot s.asks s.name lt (λ pos. (was pos).name) (λ pos. (was pos).asks)
+    (λ pos. (was pos).out) least) out
 
 -- a seat that added a change leaves what the keeper knows of the slots, where nothing is known anew
 pub slots_added : (change : Change) (n : ℕ) (old new : KeeperToken Identity)

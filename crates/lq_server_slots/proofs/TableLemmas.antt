@@ -153,7 +153,7 @@ pub slots_stay : (slots : ServerSlots) → AreConsistent slots slots.keeper.book
     → KeepsSlots slots slots
 slots_stay slots h =
     record {
-      counts = record { board = refl; counted = refl; openings = refl };
+      counts = record { board = refl; counted = refl; out = refl; openings = refl };
       book = refl;
       holding = h;
     }
@@ -167,6 +167,7 @@ slots_kept-on first old items h holding =
       counts = record {
         board = h.counts.board;
         counted = h.counts.counted;
+        out = h.counts.out;
         openings = h.counts.openings;
       };
       book = h.book;
@@ -191,6 +192,7 @@ slots_kept-step first old keeper i o h within kept fits asks watched =
       counts = record {
         board = kept.board ∙ h.counts.board;
         counted = kept.counted ∙ h.counts.counted;
+        out = kept.out ∙ h.counts.out;
         openings = h.counts.openings;
       };
       book = kept.book ∙ h.book;

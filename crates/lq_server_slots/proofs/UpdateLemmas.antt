@@ -1,17 +1,41 @@
--- The update list of a book, and of a longer one.
-use Rattle.std.proofs.Common.{◌≡◌, ℕ, ◌+◌, ◌-◌, ◌≤◌, List, [], ◌∷◌, ◌++◌, length, take, drop, refl, sym, ap, ◌∙◌, arith, append_assoc, append-nil, add-zero, length-append, length-drop}
-use Rattle.std.proofs.lemmas.List.{take_all, take-append-le, take-take, take-append-drop, drop-append-le}
-use mathlib.Core.List.{IsPrefix}
-use Rattle.lq_predicate.specs.Query.{Query}
+-- Books that go on from others, and their updates.
+use Rattle.std.proofs.Common.{◌≡◌, ℕ, ◌-◌, ◌≤◌, List, [], ◌∷◌, ◌++◌, length, refl, ap, arith, append_assoc, append-nil, length-append, ◌+◌, take, drop, sym, ◌∙◌, add-zero, length-drop}
+use Rattle.std.proofs.lemmas.List.{take-append-le, take_all, take-take, take-append-drop, drop-append-le}
 use Rattle.lq_volume.specs.declared.change.Change.{Change}
 use Rattle.lq_volume.specs.State.{State}
 use Rattle.lq_volume.specs.Change.{after}
-use Rattle.lq_volume.specs.Book.{Book, Extends, grown, after_all, state_of, state_at}
+use Rattle.lq_volume.specs.Book.{Book, Extends, after_all, number_of, state_at, grown, state_of}
+use mathlib.Core.List.{IsPrefix}
+use Rattle.lq_predicate.specs.Query.{Query}
 use Rattle.lq_update.specs.declared.open_options.Flags.{Flags}
 use Rattle.lq_update.specs.declared.message.Message.{Message}
 use Rattle.lq_update.specs.Updates.{step_of, updates_from, updates_of}
 use Rattle.lq_server_slots.specs.Updates.{updates}
-use Rattle.lq_server_slots.proofs.Books.{after_all-append}
+
+-- a book extends itself
+pub extends_self : (b : Book) → Extends b b
+extends_self b = ([], rw append-nil)
+
+-- a book that extends one that extends another extends that
+pub extends_trans : (b c d : Book) → Extends c b → Extends d c → Extends d b
+extends_trans b c d e f = (e.0 ++ f.0, rw (f.1, e.1, append_assoc))
+
+-- and has no fewer changes
+pub extends_length : (b c : Book) → Extends c b → length b.changes ≤ length c.changes
+extends_length b c e =
+    omega (arith, ap (λ (x : Book). length x.changes) e.1, length-append b.changes e.0)
+
+-- the state after two lists of changes, one after the other
+pub after_all-append : (s : State) (cs ds : List Change)
+    → after_all s (cs ++ ds) ≡ after_all (after_all s cs) ds
+after_all-append s [] ds = refl
+after_all-append s (c ∷ cs) ds = after_all-append (after s c) cs ds
+
+-- a longer book leads to the same state at each number of the shorter one
+pub state_stays : (c b : Book) (n : ℕ) → Extends c b → n ≤ number_of b
+    → state_at c n ≡ state_at b n
+state_stays c b n e le =
+    rw (e.1, take-append-le (n - b.start.number) b.changes e.0 (omega arith))
 
 -- the messages of two lists of changes, one after the other
 append : (q : Query) (flags : Flags) (s : State) (cs ds : List Change) (seq : ℕ)

@@ -6,8 +6,10 @@ use Rattle.lq_value.specs.Refusal.{IsRefusedBy}
 use Rattle.lq_volume.specs.State.{State}
 use Rattle.lq_volume.specs.declared.change.Change.{Change}
 use Rattle.lq_volume.specs.declared.change.Applied.{Applied}
+use Rattle.lq_volume.specs.declared.change.Resolved.{Resolved}
 use Rattle.lq_volume.specs.Book.{Book, Extends, grown, state_of}
 use Rattle.lq_volume.specs.Change.{refused, node_of}
+use Rattle.lq_volume.specs.Plan.{resolved_of}
 use Rattle.lq_board.specs.Author.{with_change}
 use Rattle.lq_board.specs.Slot.{slot_at}
 use Rattle.lq_board.specs.Token.{SeatToken}
@@ -39,9 +41,10 @@ pub record IsChangeMade (change : Change) (result : Result Applied Refusal) (v w
 -- or it was refused.
 -- First each subscription ended whose reader had asked for that; its mark covers the changes so far.
 -- The book stays, and so does what stands over it; what the keeper knows of asks only rises.
-pub record IsPrepared (v : State) (change : Change) (result : Result (Unit {0}) Refusal)
+pub record IsPrepared (v : State) (change : Change) (result : Result Resolved Refusal)
     (old new : ServerSlots) : Type 0 where
   pub lawful : OnOk result (refused v change ≡ None)
+  pub resolved : IfOk result (λ r. r ≡ resolved_of v change)
   pub prepared : OnOk result (AllPrepared new.watch new.subscriptions v change)
   pub noticed : OnOk result (SlotsAre IsNoticed new.subscriptions new.keeper.slots)
   pub keeps : KeepsSlots old new

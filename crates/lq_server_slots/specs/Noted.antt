@@ -9,7 +9,7 @@ use Rattle.lq_server_slots.specs.declared.slots.ServerSlots.{ServerSlots}
 use Rattle.lq_server_slots.specs.Opening.{IsOpeningAnswer}
 use Rattle.lq_server_slots.specs.Slots.{AreConsistent}
 
--- The seat, `old` before and `new` after, has noted one moment more: that of the keeper of these
+-- The seat, `old` before and `new` after, has recorded one moment more: that of the keeper of these
 -- slots, which has counted their openings.
 pub record HasNoted (old new : SeatToken Identity) (under : ServerSlots) : Type 0 where
   pub moments : new.moments ≡ old.moments ++ moment_of under.keeper ∷ []

@@ -12,7 +12,7 @@ use Rattle.lq_update.specs.Options.{no_values}
 use Rattle.lq_update.specs.Fold.{opened_at}
 use Rattle.lq_desk_world.specs.Events.{opening_refusals, size_refusals}
 use Rattle.lq_desk_sub.specs.SlotTable.{first_free}
-use Rattle.lq_board.specs.Token.{BoardName}
+use Rattle.lq_board.specs.Token.{BoardName, SeatToken}
 use Rattle.lq_port.specs.End.{End}
 use Rattle.lq_server_slots.specs.declared.identity.Identity.{Identity}
 use Rattle.lq_server_slots.specs.declared.identity.FirstClose.TheVariants.{Never}
@@ -71,7 +71,8 @@ pub record IsOpenedName (t : Identity) (o : Opened) (backlog : ℕ) : Type 0 whe
   pub first_close : t.first_close ≡ Never
 
 -- A subscription that was just opened over this book: nothing was read, and the result is the
--- query's. Its seat made no change, and may make changes where each seat of the board may.
+-- query's. Its seat made no change, may make changes where each seat of the board may, and no seat
+-- was made for it.
 pub record IsOpened (o : Opened) (board : BoardName) (book : Book) (q : Query) (flags : Flags)
     (port backlog : ℕ) : Type 0 where
   pub low : 0 < o.slot
@@ -81,6 +82,7 @@ pub record IsOpened (o : Opened) (board : BoardName) (book : Book) (q : Query) (
   pub seat : o.seat.book ≡ book
   pub fresh : o.seat.author.changes ≡ []
   pub signs : o.seat.author.signs ≡ board.free
+  pub counts : (o.seat.seats ≡ 0) × (o.seat.openings ≡ 0)
   pub named : IsSomeAnd o.seat.name (λ t. IsOpenedName t o backlog)
   pub floor : floor_of o.reading.port.floor ≡ book
   pub query : query_of o.reading.port.floor ≡ q
@@ -91,6 +93,10 @@ pub record IsOpened (o : Opened) (board : BoardName) (book : Book) (q : Query) (
   pub ahead : o.reading.port.ahead ≡ []
   pub hand : o.reading.hand ≡ None
   pub result : o.reading.result ≡ opened_at (length book.changes) (result_of q (state_of book))
+
+-- a seat, s before and t after, counts one opening more, and knows this book
+abbrev pub CountsOpening : Book → SeatToken Identity → SeatToken Identity → Type 0
+CountsOpening book s t = t ≡ record s { book = book; openings = s.openings + 1 }
 
 -- why an opening is refused by its numbers alone: the first that fits
 abbrev pub size_refusal : ℕ → ℕ → Option Refusal

@@ -7,7 +7,7 @@ use Rattle.lq_volume.specs.Book.{Book, Extends, grown, state_of}
 use Rattle.lq_board.specs.Known.{KnownSlot}
 use Rattle.lq_board.specs.Book.{IsFullBook}
 use Rattle.lq_board.specs.Slot.{slot_at}
-use Rattle.lq_board.specs.Token.{KeeperToken, SeatToken}
+use Rattle.lq_board.specs.Token.{BoardName, KeeperToken, SeatToken}
 use Rattle.lq_desk_sub.specs.declared.watch.Watch.{Watch}
 use Rattle.lq_desk_sub.specs.SlotSet.{has}
 use Rattle.lq_desk_sub.specs.Watch.{IsWatched, slots_for}
@@ -117,7 +117,7 @@ abbrev pub SlotsAre :
 SlotsAre P slots known =
     (i : ℕ) → i < 64 → SlotIs P (slot_in slots i) (slot_at known (i + 1))
 
--- only what the keeper knows of the slots may differ, and how many seats have a number
+-- only what the keeper knows of the slots may differ, and how many seats have a number or are out
 pub record SameButKnown (old new : ServerSlots) : Type 0 where
   pub board : new.keeper.board ≡ old.keeper.board
   pub counted : new.keeper.register.openings ≡ old.keeper.register.openings
@@ -130,20 +130,47 @@ pub record OnlyAt (old new : List (KnownSlot Identity)) (place : ℕ) : Type 0 w
   pub wide : length new ≡ length old
   pub others : (k : ℕ) → k ≢ place → slot_at new k ≡ slot_at old k
 
--- a call at a slot keeps the board, the openings, the book and what is known of the other slots
+-- a call at a slot keeps the board, the openings, the seats that are out, the book and what is
+-- known of the other slots
 pub record KeepsBook (old new : KeeperToken Identity) (place : ℕ) : Type 0 where
   pub board : new.board ≡ old.board
   pub counted : new.register.openings ≡ old.register.openings
+  pub out : new.register.out ≡ old.register.out
   pub book : new.book ≡ old.book
   pub only : OnlyAt old.slots new.slots place
 
--- the board and the numbers of openings stay
+-- the keeper knows how often a slot's seat has asked
+abbrev pub KnowsAsks : List (KnownSlot Identity) → SeatToken Identity → Type 0
+KnowsAsks known s = 0 < s.slot → s.asks ≤ (slot_at known s.slot).asks
+
+-- What always holds under the lock of this board, which began with this volume: of the slots with
+-- the keeper, of the volume, and of how many seats are out.
+abbrev pub IsState : BoardName → State → ServerSlots → State → ℕ → Type 0
+IsState board start slots volume seats =
+    (slots.keeper.board ≡ board) × (volume ≡ state_of slots.keeper.book)
+    × IsFullBook slots.keeper.book
+    × (slots.keeper.book.start ≡ start) × (volume.limit ≡ start.limit)
+    × (slots.openings ≤ volume.limit) × AreConsistent slots slots.keeper.book
+    × (slots.openings ≡ slots.keeper.register.openings)
+    × (seats ≡ slots.keeper.register.out)
+
+-- the board, the book and the number of seats that are out stay, and one opening more is counted
+pub record CountsOne (old new : ServerSlots) : Type 0 where
+  pub board : new.keeper.board ≡ old.keeper.board
+  pub counted : new.keeper.register.openings ≡ old.keeper.register.openings + 1
+  pub out : new.keeper.register.out ≡ old.keeper.register.out
+  pub book : new.keeper.book ≡ old.keeper.book
+  pub openings : new.openings ≡ old.openings + 1
+
+-- the board, the numbers of openings and that of the seats that are out stay
 pub record KeepsCounts (old new : ServerSlots) : Type 0 where
   pub board : new.keeper.board ≡ old.keeper.board
   pub counted : new.keeper.register.openings ≡ old.keeper.register.openings
+  pub out : new.keeper.register.out ≡ old.keeper.register.out
   pub openings : new.openings ≡ old.openings
 
--- the board, the numbers of openings and the book stay, and all slots stand over the book
+-- the board, the numbers of openings and of seats that are out, and the book stay, and all slots
+-- stand over the book
 pub record KeepsSlots (old new : ServerSlots) : Type 0 where
   pub counts : KeepsCounts old new
   pub book : new.keeper.book ≡ old.keeper.book

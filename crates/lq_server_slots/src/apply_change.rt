@@ -1,12 +1,11 @@
 //! A change under the lock: first everything that takes memory, then the change, then its messages.
-ghost use Rattle.std.specs.Prelude.{◌≡◌, ◌+◌, ◌<◌, ◌≤◌, [], ◌∷◌, length, true, None, IfOk, OnOk, OnErr};
+ghost use Rattle.std.specs.Prelude.{◌≡◌, ◌+◌, [], ◌∷◌, length, true, None, IfOk, OnOk, OnErr};
 ghost use Rattle.lq_volume.specs.Book.{grown, state_of};
 ghost use Rattle.lq_volume.specs.Change.{refused};
 ghost use Rattle.lq_board.specs.Book.{IsFullBook};
-ghost use Rattle.lq_board.specs.Slot.{slot_at};
 ghost use Rattle.lq_server_slots.specs.Applied.{IsApplied};
 ghost use Rattle.lq_server_slots.specs.Changing.{IsChangeMade, IsPrepared};
-ghost use Rattle.lq_server_slots.specs.Slots.{AreConsistent, IsConsistentWith, AllPrepared, IsNoticed, IsServed, MarksCover, SlotsAre, KeepsCounts};
+ghost use Rattle.lq_server_slots.specs.Slots.{AreConsistent, IsConsistentWith, AllPrepared, IsNoticed, IsServed, MarksCover, SlotsAre, KeepsCounts, KnowsAsks};
 
 use crate::change_passes::{commit_all, prepare_all};
 use crate::identity::Identity;
@@ -15,7 +14,7 @@ use crate::server_state::ServerState;
 use crate::slots::{ServerSlots, notice_all, serve_all};
 use lq_board::{Board, Seat};
 use lq_value::Refusal;
-use lq_volume::{Applied, Change, Volume};
+use lq_volume::{Applied, Change, Resolved, Volume};
 use std::sync::Wait;
 
 impl<N: Named> ServerState<N> {
@@ -80,8 +79,7 @@ fn add(
 ) -> Result<Applied, Refusal>
     requires board { (slots.old.keeper.board ≡ board.now) × (seat.old.board ≡ board.now) }
     requires signs { seat.old.author.signs ≡ true }
-    requires known { 0 < seat.old.slot
-        → seat.old.asks ≤ (slot_at slots.old.keeper.slots seat.old.slot).asks }
+    requires known { KnowsAsks slots.old.keeper.slots seat.old }
     requires stands { IsConsistentWith slots.old volume.old }
     ensures made { IsChangeMade change.now result volume.old volume.new
         slots.old.keeper.book slots.new.keeper.book seat.old seat.new }
@@ -97,8 +95,8 @@ fn add(
     ensures full { IsFullBook slots.new.keeper.book }
     ensures holding { AreConsistent slots.new slots.old.keeper.book }
 {
-    prepare(board, slots, volume, change)?;
-    let applied = volume.make(change)?;
+    let resolved = prepare(board, slots, volume, change)?;
+    let applied = volume.make(change, &resolved)?;
     // For the proof: this call says that the seat's slot is one of 64, or 0.
     let _ = seat.slot();
     board.add_by(&mut slots.keeper, seat, change);
@@ -106,13 +104,13 @@ fn add(
 }
 
 // Checks a change, and prepares its messages in the taken slots that it is shown to. Where it is
-// shown to none it makes no plan, which is a large value.
+// shown to none it makes no plan, which is a large value. The answer is what `make` needs.
 fn prepare(
     board: &Board<Identity>,
     slots: &mut ServerSlots,
     volume: &Volume,
     change: &Change,
-) -> Result<(), Refusal>
+) -> Result<Resolved, Refusal>
     requires board { slots.old.keeper.board ≡ board.now }
     requires stands { IsConsistentWith slots.old volume.now }
     ensures { IsPrepared volume.now change.now result slots.old slots.new }
@@ -120,9 +118,9 @@ fn prepare(
     let taken = slots.subscriptions.taken();
     let asked = slots.watch.slots_for(change).intersection(taken);
     if asked.is_empty() {
-        volume.check(change)?;
+        let resolved = volume.resolve(change)?;
         notice_all(board, slots, volume.changes());
-        return Ok(());
+        return Ok(resolved);
     }
     prepare_asked(board, slots, volume, change)
 }
@@ -134,7 +132,7 @@ fn prepare_asked(
     slots: &mut ServerSlots,
     volume: &Volume,
     change: &Change,
-) -> Result<(), Refusal>
+) -> Result<Resolved, Refusal>
     requires board { slots.old.keeper.board ≡ board.now }
     requires stands { IsConsistentWith slots.old volume.now }
     ensures { IsPrepared volume.now change.now result slots.old slots.new }

@@ -13,7 +13,7 @@ use crate::subscription::{Subscription, commit_if, prepare_messages};
 use lq_board::{Board, Keeper};
 use lq_desk_sub::{SlotIndex, SlotSet, Visit};
 use lq_value::Refusal;
-use lq_volume::{Change, Planned};
+use lq_volume::{Change, Planned, Resolved};
 use std::sync::Wait;
 
 /// Prepares the messages of a change where the subscription is live, unless memory ran out before.
@@ -39,12 +39,12 @@ impl<'a, 'b> Visit<Subscription, bool> for Prepare<'a, 'b> {
 }
 
 /// Ends each subscription whose reader asked, and prepares the messages of a change for the live
-/// ones that it is shown to.
+/// ones that it is shown to. The answer is what `make` needs of the change.
 pub(crate) fn prepare_all(
     board: &Board<Identity>,
     slots: &mut ServerSlots,
     planned: &Planned<'_>,
-) -> Result<(), Refusal>
+) -> Result<Resolved, Refusal>
     requires board { slots.old.keeper.board ≡ board.now }
     requires stands { IsConsistentWith slots.old planned.now.before }
     requires lawful { refused planned.now.before planned.now.change ≡ None }
@@ -60,7 +60,7 @@ pub(crate) fn prepare_all(
     if full {
         return Err(Refusal::NoMemory);
     }
-    Ok(())
+    Ok(planned.resolved())
 }
 
 /// Commits the change that was just added, if the slot is asked for it, and fills the port.

@@ -74,7 +74,7 @@ impl<N: Named> ServerState<N> {
     ///
     /// `hang_up_asked` says whether its reader asked for the end. The other slots keep their
     /// subscriptions. It takes no memory.
-    pub fn free(&mut self, board: &Board<Identity>, seat: Seat<Identity>, hang_up_asked: bool)
+    pub fn finish(&mut self, board: &Board<Identity>, seat: Seat<Identity>, hang_up_asked: bool)
         requires board { (board.now ≡ N.board) × (seat.board ≡ N.board) }
         requires seat { (0 < seat.slot)
             × IsSomeAnd seat.name (λ t. seat.asks ≡ asks_after t.asks hang_up_asked) }

@@ -6,9 +6,7 @@ use lq_port::Follows;
 use lq_predicate::Predicate;
 use lq_update::{Flags, Parcel};
 
-/// An item of a port: a message or the mark, and the keeper's book when it was put.
-///
-/// Contracts alone read the book.
+/// An item of a port: a message or the mark, and the keeper's book then, for contracts alone.
 #[derive(Drop)]
 pub struct Delivery {
     /// The message or the mark.

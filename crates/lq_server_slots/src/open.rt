@@ -1,17 +1,18 @@
 //! An opening under the lock: the lowest free slot gets a subscription, and its seat goes out.
-ghost use Rattle.std.specs.Prelude.{◌≡◌, ◌+◌, ◌<◌, ◌≤◌, IfOk, OnOk, OnErr, Some, None, false};
+ghost use Rattle.std.specs.Prelude.{◌≡◌, ◌+◌, ◌<◌, ◌≤◌, length, IfOk, OnOk, OnErr, Some, None, false};
 ghost use Rattle.lq_value.specs.Refusal.{FailsOnlyForMemory};
 ghost use Rattle.lq_volume.specs.Book.{Extends, state_of};
 ghost use Rattle.lq_board.specs.Book.{IsFullBook};
 ghost use Rattle.lq_board.specs.Meeting.{GoesOut};
 ghost use Rattle.lq_board.specs.Slot.{slot_at};
+ghost use Rattle.lq_board.specs.Token.{MayOpen};
 ghost use Rattle.lq_server_slots.specs.Identity.{identity_of};
 ghost use Rattle.lq_server_slots.specs.declared.identity.Identity.{Identity as IdentityOf};
 ghost use Rattle.lq_server_slots.specs.Noted.{IsOpenedOver};
-ghost use Rattle.lq_server_slots.specs.Slots.{AreConsistent, SameButKnown, slot_in};
+ghost use Rattle.lq_server_slots.specs.Slots.{AreConsistent, CountsOne, KnowsAsks, SameButKnown, slot_in};
 ghost use Rattle.lq_desk_sub.specs.declared.slot_index.SlotIndex.{SlotIndex as IndexOf};
 ghost use Rattle.lq_server_slots.specs.declared.slots.ServerSlots.{ServerSlots as SlotsOf};
-ghost use Rattle.lq_server_slots.specs.Opening.{IsNewSubscription, IsOpened, IsOpeningAnswer};
+ghost use Rattle.lq_server_slots.specs.Opening.{CountsOpening, IsNewSubscription, IsOpened, IsOpeningAnswer};
 
 use crate::delivery::{Delivery, Opening};
 use crate::ghost_copy::GhostCopy;
@@ -83,43 +84,49 @@ fn begin(
     Ok((slot, reading))
 }
 
-// The slot's seat, under a name given for contracts alone, which is this subscription's.
+// The slot's seat, made for the caller's, under a name given for contracts alone, which is this
+// subscription's. The keeper already knows how often the caller's seat has asked.
 fn sit(
     board: &Board<Identity>,
     keeper: &mut Keeper<Identity>,
+    by: &mut Seat<Identity>,
     slot: &Subscription,
     index: SlotIndex,
 ) -> Seat<Identity>
     ghost name: { IdentityOf }
     requires named { name ≡ identity_of slot.now }
-    requires board { keeper.old.board ≡ board.now }
+    requires board { (keeper.old.board ≡ board.now) × (by.old.board ≡ board.now) }
+    requires may { MayOpen by.old × KnowsAsks keeper.old.slots by.old }
+    requires wide { length keeper.old.slots ≡ 65 }
     requires free { (slot_at keeper.old.slots (index.index + 1)).out ≡ false }
-    ensures { GoesOut keeper.old keeper.new (index.index + 1) (Some (identity_of slot.now)) result }
+    ensures out { GoesOut keeper.old keeper.new (index.index + 1) (Some (identity_of slot.now))
+        result }
+    ensures by { CountsOpening keeper.old.book by.old by.new }
 {
-    // For the contract alone, which names the subscription.
+    // For the contract alone: it names the subscription, and a seat's slot is at most 64.
     let _ = slot;
-    board.slot_seat(keeper, index.number())
+    let _ = by.slot();
+    board.slot_seat_by(keeper, by, index.number())
 }
 
-// Puts a subscription into a free slot, and gives out the slot's seat.
+// Puts a subscription into a free slot, and gives out the slot's seat, made for the caller's.
 fn settle(
     board: &Board<Identity>,
     slots: &mut ServerSlots,
+    by: &mut Seat<Identity>,
     index: SlotIndex,
     mut slot: Subscription,
     reading: Reading,
 ) -> Opened
-    requires board { slots.old.keeper.board ≡ board.now }
+    requires board { (slots.old.keeper.board ≡ board.now) × (by.old.board ≡ board.now) }
+    requires may { MayOpen by.old × KnowsAsks slots.old.keeper.slots by.old }
     requires free { slot_in slots.old.subscriptions index.index ≡ None }
     requires room { slots.old.openings < 1000000000000 }
     requires begun { IsNewSubscription slot reading slots.old.keeper.book slot.sub.held.query
         slot.sub.held.flags slot.places slot.sub.held.backlog }
     requires holding { AreConsistent slots.old slots.old.keeper.book }
-    ensures board { slots.new.keeper.board ≡ slots.old.keeper.board }
-    ensures counted { slots.new.keeper.register.openings
-        ≡ slots.old.keeper.register.openings + 1 }
-    ensures book { slots.new.keeper.book ≡ slots.old.keeper.book }
-    ensures openings { slots.new.openings ≡ slots.old.openings + 1 }
+    ensures counts { CountsOne slots.old slots.new }
+    ensures by { CountsOpening slots.old.keeper.book by.old by.new }
     ensures holding { AreConsistent slots.new slots.new.keeper.book }
     ensures slot { result.slot ≡ index.index + 1 }
     ensures reading { result.reading ≡ reading }
@@ -127,9 +134,8 @@ fn settle(
         slot.sub.held.query slot.sub.held.flags slot.places slot.sub.held.backlog }
 {
     let number = index.number();
-    let asks = board.asks(&mut slots.keeper, number);
-    slot.asks = asks;
-    let seat = sit(board, &mut slots.keeper, &slot, index);
+    slot.asks = board.asks(&mut slots.keeper, number);
+    let seat = sit(board, &mut slots.keeper, by, &slot, index);
     slots.watch.set(index, &slot.sub);
     slots.subscriptions.insert(index, slot);
     slots.openings += 1;
@@ -166,7 +172,7 @@ fn slot_for(slots: &ServerSlots, limit: u64, options: &OpenOptions) -> Result<Sl
 
 impl<N: Named> ServerState<N> {
     /// Opens a live query in the lowest free slot, over the book that the seat then knows. The seat
-    /// notes the moment of the keeper.
+    /// records the moment of the keeper, and counts the opening.
     ///
     /// The port has `options.port` places, 1 to 1,024. At most `options.backlog` messages are held
     /// before it, up to 65,536. `options.flags` says which messages there are beside created and
@@ -180,12 +186,16 @@ impl<N: Named> ServerState<N> {
         predicate: &Predicate,
         options: &OpenOptions,
     ) -> Result<Opened, Refusal>
-        requires { (board.now ≡ N.board) × (seat.old.board ≡ N.board) }
+        requires board { (board.now ≡ N.board) × (seat.old.board ≡ N.board) }
+        requires may { MayOpen seat.old }
         ensures book { self.new.slots.keeper.book ≡ self.old.slots.keeper.book }
         ensures seat { seat.new ≡ record seat.old {
           book = self.old.slots.keeper.book;
           moments = seat.new.moments;
+          openings = seat.new.openings;
         } }
+        ensures given { OnOk result (seat.new.openings ≡ seat.old.openings + 1) }
+        ensures none { OnErr result (seat.new.openings ≡ seat.old.openings) }
         ensures seats { self.new.seats ≡ self.old.seats }
         ensures later { Extends seat.new.book seat.old.book }
         ensures opened { IfOk result (λ o.
@@ -195,15 +205,15 @@ impl<N: Named> ServerState<N> {
         ensures err { OnErr result (SameButKnown self.old.slots self.new.slots) }
 
         // The first refusal that fits and no other, or the lowest free slot, by the keeper whose
-        // moment the seat has noted.
+        // moment the seat has recorded.
         ensures over { (under : SlotsOf) × SameButKnown self.old.slots under
             × IsOpenedOver under N.start seat.old seat.new options.now.port options.now.backlog
             result }
     {
-        self.note(board, seat);
+        self.meet_and_record(board, seat);
         let index = slot_for(&self.slots, self.volume.limit(), options)?;
         let keeper = &self.slots.keeper;
         let (slot, reading) = begin(self.alloc, keeper, &self.volume, predicate, options)?;
-        Ok(settle(board, &mut self.slots, index, slot, reading))
+        Ok(settle(board, &mut self.slots, seat, index, slot, reading))
     }
 }

@@ -1,13 +1,10 @@
-//! What is under the server's lock: the volume, the keeper and the slots. The invariant of
-//! `ServerState` says that they agree. Each call is what a server does in one hold of its lock;
-//! those for a change and for subscriptions are in `change`, `open`, `sync` and `close`.
-ghost use Rattle.std.specs.Prelude.{◌≡◌, ◌+◌, ◌-◌, ◌<◌, ◌≤◌, [], ◌∷◌, ◌++◌, length, IfOk, IfErr, OnOk, OnErr};
-ghost use Rattle.lq_value.specs.declared.refusal.Refusal.TheVariants.{NoSeat};
+//! What is under the server's lock: volume, keeper and slots, which agree. Each call is one hold of
+//! the lock; those for changes and subscriptions are in `apply_change`, `open`, `sync` and `close`.
+ghost use Rattle.std.specs.Prelude.{◌≡◌, ◌+◌, ◌-◌, ◌<◌, [], ◌∷◌, ◌++◌, length, true, OnOk, OnErr};
 ghost use Rattle.lq_volume.specs.Book.{Extends, state_of};
-ghost use Rattle.lq_board.specs.Book.{IsFullBook};
-ghost use Rattle.lq_board.specs.Slot.{slot_at};
 ghost use Rattle.lq_board.specs.Token.{moment_of};
-ghost use Rattle.lq_server_slots.specs.Slots.{SameButKnown, AreConsistent};
+ghost use Rattle.lq_server_slots.specs.Slots.{SameButKnown, IsState, KnowsAsks};
+ghost use Rattle.lq_server_slots.specs.Leading.{GivesSeat};
 ghost use Rattle.lq_server_slots.specs.Own.{StaysOwn};
 
 use crate::identity::Identity;
@@ -33,7 +30,7 @@ pub struct Found {
 /// The volume, the subscriptions and the keeper of N's board.
 ///
 /// A contract sees the slots, with the keeper and its book, the subscriptions and the number of
-/// openings, and how many seats are out.
+/// openings, and how many seats of no slot are out, which the keeper's register counts too.
 pub struct ServerState<N: Named> {
     pub(crate) slots: ServerSlots,
     pub(crate) volume: Volume,
@@ -55,13 +52,10 @@ impl<N: Named> Drop for ServerState<N> {
 }
 
 impl<N: Named> Model for ServerState<N> {
-    ghost use Rattle.std.specs.Prelude.{◌≡◌, ◌≤◌};
     ghost use Rattle.std.specs.Coded.{codes};
-    ghost use Rattle.lq_volume.specs.Book.{state_of};
-    ghost use Rattle.lq_board.specs.Book.{IsFullBook};
     ghost use Rattle.lq_server_slots.specs.contracts.slots.ServerSlots as some_slots;
-    ghost use Rattle.lq_server_slots.specs.Slots.{AreConsistent};
     ghost use Rattle.lq_server_slots.specs.Hold.{LockHold};
+    ghost use Rattle.lq_server_slots.specs.Slots.{IsState};
 
     ghost Value = { LockHold };
 
@@ -69,31 +63,18 @@ impl<N: Named> Model for ServerState<N> {
 
     ghost view = { λ l. record { slots = l.slots; seats = l.seats } };
 
-    ghost invariant = { λ l. (l.slots.keeper.board ≡ N.board)
-        × (l.volume ≡ state_of l.slots.keeper.book)
-        × IsFullBook l.slots.keeper.book
-        × (l.slots.keeper.book.start ≡ N.start)
-        × (l.volume.limit ≡ N.start.limit)
-        × (l.slots.openings ≤ l.volume.limit)
-        × AreConsistent l.slots l.slots.keeper.book
-        × (l.slots.openings ≡ l.slots.keeper.register.openings) };
+    ghost invariant = { λ l. IsState N.board N.start l.slots l.volume l.seats };
 }
 
 impl<N: Named> ServerState<N> {
-    /// The state under the lock of a new server: this many seats are out, and no slot is taken.
+    /// The state under the lock of a new server: this many seats are out.
     pub(crate) fn new(
         alloc: Global,
         slots: ServerSlots,
         volume: Volume,
         seats: u64,
     ) -> ServerState<N>
-        requires board { slots.keeper.board ≡ N.board }
-        requires volume { volume ≡ state_of slots.keeper.book }
-        requires full { IsFullBook slots.keeper.book }
-        requires start { (slots.keeper.book.start ≡ N.start) × (volume.limit ≡ N.start.limit) }
-        requires openings { slots.openings ≡ 0 }
-        requires counted { slots.keeper.register.openings ≡ 0 }
-        requires holding { AreConsistent slots slots.keeper.book }
+        requires { IsState N.board N.start slots volume seats }
         ensures slots { result.slots ≡ slots }
         ensures seats { result.seats ≡ seats }
     {
@@ -113,29 +94,42 @@ impl<N: Named> ServerState<N> {
         &self.volume
     }
 
-    /// A seat that knows the book and made no change. It may make changes where each seat may.
+    /// A seat that knows the book and made no change, and may make changes.
     /// Refused: `NoSeat`, just where 16 seats are out. It takes no memory.
     pub fn seat(&mut self, board: &Board<Identity>) -> Result<Seat<Identity>, Refusal>
-        requires { board.now ≡ N.board }
-        ensures same { SameButKnown self.old.slots self.new.slots }
-        ensures seat { IfOk result (λ seat.
-            (seat.board ≡ N.board) × (seat.slot ≡ 0) × (seat.book ≡ self.old.slots.keeper.book)) }
-        ensures author { IfOk result (λ seat. seat.author.changes ≡ []) }
-        ensures signs { IfOk result (λ seat. seat.author.signs ≡ N.board.free) }
-        ensures start { IfOk result (λ seat. seat.book.start ≡ N.start) }
-        ensures refused { IfErr result (λ e. e ≡ NoSeat) }
-
-        // Just where 16 are out, and one more is out then.
-        ensures out { OnOk result
-            ((self.old.seats < 16) × (self.new.seats ≡ self.old.seats + 1)) }
-        ensures many { OnErr result
-            ((16 ≤ self.old.seats) × (self.new.seats ≡ self.old.seats)) }
+        requires board { board.now ≡ N.board }
+        requires uncounted { N.board.free ≡ true }
+        ensures { GivesSeat N.board N.start self.old self.new result }
     {
         if self.seats >= MAX_SEATS {
             return Err(Refusal::NoSeat);
         }
         self.seats += 1;
         Ok(board.seat(&mut self.slots.keeper))
+    }
+
+    /// As `seat`, made for the leading seat, which counts it and then knows the book. The new seat
+    /// may make changes once it is enlisted.
+    pub fn seat_by(
+        &mut self,
+        board: &Board<Identity>,
+        head: &mut Seat<Identity>,
+    ) -> Result<Seat<Identity>, Refusal>
+        requires board { (board.now ≡ N.board) × (head.old.board ≡ N.board) }
+        requires leads { (head.old.slot ≡ 0) × (head.old.author.leads ≡ true) }
+        ensures gives { GivesSeat N.board N.start self.old self.new result }
+        ensures given { OnOk result (head.new ≡ record head.old {
+          book = self.old.slots.keeper.book;
+          seats = head.old.seats + 1;
+        }) }
+        ensures none { OnErr result (head.new ≡ head.old) }
+        ensures later { Extends head.new.book head.old.book }
+    {
+        if self.seats >= MAX_SEATS {
+            return Err(Refusal::NoSeat);
+        }
+        self.seats += 1;
+        Ok(board.seat_by(&mut self.slots.keeper, head))
     }
 
     /// Takes a seat back, so that another can be given out. It takes no memory.
@@ -157,8 +151,7 @@ impl<N: Named> ServerState<N> {
         ensures same { SameButKnown self.old.slots self.new.slots }
         ensures plain { seat.old.slot ≡ 0 → self.new ≡ self.old }
         ensures seat { seat.new ≡ record seat.old { book = self.old.slots.keeper.book } }
-        ensures known { 0 < seat.old.slot
-            → seat.old.asks ≤ (slot_at self.new.slots.keeper.slots seat.old.slot).asks }
+        ensures known { KnowsAsks self.new.slots.keeper.slots seat.old }
         ensures own { StaysOwn seat.old seat.new }
         ensures later { Extends seat.new.book seat.old.book }
         ensures number { result ≡ length self.old.slots.keeper.book.changes }
@@ -175,8 +168,7 @@ impl<N: Named> ServerState<N> {
         requires { (board.now ≡ N.board) × (seat.old.board ≡ N.board) }
         ensures same { SameButKnown self.old.slots self.new.slots }
         ensures seat { seat.new ≡ record seat.old { book = seat.new.book } }
-        ensures known { 0 < seat.old.slot
-            → seat.old.asks ≤ (slot_at self.new.slots.keeper.slots seat.old.slot).asks }
+        ensures known { KnowsAsks self.new.slots.keeper.slots seat.old }
         ensures later { Extends seat.new.book seat.old.book }
         ensures seats { self.new.seats ≡ self.old.seats }
     {
@@ -185,19 +177,20 @@ impl<N: Named> ServerState<N> {
         }
     }
 
-    /// As `meet`, and the seat notes this moment of the keeper, for contracts alone.
-    pub fn note(&mut self, board: &Board<Identity>, seat: &mut Seat<Identity>)
+    /// As `meet`, and the seat records this moment of the keeper, for contracts alone.
+    pub fn meet_and_record(&mut self, board: &Board<Identity>, seat: &mut Seat<Identity>)
         requires { (board.now ≡ N.board) × (seat.old.board ≡ N.board) }
         ensures same { SameButKnown self.old.slots self.new.slots }
         ensures seat { seat.new ≡ record seat.old {
           book = self.old.slots.keeper.book;
           moments = seat.old.moments ++ moment_of self.new.slots.keeper ∷ [];
         } }
+        ensures known { KnowsAsks self.new.slots.keeper.slots seat.old }
         ensures later { Extends seat.new.book seat.old.book }
         ensures seats { self.new.seats ≡ self.old.seats }
     {
         self.meet(board, seat);
-        board.note(&mut self.slots.keeper, seat);
+        board.record_moment(&mut self.slots.keeper, seat);
     }
 
     /// The keeper and the volume.

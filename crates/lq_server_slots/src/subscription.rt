@@ -93,8 +93,7 @@ pub fn commit(slot: &mut Subscription, change: &Change)
     slot.sub.commit();
 }
 
-/// Commits a change as `commit` does, if the subscription was asked for its messages. For another it
-/// has none, and nothing changes.
+/// As `commit`, where the subscription was asked for messages. Another has none, and stays.
 pub(crate) fn commit_if(slot: &mut Subscription, change: &Change, asked: bool)
     requires few { slot.old.sub.held.sent < 2 ^ 63 }
     requires filled { IsFilled slot.old }
@@ -146,8 +145,7 @@ pub fn notice(slot: &mut Subscription, hang_up_asked: bool, number: u64)
     slot.sub.finish_with(Cause::HungUp, number);
 }
 
-/// Ends the subscription as `Closed` where it is live, and then answers the number of changes,
-/// `number`.
+/// Ends a live subscription as `Closed`, and then answers `number`, the number of changes.
 ///
 /// A subscription that has ended keeps its mark. The answer of the first close is kept in
 /// `first_close`. It takes no memory.

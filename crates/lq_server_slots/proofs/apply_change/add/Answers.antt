@@ -18,8 +18,8 @@ marks old new v h is =
 pub returns-clause-marks : goal.returns-clause-marks
 returns-clause-marks c = marks c.args.slots.now c.prepare.new.slots c.args.volume.now c.requires.stands c.prepare.ensures.marks
 
-pub returns-in_err-prepare-clause-marks : goal.returns-in_err-prepare-clause-marks
-returns-in_err-prepare-clause-marks c = marks c.args.slots.now c.prepare.new.slots c.args.volume.now c.requires.stands c.prepare.ensures.marks
+pub returns-in_err-resolved-clause-marks : goal.returns-in_err-resolved-clause-marks
+returns-in_err-resolved-clause-marks c = marks c.args.slots.now c.prepare.new.slots c.args.volume.now c.requires.stands c.prepare.ensures.marks
 
 pub returns-in_err-applied-clause-marks : goal.returns-in_err-applied-clause-marks
 returns-in_err-applied-clause-marks c = marks c.args.slots.now c.prepare.new.slots c.args.volume.now c.requires.stands c.prepare.ensures.marks
@@ -27,8 +27,8 @@ returns-in_err-applied-clause-marks c = marks c.args.slots.now c.prepare.new.slo
 pub returns-clause-made : goal.returns-clause-made
 returns-clause-made c = search rules
 
-pub returns-in_err-prepare-clause-made : goal.returns-in_err-prepare-clause-made
-returns-in_err-prepare-clause-made c = search rules
+pub returns-in_err-resolved-clause-made : goal.returns-in_err-resolved-clause-made
+returns-in_err-resolved-clause-made c = search rules
 
 pub returns-in_err-applied-clause-made : goal.returns-in_err-applied-clause-made
 returns-in_err-applied-clause-made c = search rules

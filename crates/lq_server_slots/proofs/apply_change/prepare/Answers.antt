@@ -15,7 +15,8 @@ returns-then-is_empty c =
     let old = c.args.slots.now.subscriptions in
     let new = c.notice_all.new.slots.subscriptions in
     record {
-      lawful = c.in_ok-check.ensures.ok;
+      lawful = c.in_ok-resolved.ensures.ok;
+      resolved = c.in_ok-resolved.ensures.value;
       prepared = λ i low is. none_prepared _ c.slots_for.result.word c.taken-taken.result.word _ old
           new c.args.volume.now c.args.change.now c.taken-taken.ensures.taken
           c.intersection-asked.ensures (c.is_empty.ensures.empty c.if-is_empty.true) n.marks i low

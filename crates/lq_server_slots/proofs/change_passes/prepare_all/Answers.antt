@@ -30,6 +30,7 @@ returns-then-full c =
     c.visit.ensures.visits in
     record {
       lawful = tt;
+      resolved = tt;
       prepared = tt;
       noticed = tt;
       keeps = slots_kept-on c.args.slots.now c.notice_all.new.slots c.visit.new.self n.keeps p.0;
@@ -50,6 +51,7 @@ returns c =
     c.visit.ensures.visits in
     record {
       lawful = c.requires.lawful;
+      resolved = c.resolved.ensures;
       prepared = λ i low is. p.2 c.if-full.false i low (rw (c.slots_for-asked.ensures, c.change.ensures) is);
       noticed = p.1;
       keeps = slots_kept-on c.args.slots.now c.notice_all.new.slots c.visit.new.self n.keeps p.0;

@@ -31,7 +31,8 @@ returns-clause-keeps c =
     let book = c.notice_slot.new.keeper.book in
     slots_kept-taken c.args.slots.now m.new.slots u.new.keeper c.in-Some.index.index
     c.in-Some-get_mut.taken.now _
-    (kept_known c.args.slots.now m.new.slots m.ensures.same m.ensures.holding)
+    (kept_known c.args.slots.now m.new.slots m.ensures.same m.ensures.met.keeper.out
+    m.ensures.holding)
     c.in-Some.index.within c.in-Some-get_mut.ensures.value
     (keeps_then _ _ _ _ _ n.keeper u.ensures.keeper (sym at))
     (rw (at, u.ensures.keeper.book)

@@ -1,4 +1,4 @@
-use Rattle.lq_server_slots.proofs.Books.{state_stays}
+use Rattle.lq_server_slots.proofs.UpdateLemmas.{state_stays}
 use Rattle.lq_server_slots.proofs.laws.states_stay.Goals as goal
 
 pub returns : goal.returns

@@ -16,12 +16,12 @@ returns-clause-holding c =
       sub = c.args.slot.sub;
       input = c.args.slot.input;
       places = c.args.slot.places;
-      asks = c.asks-asks.result;
+      asks = c.asks.result;
       last_report = c.args.slot.last_report;
       first_close = c.args.slot.first_close;
     } in
-    let keeper = c.asks-asks.ensures.keeper in
-    let seated = c.sit-seat.ensures.keeper in
+    let keeper = c.asks.ensures.keeper in
+    let seated = c.sit-seat.ensures.out.keeper in
     let book = sym (ap (λ (k : KeeperToken Identity). k.book) seated
     ∙ ap (λ (k : KeeperToken Identity). k.book) keeper) in
     rw c.insert.ensures
@@ -31,9 +31,9 @@ returns-clause-holding c =
       watch = c.set.new.self;
       openings = was.openings + 1;
     })) book
-    (settled was c.asks-asks.new.keeper c.sit-seat.new.keeper index.index c.asks-asks.result s
+    (settled was c.asks.new.keeper c.sit-seat.new.keeper index.index c.asks.result s
     was.keeper.book c.requires.holding index.within c.requires.free
     (rw number at (ap (λ (k : KeeperToken Identity). k.slots) keeper))
-    (rw number at c.asks-asks.ensures.idle) (ap (λ (k : KeeperToken Identity). k.slots) seated) refl
+    (rw number at c.asks.ensures.idle) (ap (λ (k : KeeperToken Identity). k.slots) seated) refl
     b.stands (begun_seen c.args.slot c.args.reading was.keeper.book _ _ _ _ b) b.messages b.live
     c.set.new.self c.set.ensures.here c.set.ensures.others))

@@ -5,4 +5,10 @@ use Rattle.lq_board.proofs.board.Board.add_by.Given as goal
 
 abbrev pub ghosts-added : goal.ghosts-added
 ghosts-added g a =
-    record { slot = 0; name = (sitting_of a.token.me.0).name; change = Some a.change.now }
+    record {
+      slot = 0;
+      name = (sitting_of a.token.me.0).name;
+      change = Some a.change.now;
+      seats = λ n. n;
+      openings = λ n. n;
+    }

@@ -4,4 +4,11 @@ use Rattle.lq_board.specs.View.{sitting_of}
 use Rattle.lq_board.proofs.board.Board.meet.Given as goal
 
 abbrev pub ghosts-met : goal.ghosts-met
-ghosts-met g a = record { slot = 0; name = (sitting_of a.token.me.0).name; change = None }
+ghosts-met g a =
+    record {
+      slot = 0;
+      name = (sitting_of a.token.me.0).name;
+      change = None;
+      seats = λ n. n;
+      openings = λ n. n;
+    }

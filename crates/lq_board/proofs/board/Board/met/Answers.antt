@@ -1,9 +1,8 @@
 -- The seat can come back, the number be read then, and the seat go out again.
 use Rattle.std.proofs.Common.{sym, refl, ◌∙◌, arith}
-use Rattle.lq_board.proofs.JoinLemmas.{back_may}
+use Rattle.lq_board.proofs.TokenLemmas.{back_may, same_table, keeper_table}
 use Rattle.lq_board.proofs.PlayLemmas.{checks}
 use Rattle.lq_board.proofs.SplitLemmas.{is_back, again}
-use Rattle.lq_board.proofs.TokenLemmas.{same_table, keeper_table}
 use Rattle.lq_board.proofs.ViewLemmas.{after}
 use Rattle.lq_board.proofs.board.Board.met.Goals as goal
 
@@ -25,7 +24,8 @@ split_seat-again-requires g c = (
   c.load-number.ensures.0 ∙ c.join_seat.ensures.0
       ∙ keeper_table c.keeper.view_is c.requires.board.0 c.self.view_is,
   omega (arith, c.self.invariant.0),
-  again _ _ _ (c.load-number.ensures.2.0 ∙ c.join_seat.ensures.2)
+  again _ _ g.W.Chosen.seats g.W.Chosen.openings _
+      (c.load-number.ensures.2.0 ∙ c.join_seat.ensures.2)
       (is_back c.keeper.inside.token.me c.args.token.me _ refl c.keeper.invariant.1
       c.requires.number c.requires.slot),
 )

@@ -2,11 +2,9 @@ use Rattle.std.proofs.Common.{◌≡◌, Err, ℕ, length, sym, ap, ◌∙◌, s
 use Rattle.lq_volume.specs.Book.{Book}
 use Rattle.lq_server_slots.specs.Applied.{IsApplied}
 use Rattle.lq_server_slots.specs.Hold.{LockHold}
-use Rattle.lq_server_slots.specs.Slots.{AreConsistent}
-use Rattle.lq_server_slots.proofs.ApplyLemmas.{applied_ok, applied_err}
+use Rattle.lq_server_slots.specs.Slots.{AreConsistent, MarksCover}
+use Rattle.lq_server_slots.proofs.ApplyLemmas.{applied_ok, applied_err, state_changed, state_kept}
 use Rattle.lq_server_slots.proofs.SlotLemmas.{before_is, grown_is}
-use Rattle.lq_server_slots.proofs.StateLemmas.{state_changed, state_kept}
-use Rattle.lq_server_slots.specs.Slots.{MarksCover}
 use Rattle.lq_server_slots.proofs.MarkLemmas.{marks_cover-on}
 use Rattle.lq_server_slots.proofs.server_state.ServerState.apply.Goals as goal
 
@@ -61,10 +59,11 @@ invariant_of-self g c =
     let f = c.commit_all.ensures in
     let k = f.keeper in
     state_changed g.N.Named.board g.N.Named.start c.self.inside.slots c.commit_all.new.slots
-    c.self.inside.volume c.self.invariant c.add.new.volume
+    c.self.inside.volume c.self.inside.seats c.self.invariant c.add.new.volume
     (record {
       board = rw k a.counts.board;
       counted = rw k a.counts.counted;
+      out = rw k a.counts.out;
       openings = f.openings ∙ a.counts.openings;
     })
     (rw k a.volume) (rw k a.full) (rw k a.made.start) a.made.limit f.holding
@@ -73,14 +72,16 @@ pub invariant_of-self-in-Err : goal.invariant_of-self-in-Err
 invariant_of-self-in-Err g c =
     let a = c.in-Err.ensures in
     state_changed g.N.Named.board g.N.Named.start c.self.inside.slots c.add.new.slots
-    c.self.inside.volume c.self.invariant c.add.new.volume a.counts a.volume a.full a.made.start
+    c.self.inside.volume c.self.inside.seats c.self.invariant c.add.new.volume
+    a.counts a.volume a.full a.made.start
     a.made.limit
     (subst (AreConsistent c.add.new.slots) (sym a.made.err) a.holding)
 
 pub invariant_of-self-in-Err-2 : goal.invariant_of-self-in-Err-2
 invariant_of-self-in-Err-2 g c =
     state_kept g.N.Named.board g.N.Named.start c.self-in-Err.inside.slots c.serve_all.new.slots
-    c.self-in-Err.inside.volume c.self-in-Err.invariant c.serve_all.ensures.keeps
+    c.self-in-Err.inside.volume c.self-in-Err.inside.seats
+    c.self-in-Err.invariant c.serve_all.ensures.keeps
 
 pub returns-in-Ok-clause-marks : goal.returns-in-Ok-clause-marks
 returns-in-Ok-clause-marks g c =

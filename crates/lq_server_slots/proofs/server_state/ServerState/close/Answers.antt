@@ -3,13 +3,13 @@ use Rattle.lq_volume.specs.Book.{Book}
 use Rattle.lq_board.specs.Token.{SeatToken}
 use Rattle.lq_server_slots.specs.declared.identity.Identity.{Identity}
 use Rattle.lq_server_slots.specs.Closing.{IsClosed}
-use Rattle.lq_server_slots.proofs.StateLemmas.{state_kept}
+use Rattle.lq_server_slots.proofs.ApplyLemmas.{state_kept}
 use Rattle.lq_server_slots.proofs.server_state.ServerState.close.Goals as goal
 
 pub invariant_of-self : goal.invariant_of-self
 invariant_of-self g c =
     state_kept g.N.Named.board g.N.Named.start c.self.inside.slots c.close_at-closed.new.slots
-    c.self.inside.volume c.self.invariant c.close_at-closed.ensures.keeps
+    c.self.inside.volume c.self.inside.seats c.self.invariant c.close_at-closed.ensures.keeps
 
 -- once closed its seat was `mid`, and the sync was of that
 pub returns-clause-closed : goal.returns-clause-closed

@@ -2,12 +2,12 @@ use Rattle.std.proofs.Common.{None, refl, subst, arith, rules, ◌∙◌, ◌+�
 use Rattle.std.specs.Prelude.{IsSome}
 use Rattle.lq_server_slots.specs.Hold.{LockHold}
 use Rattle.lq_server_slots.specs.Slots.{slot_in}
-use Rattle.lq_server_slots.proofs.StateLemmas.{state_kept}
+use Rattle.lq_server_slots.proofs.ApplyLemmas.{state_kept}
 use Rattle.lq_server_slots.proofs.SyncLemmas.{seat_joined, joined_asks}
 use Rattle.lq_server_slots.proofs.TakenLemmas.{taken_out}
 use Rattle.lq_board.specs.Slot.{slot_at}
 use Rattle.lq_server_slots.proofs.TableLemmas.{in_else, in_here, slots_kept-step, slots_stay}
-use Rattle.lq_server_slots.proofs.server_state.ServerState.free.Goals as goal
+use Rattle.lq_server_slots.proofs.server_state.ServerState.finish.Goals as goal
 
 pub invariant_of-self : goal.invariant_of-self
 invariant_of-self g c =
@@ -21,7 +21,7 @@ invariant_of-self g c =
     let back = seat_joined was.keeper c.join.new.keeper seat.slot seat.asks seat.name f.keeper low
     (omega (arith, at, index.within, i.6.known)) in
     let fits = rw at at (i.6.each index.index index.within) in
-    state_kept g.N.Named.board g.N.Named.start was _ c.self.inside.volume i
+    state_kept g.N.Named.board g.N.Named.start was _ c.self.inside.volume c.self.inside.seats i
     (rw c.remove.ensures.table
     (slots_kept-step was was c.join.new.keeper index.index None (slots_stay was i.6) index.within
     (rw at back.0) (rw (at, back.1) refl)

@@ -2,7 +2,7 @@
 use Rattle.std.proofs.Common.{arith}
 use Rattle.lq_board.proofs.SplitLemmas.{copies}
 use Rattle.lq_board.proofs.TokenLemmas.{keeper_table}
-use Rattle.lq_board.proofs.board.Board.seat.Goals as goal
+use Rattle.lq_board.proofs.board.Board.slotless_seat.Goals as goal
 
 pub split_seat-requires : goal.split_seat-requires
 split_seat-requires g c = (

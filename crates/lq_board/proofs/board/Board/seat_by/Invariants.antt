@@ -1,0 +1,14 @@
+-- The seat keeps its name, and one seat more was made for it.
+use Rattle.std.proofs.Common.{◌+◌, None}
+use Rattle.lq_board.specs.View.{sitting_of}
+use Rattle.lq_board.proofs.board.Board.seat_by.Given as goal
+
+abbrev pub ghosts-met : goal.ghosts-met
+ghosts-met g a =
+    record {
+      slot = 0;
+      name = (sitting_of a.token.me.0).name;
+      change = None;
+      seats = λ n. n + 1;
+      openings = λ n. n;
+    }
