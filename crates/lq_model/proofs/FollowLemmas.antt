@@ -1,12 +1,18 @@
--- A query that was followed: what its reader received, and the volume.
-use Rattle.std.proofs.Common.{◌≡◌, ℕ, ◌<◌, ◌≤◌, Bool, cond, eq-eqb, false, true≢false, List, [], ◌∷◌, length, Option, Some, None, refl, sym, ap, ◌∙◌, subst, arith, length-append}
+-- A query that was followed: what its reader received, and the volume. Two seats: what their book
+-- is.
+use Rattle.std.proofs.Common.{◌≡◌, ⊎_elim, inl, inr, ℕ, ◌-◌, ◌<◌, ◌≤◌, Bool, cond, eq-eqb, false, true≢false, List, [], ◌∷◌, ◌++◌, length, map, take, slice_get, Option, Some, None, Result, Err, refl, sym, ap, ◌∙◌, subst, arith, length-append}
+use Rattle.std.proofs.lemmas.Bool.Decides.{nat_tests}
+use Rattle.std.proofs.lemmas.List.{take-map, take_at}
 use Rattle.std.specs.Prelude.{IsSome, IsSomeAnd}
+use Rattle.lq_value.specs.declared.refusal.Refusal.{Refusal}
+use Rattle.lq_value.specs.declared.refusal.Refusal.TheVariants.{NoMemory}
 use Rattle.lq_predicate.specs.Query.{Query}
 use Rattle.lq_volume.specs.State.{State}
 use Rattle.lq_volume.specs.declared.change.Change.{Change}
 use Rattle.lq_volume.specs.Book.{Book, Extends, state_at}
 use Rattle.lq_volume.specs.Result.{result_of}
-use Rattle.lq_board.specs.Roll.{without_number}
+use Rattle.lq_board.specs.Known.{Author}
+use Rattle.lq_board.specs.Roll.{numbers, without_number}
 use Rattle.lq_board.specs.Token.{BoardName, SeatToken}
 use Rattle.lq_update.specs.Options.{no_values}
 use Rattle.lq_update.specs.declared.mark.Mark.{Mark}
@@ -26,7 +32,9 @@ use Rattle.lq_server.specs.Opened.{IsNewReader}
 use Rattle.lq_server.specs.Syncing.{IsSynced}
 use Rattle.lq_server.specs.Headline.{ReaderIsTold}
 use Rattle.lq_server.specs.Retired.{IsRetired}
-use Rattle.lq_model.specs.Followed.{HasHungUp, IsFollowed}
+use Rattle.lq_server.specs.Counted.{AreMixed, AreRising, HasMadeJust, TwoSeatsMakeTheBook, changes_at}
+use Rattle.lq_model.specs.Followed.{HasHungUp, IsFollowed, AreBothMade, AreGathered, AreRefusedAmid, HasApplied, HasMade, IsRefusedAt}
+use Rattle.lq_model.proofs.MadeLemmas.{AreWithin, all_after, changes_at-later, mixed-map, mixed-swap, mixed_first, mixed_somes, take_less, within_book}
 
 -- a book that goes on from another has no fewer changes
 pub extends_length : (b c : Book) → Extends c b → length b.changes ≤ length c.changes
@@ -36,6 +44,10 @@ extends_length b c e =
 -- nobody is left of a list of one
 pub alone : (k : ℕ) → without_number k (k ∷ []) ≡ []
 alone k = ap (λ (b : Bool). cond b [] (k ∷ [])) (eq-eqb k k refl)
+
+-- nobody is left of a list of two
+pub none_left : (k l : ℕ) → without_number l (without_number k (l ∷ k ∷ [])) ≡ []
+none_left k l = grind (arith, nat_tests)
 
 -- a mark is there, where the test says so
 some_there : (o : Option Mark) → IsSome o → (k : Mark) × (o ≡ Some k)
@@ -138,3 +150,147 @@ followed stay on states start q board begun port backlog first old new x one z c
       made = made;
       first = query.2 ∙ o.opened.opened ∙ none;
     }
+
+-- ---- two seats
+
+-- the numbers of what a seat made, that had made nothing
+own_numbers : (old new : SeatToken Identity) (changes : List Change) → old.author.changes ≡ []
+    → (m : HasMade old new changes) → m.numbers ≡ new.author.changes
+own_numbers old new changes fresh m =
+    sym (ap (λ (a : Author). a.changes) m.author
+    ∙ ap (λ (ns : List ℕ). ns ++ m.numbers) fresh)
+
+-- a seat that had made nothing made just these changes of each book that extends its own
+made_just : (old new : SeatToken Identity) (changes : List Change) (book : Book)
+    → old.author.changes ≡ [] → HasMade old new changes → Extends book new.book
+    → HasMadeJust book new changes
+made_just old new changes book fresh m later =
+    let own = own_numbers old new changes fresh m in
+    record {
+      rise = subst (AreRising 0) own m.rise;
+      made = subst (λ (ns : List ℕ). changes_at book ns ≡ map (λ c. Some c) changes) own
+          (changes_at-later new.book book m.numbers changes later m.made);
+    }
+
+-- what is left where both seats made all
+pub both_made : TwoSeatsMakeTheBook → (start : State) (old one other two : SeatToken Identity)
+    (first second : List Change) (r : Retired) → old.author.changes ≡ []
+    → other.author.changes ≡ [] → HasMade old one first → HasMade other two second
+    → AreGathered start one two r → AreBothMade start first second r
+both_made law start old one other two first second r fresh new f s g =
+    let book : Book = g.retired.book in
+    record {
+      retired = record {
+        book = book;
+        full = g.retired.full;
+        begins = g.retired.begins;
+        later = (
+          book.changes,
+          λ i. record {
+            start = g.retired.begins i;
+            changes = book.changes;
+          },
+        );
+        state = g.retired.state;
+        number = g.retired.number;
+        limit = g.retired.limit;
+      };
+      mixed = (law book one two first second g.gathered g.all
+          (made_just old one first book fresh f g.retired.later)
+          (made_just other two second book new s g.second)
+          g.early g.late (g.whole ∙ ap numbers g.retired.number)).0;
+    }
+
+-- A change was refused after just those before it, mixed with the first of the others: one seat
+-- stopped at it, and all numbers are those of this seat and of another, mixed.
+amid : (start : State) (book : Book) (old one other two : SeatToken Identity)
+    (changes others : List Change) (e : Refusal) (r : Result (Unit {0}) Refusal)
+    → old.author.changes ≡ [] → other.author.changes ≡ [] → old.book.start ≡ start
+    → HasApplied old one changes (Err e) → HasApplied other two others r
+    → Extends book one.book → Extends book two.book
+    → AreMixed one.author.changes two.author.changes (numbers (length book.changes))
+    → AreRefusedAmid start changes others e
+amid start book old one other two changes others e r fresh new begins a b later after mix =
+    let xs : List ℕ = one.author.changes in
+    let ys : List ℕ = two.author.changes in
+    let ns : List ℕ = numbers (length book.changes) in
+    let k : ℕ = length one.book.changes in
+    let most = extends_length one.book book later in
+    let within =
+    subst (AreWithin k) (own_numbers old one (take a.accepted changes) fresh a.made)
+    (within_book one.book a.made.numbers (take a.accepted changes) a.made.made) in
+    let mine = made_just old one (take a.accepted changes) book fresh a.made later in
+    let theirs = made_just other two (take b.accepted others) book new b.made after in
+    let front = mixed_first k (length book.changes) 0 k xs ys (omega arith) most mix
+    within in
+    let less = take_less front.others b.accepted others in
+    let at : ℕ → Option Change = λ (n : ℕ). slice_get book.changes (n - 1) in
+    let they : map at (take front.others ys) ≡ map (λ c. Some c) (take less.0 others) =
+    sym (take-map at front.others ys)
+    ∙ ap (take front.others) theirs.made
+    ∙ take-map (λ (c : Change). Some c) front.others (take b.accepted others)
+    ∙ ap (map (λ (c : Change). Some c)) less.1 in
+    let known : take k book.changes ≡ one.book.changes =
+    ap (λ (c : Book). take k c.changes) later.1 ∙ take_at one.book.changes later.0 k refl in
+    let all : map at (take k ns) ≡ map (λ c. Some c) one.book.changes =
+    sym (take-map at k ns) ∙ ap (take k) (all_after [] book.changes)
+    ∙ take-map (λ (c : Change). Some c) k book.changes
+    ∙ ap (map (λ (c : Change). Some c)) known in
+    let mixed : AreMixed (take a.accepted changes) (take less.0 others) one.book.changes =
+    mixed_somes one.book.changes (take a.accepted changes) (take less.0 others)
+    (subst (λ (l : List (Option Change)). AreMixed l (map (λ c. Some c) (take less.0 others))
+    (map (λ c. Some c) one.book.changes)) mine.made
+    (subst (λ (l : List (Option Change)). AreMixed (map at xs) l
+    (map (λ c. Some c) one.book.changes)) they
+    (subst (λ (l : List (Option Change)). AreMixed (map at xs) (map at (take front.others ys)) l)
+    all (mixed-map at (take k ns) xs (take front.others ys) front.mixed)))) in
+    ⊎_elim (λ (h : e ≡ NoMemory). inl h)
+    (λ (h : IsRefusedAt one.book changes a.accepted e). inr (record {
+      place = a.accepted;
+      number = less.0;
+      book = one.book;
+      begins = a.start ∙ begins;
+      mixed = mixed;
+      refused = h;
+    }))
+    a.err
+
+-- the numbers of both seats are all numbers, mixed
+numbers_mixed : TwoSeatsMakeTheBook → (start : State) (old one other two : SeatToken Identity)
+    (first second : List Change) (z : Retired) → old.author.changes ≡ []
+    → other.author.changes ≡ [] → HasMade old one first → HasMade other two second
+    → (g : AreGathered start one two z)
+    → AreMixed one.author.changes two.author.changes (numbers (length g.retired.book.changes))
+numbers_mixed law start old one other two first second z fresh new f s g =
+    let book : Book = g.retired.book in
+    let all : g.all ≡ numbers (length book.changes) = g.whole ∙ ap numbers g.retired.number in
+    subst (λ (ns : List ℕ). AreMixed one.author.changes two.author.changes ns) all
+    (law book one two first second g.gathered g.all
+    (made_just old one first book fresh f g.retired.later)
+    (made_just other two second book new s g.second) g.early g.late all).1
+
+-- a change of the first seat was refused amid those of both
+pub first_amid : TwoSeatsMakeTheBook → (start : State) (old one other two : SeatToken Identity)
+    (first second : List Change) (e : Refusal) (r : Result (Unit {0}) Refusal) (z : Retired)
+    → old.author.changes ≡ [] → other.author.changes ≡ [] → old.book.start ≡ start
+    → HasApplied old one first (Err e) → HasApplied other two second r
+    → AreGathered start one two z → AreRefusedAmid start first second e
+first_amid law start old one other two first second e r z fresh new begins a b g =
+    amid start g.retired.book old one other two first second e r fresh new begins a b
+    g.retired.later g.second
+    (numbers_mixed law start old one other two (take a.accepted first) (take b.accepted second) z
+    fresh new a.made b.made g)
+
+-- a change of the second seat was
+pub second_amid : TwoSeatsMakeTheBook → (start : State) (old one other two : SeatToken Identity)
+    (first second : List Change) (e : Refusal) (r : Result (Unit {0}) Refusal) (z : Retired)
+    → old.author.changes ≡ [] → other.author.changes ≡ [] → other.book.start ≡ start
+    → HasApplied old one first r → HasApplied other two second (Err e)
+    → AreGathered start one two z → AreRefusedAmid start second first e
+second_amid law start old one other two first second e r z fresh new begins a b g =
+    let book : Book = g.retired.book in
+    amid start book other two old one second first e r new fresh begins b a g.second
+    g.retired.later
+    (mixed-swap (numbers (length book.changes)) one.author.changes two.author.changes
+    (numbers_mixed law start old one other two (take a.accepted first) (take b.accepted second) z
+    fresh new a.made b.made g))

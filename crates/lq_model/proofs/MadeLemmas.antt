@@ -16,7 +16,8 @@ use Rattle.lq_board.specs.Token.{SeatToken}
 use Rattle.lq_server_slots.specs.declared.identity.Identity.{Identity}
 use Rattle.lq_server_slots.specs.Applied.{IsAdded}
 use Rattle.lq_server_slots.specs.Slots.{before_of}
-use Rattle.lq_model.specs.Followed.{book_of, changes_at, AreRefused, HasApplied, HasMade, HasStopped, IsRefusedAt}
+use Rattle.lq_server.specs.Counted.{AreMixed, AreRising, changes_at}
+use Rattle.lq_model.specs.Followed.{book_of, AreRefused, HasApplied, HasMade, HasStopped, IsRefusedAt}
 
 -- what stands at a place of a list stands there when more is added at its end
 slice_get-before : (xs ys : List Change) (i : ℕ) (c : Change) → slice_get xs i ≡ Some c
@@ -31,7 +32,7 @@ slice_get-after [] ys c = refl
 slice_get-after (x ∷ xs) ys c = slice_get-after xs ys c
 
 -- the changes of a book under all its numbers are all its changes, where some come before
-all_after : (front xs : List Change)
+pub all_after : (front xs : List Change)
     → map (λ n. slice_get (front ++ xs) (n - 1)) (numbers_after (length front) (length xs))
     ≡ map (λ c. Some c) xs
 all_after front [] = refl
@@ -76,7 +77,7 @@ somes_same (x ∷ xs) (y ∷ ys) h =
     (somes_same xs ys (tail_same _ _ _ _ h))
 
 -- changes that a book has under some numbers are those of each book that extends it
-changes_at-later : (b c : Book) (numbers : List ℕ) (changes : List Change) → Extends c b
+pub changes_at-later : (b c : Book) (numbers : List ℕ) (changes : List Change) → Extends c b
     → changes_at b numbers ≡ map (λ x. Some x) changes
     → changes_at c numbers ≡ map (λ x. Some x) changes
 changes_at-later b c [] [] e h = refl
@@ -106,6 +107,34 @@ added_at old new a c d =
     (subst (λ (n : ℕ). slice_get (before ++ c ∷ []) n ≡ Some c) (omega (arith, long))
     (slice_get-after before [] c))
 
+-- what stands at a place of a list is within it
+get_within : (xs : List Change) (i : ℕ) (c : Change) → slice_get xs i ≡ Some c → i < length xs
+get_within [] i c h = cc
+get_within (x ∷ xs) zero c h = omega arith
+get_within (x ∷ xs) (suc i) c h = let lt = get_within xs i c h in omega arith
+
+-- none of these numbers is above n
+abbrev pub AreWithin : ℕ → List ℕ → Type 0
+AreWithin n [] = Unit {0}
+AreWithin n (x ∷ xs) = (x ≤ n) × AreWithin n xs
+
+-- the numbers that a book has a change for are no more than it has changes
+pub within_book : (b : Book) (ns : List ℕ) (changes : List Change)
+    → changes_at b ns ≡ map (λ c. Some c) changes → AreWithin (length b.changes) ns
+within_book b [] changes h = tt
+within_book b (n ∷ ns) [] h = cc
+within_book b (n ∷ ns) (c ∷ changes) h =
+    let lt = get_within b.changes (n - 1) c (head_same _ _ _ _ h) in
+    (omega (arith, lt), within_book b ns changes (tail_same _ _ _ _ h))
+
+-- numbers rise, also with one above all of them
+rises_more : (n m k : ℕ) (ns : List ℕ) → AreRising n ns → AreWithin m ns → n < k → m < k
+    → AreRising n (ns ++ k ∷ [])
+rises_more n m k [] rise within low above = (low, tt)
+rises_more n m k (x ∷ ns) rise within low above =
+    let here = within.0 in
+    (rise.0, rises_more x m k ns rise.1 within.1 (omega (arith, here, above)) above)
+
 -- an author with other changes
 abbrev with_changes : Author → List ℕ → Author
 with_changes a changes = record a { changes = changes }
@@ -116,6 +145,10 @@ pub made_more : (old mid new : SeatToken Identity) (changes : List Change) (a : 
     → IsAdded mid.book new.book a c → HasMade old new (changes ++ c ∷ [])
 made_more old mid new changes a c m author added = record {
   numbers = m.numbers ++ a.change ∷ [];
+  rise =
+      let above = added.above in
+      rises_more 0 (length mid.book.changes) a.change m.numbers m.rise
+      (within_book mid.book m.numbers changes m.made) (omega (arith, above)) above;
   author =
       author
       ∙ ap (λ (x : Author). with_change x a.change) m.author
@@ -144,12 +177,6 @@ made_all old new met changes book n fresh m stays later all number =
     (sym own ∙ all ∙ ap numbers number)
     (changes_at-later new.book book m.numbers changes later m.made) in
     somes_same book.changes changes (sym (all_after [] book.changes) ∙ each)
-
--- what stands at a place of a list is within it
-get_within : (xs : List Change) (i : ℕ) (c : Change) → slice_get xs i ≡ Some c → i < length xs
-get_within [] i c h = cc
-get_within (x ∷ xs) zero c h = omega arith
-get_within (x ∷ xs) (suc i) c h = let lt = get_within xs i c h in omega arith
 
 -- what is read at a place of a list stands there
 pub get_here : (xs : List Change) (i : ℕ) (d : Change) → i < length xs
@@ -222,6 +249,7 @@ pub made_still : (old mid new : SeatToken Identity) (changes : List Change)
     → HasMade old new changes
 made_still old mid new changes m author later = record {
   numbers = m.numbers;
+  rise = m.rise;
   author = author ∙ m.author;
   made = changes_at-later mid.book new.book m.numbers changes later m.made;
 }
@@ -248,3 +276,114 @@ has_stopped old new start changes e fresh begins a =
       begins = a.start ∙ begins;
       refused = a.err;
     }
+
+-- ---- lists that are mixed
+
+-- lists mixed are mixed at each of their values
+pub mixed-map : {A B : Type 0} → (f : A → B) (zs xs ys : List A) → AreMixed xs ys zs
+    → AreMixed (map f xs) (map f ys) (map f zs)
+mixed-map f [] xs ys m = (ap (map f) m.0, ap (map f) m.1)
+mixed-map f (z ∷ zs) xs ys m =
+    elim m [
+      | inl h ↦ inl (map f h.0, ap (map f) h.1, mixed-map f zs h.0 ys h.2)
+      | inr h ↦ inr (map f h.0, ap (map f) h.1, mixed-map f zs xs h.0 h.2)
+    ]
+
+-- what is there of a list that begins with what is there
+record IsSomeRest {T : Type 0} (xs : List T) (z : T) (rest : List (Option T)) : Type 0 where
+  pub tail : List T
+  pub whole : xs ≡ z ∷ tail
+  pub same : rest ≡ map (λ x. Some x) tail
+
+some_rest : {T : Type 0} → (xs : List T) (z : T) (rest : List (Option T))
+    → map (λ x. Some x) xs ≡ Some z ∷ rest → IsSomeRest xs z rest
+some_rest [] z rest h = cc
+some_rest (x ∷ xs) z rest h = record { tail = xs; whole = cc; same = cc }
+
+-- no list of what is there is empty but the empty one
+some_none : {T : Type 0} → (xs : List T) → map (λ x. Some x) xs ≡ [] → xs ≡ []
+some_none [] h = refl
+some_none (x ∷ xs) h = cc
+
+-- lists are mixed, where those of what is there are
+pub mixed_somes : {T : Type 0} → (zs xs ys : List T)
+    → AreMixed (map (λ x. Some x) xs) (map (λ x. Some x) ys) (map (λ x. Some x) zs)
+    → AreMixed xs ys zs
+mixed_somes [] xs ys m = (some_none xs m.0, some_none ys m.1)
+mixed_somes {T = T} (z ∷ zs) xs ys m =
+    elim m [
+      | inl h ↦
+          let r = some_rest xs z h.0 h.1 in
+          inl (
+            r.tail,
+            r.whole,
+            mixed_somes zs r.tail ys (subst (λ (l : List (Option T)).
+                AreMixed l (map (λ x. Some x) ys) (map (λ x. Some x) zs)) r.same h.2),
+          )
+      | inr h ↦
+          let r = some_rest ys z h.0 h.1 in
+          inr (
+            r.tail,
+            r.whole,
+            mixed_somes zs xs r.tail (subst (λ (l : List (Option T)).
+                AreMixed (map (λ x. Some x) xs) l (map (λ x. Some x) zs)) r.same h.2),
+          )
+    ]
+
+-- the lists may be taken the other way round
+pub mixed-swap : {T : Type 0} → (zs xs ys : List T) → AreMixed xs ys zs → AreMixed ys xs zs
+mixed-swap [] xs ys m = (m.1, m.0)
+mixed-swap (z ∷ zs) xs ys m =
+    elim m [
+      | inl h ↦ inr (h.0, h.1, mixed-swap zs h.0 ys h.2)
+      | inr h ↦ inl (h.0, h.1, mixed-swap zs xs h.0 h.2)
+    ]
+
+-- none of some numbers, mixed with others to the next after m, is m or less
+none_within : (n m l : ℕ) (xs ys : List ℕ) → m ≤ l → AreMixed xs ys (numbers_after l n)
+    → AreWithin m xs → xs ≡ []
+none_within n m l [] ys le mix within = refl
+none_within zero m l (x ∷ xs) ys le mix within = mix.0
+none_within (suc n) m l (x ∷ xs) ys le mix within =
+    elim mix [
+      | inl h ↦
+          let low = within.0 in
+          let same : x ≡ l + 1 = cc in
+          absurd (omega arith)
+      | inr h ↦ none_within n m (l + 1) (x ∷ xs) h.0 (omega arith) h.2 within
+    ]
+
+-- Where one of two lists that are mixed to numbers has none above the first k of them, all of it
+-- and the first of the other are mixed to those.
+pub record AreMixedFirst (xs ys zs : List ℕ) (k : ℕ) : Type 0 where
+  pub others : ℕ
+  pub mixed : AreMixed xs (take others ys) (take k zs)
+
+pub mixed_first : (k n m l : ℕ) (xs ys : List ℕ) → l ≡ m + k → k ≤ n
+    → AreMixed xs ys (numbers_after m n) → AreWithin l xs
+    → AreMixedFirst xs ys (numbers_after m n) k
+mixed_first zero n m l xs ys is le mix within =
+    record { others = 0; mixed = (none_within n l m xs ys (omega arith) mix within, refl) }
+mixed_first (suc k) zero m l xs ys is le mix within = absurd (omega arith)
+mixed_first (suc k) (suc n) m l xs ys is le mix within =
+    elim mix [
+      | inl h ↦
+          let on = subst (AreWithin l) h.1 within in
+          let r = mixed_first k n (m + 1) l h.0 ys (omega arith) (omega arith) h.2 on.1 in
+          record { others = r.others; mixed = inl (h.0, h.1, r.mixed) }
+      | inr h ↦
+          let r = mixed_first k n (m + 1) l xs h.0 (omega arith) (omega arith) h.2 within in
+          record {
+            others = suc r.others;
+            mixed = inr (take r.others h.0, ap (take (suc r.others)) h.1, r.mixed);
+          }
+    ]
+
+-- the first of the first are the first
+pub take_less : (m n : ℕ) (xs : List Change) → (k : ℕ) × (take m (take n xs) ≡ take k xs)
+take_less zero n xs = (0, refl)
+take_less (suc m) zero xs = (0, refl)
+take_less (suc m) (suc n) [] = (0, refl)
+take_less (suc m) (suc n) (x ∷ xs) =
+    let r = take_less m n xs in
+    (suc r.0, ap (λ (l : List Change). x ∷ l) r.1)

@@ -1,7 +1,7 @@
--- What is left after a query was followed, or why it isn't.
-use Rattle.std.specs.Prelude.{◌≡◌, ◌⊎◌, ℕ, ◌+◌, ◌-◌, ◌≤◌, List, ◌++◌, true, false, length, map, take, slice_get, Option, Some, IsSome, Result, OnOk, IfErr}
+-- What is left after a query was followed, or after two threads made changes, or why it isn't.
+use Rattle.std.specs.Prelude.{◌≡◌, ◌⊎◌, ℕ, ◌+◌, ◌≤◌, List, [], ◌++◌, true, false, length, map, take, slice_get, Some, IsSome, Result, OnOk, IfErr}
 use Rattle.lq_value.specs.declared.refusal.Refusal.{Refusal}
-use Rattle.lq_value.specs.declared.refusal.Refusal.TheVariants.{NoMemory, Exhausted}
+use Rattle.lq_value.specs.declared.refusal.Refusal.TheVariants.{NoMemory, NoSeat, Exhausted}
 use Rattle.lq_predicate.specs.Query.{Query}
 use Rattle.lq_volume.specs.State.{State}
 use Rattle.lq_volume.specs.declared.change.Change.{Change}
@@ -9,6 +9,7 @@ use Rattle.lq_volume.specs.Change.{refused}
 use Rattle.lq_volume.specs.Book.{Book, Extends, state_at, state_of}
 use Rattle.lq_volume.specs.Result.{result_of}
 use Rattle.lq_board.specs.Book.{IsFullBook}
+use Rattle.lq_board.specs.Roll.{IsMerged, numbers}
 use Rattle.lq_board.specs.Token.{SeatToken}
 use Rattle.lq_update.specs.declared.mark.Mark.{Mark}
 use Rattle.lq_update.specs.Options.{no_values}
@@ -18,7 +19,9 @@ use Rattle.lq_server_slots.specs.Rule.{query_of}
 use Rattle.lq_server_slots.specs.Reading.{known_book, received, mark_read}
 use Rattle.lq_server_slots.specs.Hold.{ReaderHold}
 use Rattle.lq_server_slots.specs.Own.{IsOwn}
+use Rattle.lq_server.specs.Counted.{AreMixed, AreRising, changes_at}
 use Rattle.lq_server.specs.Retired.{IsRetired}
+use Rattle.lq_server.specs.declared.server.Retired.{Retired}
 use Rattle.lq_model.specs.declared.model.Followed.{Followed}
 
 -- a reader of the same subscription, at the same server
@@ -33,14 +36,11 @@ pub record HasHungUp (old new : ReaderHold) : Type 0 where
   pub asked : new.hang_up_asked ≡ true
   pub marked : IsSome (mark_read new.reading)
 
--- the changes of a book that have these numbers
-abbrev pub changes_at : Book → List ℕ → List (Option Change)
-changes_at book numbers = map (λ n. slice_get book.changes (n - 1)) numbers
-
 -- A seat made these changes, in this order, and no others: they are new ones among its own, and the
 -- book that it then knows has them.
 pub record HasMade (old new : SeatToken Identity) (changes : List Change) : Type 0 where
   pub numbers : List ℕ
+  pub rise : AreRising 0 numbers
   pub author : new.author
       ≡ record old.author { changes = old.author.changes ++ numbers }
   pub made : changes_at new.book numbers ≡ map (λ c. Some c) changes
@@ -122,3 +122,40 @@ pub record HasStopped (seat : SeatToken Identity) (start : State) (changes : Lis
       ≡ map (λ c. Some c) (take accepted changes)
   pub begins : seat.book.start ≡ start
   pub refused : (e ≡ NoMemory) ⊎ IsRefusedAt seat.book changes accepted e
+
+-- What is left after two lists of changes were made, each by a seat: the volume is the state after
+-- one lawful book, from the first volume on, whose changes are just the two lists mixed, each in
+-- its order.
+pub record AreBothMade (start : State) (first second : List Change) (r : Retired) : Type 0 where
+  pub retired : IsRetired start (book_of start []) r.volume r.changes
+  pub mixed : AreMixed first second retired.book.changes
+
+-- The change at a place of the first list is refused so after a book, from the first volume on, of
+-- just the changes before it, mixed with the first of the other list, each in its order.
+pub record IsRefusedAmid (start : State) (changes others : List Change) (e : Refusal) : Type 0 where
+  pub place : ℕ
+  pub number : ℕ
+  pub book : Book
+  pub begins : book.start ≡ start
+  pub mixed : AreMixed (take place changes) (take number others) book.changes
+  pub refused : IsRefusedAt book changes place e
+
+-- memory is wanting, or one change of the first list is refused so
+abbrev pub AreRefusedAmid : State → List Change → List Change → Refusal → Type 0
+AreRefusedAmid start changes others e = (e ≡ NoMemory) ⊎ IsRefusedAmid start changes others e
+
+-- no seat is free, or memory is wanting, or one change of either list is refused so
+abbrev pub IsPairRefused : State → List Change → List Change → Refusal → Type 0
+IsPairRefused start first second e =
+    (e ≡ NoSeat) ⊎ (AreRefusedAmid start first second e ⊎ AreRefusedAmid start second first e)
+
+-- Two seats were dismissed, no others made a change, and this is left: a book that extends what
+-- both knew, whose changes have just the numbers of theirs.
+pub record AreGathered (start : State) (one two : SeatToken Identity) (r : Retired) : Type 0 where
+  pub retired : IsRetired start one.book r.volume r.changes
+  pub second : Extends retired.book two.book
+  pub gathered : List ℕ
+  pub all : List ℕ
+  pub early : IsMerged [] one.author.changes gathered
+  pub late : IsMerged gathered two.author.changes all
+  pub whole : all ≡ numbers r.changes

@@ -130,16 +130,16 @@ fn gather<N: Named, R: Wait>(
 
 // What is left of a work that makes changes: its seat, and why a change was refused.
 #[derive(Drop)]
-struct Applied {
-    seat: Seat<Identity>,
-    result: Result<(), Refusal>,
+pub(crate) struct Applied {
+    pub(crate) seat: Seat<Identity>,
+    pub(crate) result: Result<(), Refusal>,
 }
 
 // The work of one thread: it makes changes.
 #[derive(Drop)]
-struct Applies<'a> {
-    seat: Seat<Identity>,
-    changes: &'a [Change],
+pub(crate) struct Applies<'a> {
+    pub(crate) seat: Seat<Identity>,
+    pub(crate) changes: &'a [Change],
 }
 
 impl<'a> Work for Applies<'a> {

@@ -1,5 +1,5 @@
--- Read ParcelLemmas, then SyncLemmas; OwnLemmas, then HeadlineLemmas and LawLemmas; CallLemmas,
--- MadeLemmas and Crossing stand alone.
+-- Read ParcelLemmas, then SyncLemmas; OwnLemmas, then HeadlineLemmas and LawLemmas; MadeLemmas,
+-- then CallLemmas; Crossing stands alone.
 pub mod ParcelLemmas
 pub mod SyncLemmas
 pub mod OwnLemmas

@@ -14,7 +14,7 @@ use Rattle.lq_server_slots.specs.Applied.{IsAdded}
 use Rattle.lq_server.specs.Made.{MakesMore, state_before}
 
 -- what comes after a list stands at its length
-slice_get-after : (xs ys : List Change) (c : Change) → slice_get (xs ++ c ∷ ys) (length xs) ≡ Some c
+pub slice_get-after : (xs ys : List Change) (c : Change) → slice_get (xs ++ c ∷ ys) (length xs) ≡ Some c
 slice_get-after [] ys c = refl
 slice_get-after (x ∷ xs) ys c = slice_get-after xs ys c
 
@@ -37,8 +37,9 @@ pub made_book : (a b : SeatToken Identity) → b ≡ record a { book = b.book } 
     → MakesMore a b []
 made_book a b same later = made_none a b (ap (λ (s : SeatToken Identity). s.author) same) later
 
--- or with other moments
-pub made_moments : (a b : SeatToken Identity) → b ≡ record a { book = b.book; moments = b.moments }
+-- or with other moments, and with readers made for it
+pub made_moments : (a b : SeatToken Identity)
+    → b ≡ record a { book = b.book; moments = b.moments; openings = b.openings }
     → Extends b.book a.book → MakesMore a b []
 made_moments a b same later = made_none a b (ap (λ (s : SeatToken Identity). s.author) same) later
 

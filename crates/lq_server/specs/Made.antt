@@ -26,3 +26,7 @@ pub record MakesMore (old new : SeatToken Identity) (made : List Applied) : Type
       ≡ record old.author { changes = old.author.changes ++ map (λ a. a.change) made }
   pub later : Extends new.book old.book
   pub each : AllByRecursion (IsChangeOf new.book) made
+
+-- no seat and no reader was made for it
+abbrev pub NoneMadeFor : SeatToken Identity → SeatToken Identity → Type 0
+NoneMadeFor old new = (new.seats ≡ old.seats) × (new.openings ≡ old.openings)

@@ -1,6 +1,6 @@
 //! The laws of readers and of threads, as contracts of functions that do nothing.
 ghost use Rattle.std.specs.Thread.{IsSend, IsSync};
-ghost use Rattle.lq_server.specs.Counted.{CallsMakeTheBook};
+ghost use Rattle.lq_server.specs.Counted.{CallsMakeTheBook, TwoSeatsMakeTheBook};
 ghost use Rattle.lq_server.specs.Headline.{AnswersAreTold};
 ghost use Rattle.lq_server.specs.Laws.{FirstClosesAreRefusedLate, WaitingReadsAnswer};
 ghost use Rattle.lq_server.specs.contracts.server.Server as servers;
@@ -44,6 +44,14 @@ pub fn first_closes_are_refused_late()
 /// The leading seat of a counted server knows that they were, from `dismiss` and `retire`.
 pub fn calls_make_the_book()
     ensures { CallsMakeTheBook }
+{}
+
+/// The book of a counted server is just the changes of two seats, mixed: each seat's in its order.
+///
+/// It takes two seats that made these changes and were dismissed, and a leading seat that has
+/// gathered the numbers of all changes from them alone, as `dismiss` and `retire` say.
+pub fn two_seats_make_the_book()
+    ensures { TwoSeatsMakeTheBook }
 {}
 
 /// Threads may share a server, whatever its name.

@@ -1,9 +1,9 @@
 //! A seat that holds the preconditions of a server's calls as invariants, so that its own calls
 //! require little. Clauses say which changes it makes.
-ghost use Rattle.std.specs.Prelude.{◌≡◌, [], ◌∷◌, length, IfOk, IfErr, OnOk, OnErr, IfSome, IfNone, Some, None, Err, true, unwrap_or};
+ghost use Rattle.std.specs.Prelude.{◌≡◌, ◌+◌, [], ◌∷◌, length, IfOk, IfErr, OnOk, OnErr, IfSome, IfNone, Some, None, Err, true, unwrap_or};
 ghost use Rattle.lq_value.specs.declared.refusal.Refusal.TheVariants.{NoMemory};
 ghost use Rattle.lq_value.specs.Refusal.{FailsOnlyForMemory, IsRefusedBy, first_refusal};
-ghost use Rattle.lq_volume.specs.Book.{state_of};
+ghost use Rattle.lq_volume.specs.Book.{Extends, state_of};
 ghost use Rattle.lq_volume.specs.Change.{refused};
 ghost use Rattle.lq_volume.specs.Lookup.{entry_refusals, find_refusals, listed};
 ghost use Rattle.lq_volume.specs.Result.{result_of};
@@ -13,7 +13,7 @@ ghost use Rattle.lq_board.specs.Author.{leader, with_roll};
 ghost use Rattle.lq_board.specs.Roll.{numbers};
 ghost use Rattle.lq_server_slots.specs.Applied.{IsAdded};
 ghost use Rattle.lq_server_slots.specs.Opening.{IsOpeningRefused, size_refusal};
-ghost use Rattle.lq_server.specs.Made.{MakesMore};
+ghost use Rattle.lq_server.specs.Made.{MakesMore, NoneMadeFor};
 ghost use Rattle.lq_server.specs.Opened.{IsNewReader};
 ghost use Rattle.lq_server.specs.Retired.{IsRetired};
 
@@ -59,19 +59,24 @@ impl<N: Named> Model for OwnSeat<N> {
 }
 
 impl<N: Named> OwnSeat<N> {
-    /// A seat of this counted server, which its leading seat enlists. Refused as `Server::seat` is.
+    /// A seat of this counted server, made for its leading seat, which enlists it. Refused as
+    /// `Server::seat_by` is.
     pub fn new<R: Wait>(rt: &R, server: &Server<N>, head: &mut Seat) -> Result<OwnSeat<N>, Refusal>
         requires board { head.old.board ≡ N.board }
         requires slot { head.old.slot ≡ 0 }
         requires leads { head.old.author.leads ≡ true }
         ensures fresh { IfOk result (λ seat. seat.author.changes ≡ []) }
+        ensures counts { IfOk result (λ seat. (seat.seats ≡ 0) × (seat.openings ≡ 0)) }
         ensures head { IfOk result (λ seat. head.new ≡ record head.old {
+          book = head.new.book;
+          seats = head.old.seats + 1;
           author = with_roll head.old.author
               (seat.author.number ∷ head.old.author.enlisted) head.old.author.gathered;
         }) }
         ensures err { OnErr result (head.new ≡ head.old) }
+        ensures later { Extends head.new.book head.old.book }
     {
-        let mut seat = server.seat(rt)?;
+        let mut seat = server.seat_by(rt, head)?;
         server.enlist(head, &mut seat);
         Ok(OwnSeat {
             seat,
@@ -88,6 +93,7 @@ impl<N: Named> OwnSeat<N> {
     ) -> Result<Applied, Refusal>
         ensures made { IfOk result (λ a. MakesMore self.old self.new (a ∷ [])) }
         ensures err { OnErr result (MakesMore self.old self.new []) }
+        ensures counts { NoneMadeFor self.old self.new }
         ensures added { IfOk result (λ a. IsAdded self.old.book self.new.book a change.now) }
         ensures refused { IfErr result (λ e.
             e ≡ unwrap_or (refused (state_of self.new.book) change.now) NoMemory) }
@@ -107,6 +113,9 @@ impl<N: Named> OwnSeat<N> {
         moved: bool,
     ) -> Result<OwnReader<N>, Refusal>
         ensures made { MakesMore self.old self.new [] }
+        ensures seats { self.new.seats ≡ self.old.seats }
+        ensures one { OnOk result (self.new.openings ≡ self.old.openings + 1) }
+        ensures none { OnErr result (self.new.openings ≡ self.old.openings) }
         ensures opened { IfOk result (λ r.
             IsNewReader r N.board self.new.book predicate.now (no_values moved) port backlog) }
         ensures refused { IfSome (size_refusal port backlog) (λ e. result ≡ Err e) }
@@ -127,6 +136,9 @@ impl<N: Named> OwnSeat<N> {
         options: &OpenOptions,
     ) -> Result<OwnReader<N>, Refusal>
         ensures made { MakesMore self.old self.new [] }
+        ensures seats { self.new.seats ≡ self.old.seats }
+        ensures one { OnOk result (self.new.openings ≡ self.old.openings + 1) }
+        ensures none { OnErr result (self.new.openings ≡ self.old.openings) }
         ensures opened { IfOk result (λ r. IsNewReader r N.board self.new.book predicate.now
             options.now.flags options.now.port options.now.backlog) }
         ensures refused { IfSome (size_refusal options.now.port options.now.backlog) (λ e.
@@ -150,6 +162,7 @@ impl<N: Named> OwnSeat<N> {
         predicate: &Predicate,
     ) -> Result<Found, Refusal>
         ensures made { MakesMore self.old self.new [] }
+        ensures counts { NoneMadeFor self.old self.new }
         ensures at { IfOk result (λ found. found.at ≡ length self.new.book.changes) }
         ensures entries { IfOk result (λ found.
             found.entries.items ≡ result_of predicate.now (state_of self.new.book)) }
@@ -168,6 +181,7 @@ impl<N: Named> OwnSeat<N> {
         name: &Name,
     ) -> Result<u64, Refusal>
         ensures made { MakesMore self.old self.new [] }
+        ensures counts { NoneMadeFor self.old self.new }
         ensures value { IfOk result (λ node.
             node_in (state_of self.new.book).records dir name.now ≡ Some node) }
         ensures ok { OnOk result
@@ -187,6 +201,7 @@ impl<N: Named> OwnSeat<N> {
         node: u64,
     ) -> Result<Listing, Refusal>
         ensures made { MakesMore self.old self.new [] }
+        ensures counts { NoneMadeFor self.old self.new }
         ensures value { IfOk result (λ listing.
             record_at (state_of self.new.book) node ≡ Some (listed listing)) }
         ensures refused { IsRefusedBy result

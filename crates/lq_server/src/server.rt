@@ -1,6 +1,6 @@
 //! The server: the state under its lock, and the board, which threads read without the lock. Here
 //! are its beginning, its seats and its end.
-ghost use Rattle.std.specs.Prelude.{◌≡◌, ◌≢◌, [], ◌∷◌, length, IfOk, IfErr, true, false};
+ghost use Rattle.std.specs.Prelude.{◌≡◌, ◌≢◌, ◌+◌, [], ◌∷◌, IfOk, IfErr, OnOk, OnErr, true, false};
 ghost use Rattle.lq_value.specs.declared.refusal.Refusal.TheVariants.{NoSeat};
 ghost use Rattle.lq_volume.specs.Book.{Extends};
 ghost use Rattle.lq_board.specs.Author.{AreDisjoint, IsWhole, with_roll, with_signs};
@@ -161,13 +161,15 @@ impl<N: Named> Server<N> {
         self.board.dismiss(head, other);
     }
 
-    /// A seat of no slot, which made no change. Its book begins with the volume of the base.
+    /// A seat of no slot, which made no change and may make changes. Its book begins with the
+    /// volume of the base.
     ///
-    /// It may make changes where each seat of the server may, else once it is enlisted. It knows
-    /// the changes so far, but no clause of this call says so. Refused: `NoSeat`, just where 16
-    /// seats are out: a clause of the call under the lock says so, since this call is given no seat
-    /// that could know it. A dropped seat still counts as out. It takes no memory.
+    /// The server is one made by `new`: a counted one gives seats by `seat_by`. The seat knows the
+    /// changes so far, but no clause of this call says so. Refused: `NoSeat`, just where 16 seats
+    /// are out: a clause of the call under the lock says so, since this call is given no seat that
+    /// could know it. A dropped seat still counts as out. It takes no memory.
     pub fn seat<R: Wait>(&self, rt: &R) -> Result<Seat, Refusal>
+        requires uncounted { N.board.free ≡ true }
         ensures seat { IfOk result (λ seat. (seat.board ≡ N.board) × (seat.slot ≡ 0)) }
         ensures author { IfOk result (λ seat. seat.author.changes ≡ []) }
         ensures signs { IfOk result (λ seat. seat.author.signs ≡ N.board.free) }
@@ -177,43 +179,34 @@ impl<N: Named> Server<N> {
         self.state.lock(rt).seat(&self.board)
     }
 
+    /// As `seat`, made for the leading seat of a counted server, which counts it (`seats`) and then
+    /// knows the changes so far. The new seat may make changes once it is enlisted.
+    pub fn seat_by<R: Wait>(&self, rt: &R, head: &mut Seat) -> Result<Seat, Refusal>
+        requires board { head.old.board ≡ N.board }
+        requires slot { head.old.slot ≡ 0 }
+        requires leads { head.old.author.leads ≡ true }
+        ensures seat { IfOk result (λ seat. (seat.board ≡ N.board) × (seat.slot ≡ 0)) }
+        ensures author { IfOk result (λ seat. seat.author.changes ≡ []) }
+        ensures signs { IfOk result (λ seat. seat.author.signs ≡ N.board.free) }
+        ensures counts { IfOk result (λ seat. (seat.seats ≡ 0) × (seat.openings ≡ 0)) }
+        ensures start { IfOk result (λ seat. seat.book.start ≡ N.start) }
+        ensures refused { IfErr result (λ e. e ≡ NoSeat) }
+        ensures given { OnOk result (head.new ≡ record head.old {
+          book = head.new.book;
+          seats = head.old.seats + 1;
+        }) }
+        ensures none { OnErr result (head.new ≡ head.old) }
+        ensures later { Extends head.new.book head.old.book }
+    {
+        self.state.lock(rt).seat_by(&self.board, head)
+    }
+
     /// Takes a seat back. It takes no memory. That another can then be given out is a clause of the
     /// call under the lock.
     pub fn give_back<R: Wait>(&self, rt: &R, seat: Seat)
         requires { (seat.board ≡ N.board) × (seat.slot ≡ 0) }
     {
         self.state.lock(rt).give_back(&self.board, seat);
-    }
-
-    /// The number of changes in a book that the seat then knows, which extends what it knew.
-    ///
-    /// Where it leads and none is enlisted, it has gathered all their numbers. It takes no lock.
-    pub fn latest(&self, seat: &mut Seat) -> u64
-        requires { seat.old.board ≡ N.board }
-        ensures same { seat.new ≡ record seat.old { book = seat.new.book } }
-        ensures own { StaysOwn seat.old seat.new }
-        ensures later { Extends seat.new.book seat.old.book }
-        ensures number { result ≡ length seat.new.book.changes }
-        ensures whole { IsWhole seat.new.author result }
-    {
-        self.board.latest(seat)
-    }
-
-    /// The number of changes in one book, which both seats then know. Either may be a reader's
-    /// seat.
-    pub fn meet<R: Wait>(&self, rt: &R, one: &mut Seat, two: &mut Seat) -> u64
-        requires boards { (one.old.board ≡ N.board) × (two.old.board ≡ N.board) }
-        ensures one { one.new ≡ record one.old { book = one.new.book } }
-        ensures two { two.new ≡ record two.old { book = two.new.book } }
-        ensures own { StaysOwn one.old one.new × StaysOwn two.old two.new }
-        ensures same { one.new.book ≡ two.new.book }
-        ensures first { Extends one.new.book one.old.book }
-        ensures second { Extends two.new.book two.old.book }
-        ensures number { result ≡ length one.new.book.changes }
-    {
-        let mut locked = self.state.lock(rt);
-        locked.meet(&self.board, one);
-        locked.meet(&self.board, two)
     }
 
     /// Compares two seats, for contracts alone: they share no change. The second may be a reader's.

@@ -1,15 +1,16 @@
 //! Calls of a server on its subscriptions: each is opened, synced, closed and finished here.
-ghost use Rattle.std.specs.Prelude.{◌≡◌, ◌+◌, ◌-◌, ◌<◌, ◌^◌, [], IfOk, IfErr, IfSome, IfNone, OnOk, Err, is_some, true, false};
+ghost use Rattle.std.specs.Prelude.{◌≡◌, ◌+◌, ◌-◌, ◌<◌, ◌^◌, [], IfOk, IfErr, IfSome, IfNone, OnOk, OnErr, Err, is_some, true, false};
 ghost use Rattle.lq_value.specs.declared.refusal.Refusal.TheVariants.{StillOpen};
 ghost use Rattle.lq_value.specs.Refusal.{IsRefusedBy};
 ghost use Rattle.lq_volume.specs.Book.{Extends};
 ghost use Rattle.lq_update.specs.Options.{no_values};
-ghost use Rattle.lq_board.specs.Token.{counted_board};
+ghost use Rattle.lq_board.specs.Token.{MayOpen, counted_board};
 ghost use Rattle.lq_server_slots.specs.Reading.{is_marked};
 ghost use Rattle.lq_server_slots.specs.Opening.{IsOpeningRefused, size_refusal};
 ghost use Rattle.lq_server.specs.declared.server.Synced.{Synced as SyncedOf};
 ghost use Rattle.lq_server_slots.specs.declared.slots.ServerSlots.{ServerSlots as SlotsOf};
 ghost use Rattle.lq_server.specs.Closed.{IsCloseAnswer};
+ghost use Rattle.lq_server.specs.Counted.{leading_callers};
 ghost use Rattle.lq_server_slots.specs.Leading.{leading_seat};
 ghost use Rattle.lq_server.specs.Opened.{IsAnsweredOver, IsNewReader, first_opening_refusal};
 ghost use Rattle.lq_server_slots.specs.Own.{IsOwn, StaysOwn};
@@ -32,8 +33,8 @@ pub struct Callers {
 }
 
 impl<N: Named> Server<N> {
-    /// As `counted`, with a seat besides (both are of the 16, as the code says), and with the reader
-    /// of a live query that this seat opens first of all.
+    /// As `counted`, with a seat besides (both are of the 16, as the code says), and with the
+    /// reader of a live query. Both are made for the leading seat, which counts them.
     ///
     /// The numbers are as in `open`. No other caller has the server yet, so no other seat and no
     /// slot is taken. Refused, the first that fits: `BadPort`, `BadBacklog`, `Exhausted` where the
@@ -46,7 +47,8 @@ impl<N: Named> Server<N> {
         moved: bool,
     ) -> Result<(Server<N>, Callers), Refusal>
         requires { (N.board ≡ counted_board base.board) × (base.volume ≡ N.start) }
-        ensures head { IfOk result (λ r. r.1.head ≡ leading_seat N.board N.start) }
+        ensures head { IfOk result (λ r.
+            r.1.head ≡ leading_callers N.board N.start r.1.head.moments) }
         ensures seat { IfOk result (λ r. (r.1.seat.board ≡ N.board) × (r.1.seat.slot ≡ 0)) }
         ensures author { IfOk result (λ r. r.1.seat.author.changes ≡ []) }
         ensures signs { IfOk result (λ r. r.1.seat.author.signs ≡ false) }
@@ -56,13 +58,13 @@ impl<N: Named> Server<N> {
             (no_values moved) port backlog) }
         ensures refused { IsRefusedBy result (first_opening_refusal N.start port backlog) }
     {
-        let (board, mut locked, head) = base.into_counted();
+        let (board, mut locked, mut head) = base.into_counted();
         // The leading seat alone is out, so this one isn't refused.
-        let Ok(mut seat) = locked.seat(&board) else {
+        let Ok(seat) = locked.seat_by(&board, &mut head) else {
             unreachable!()
         };
         let options = OpenOptions::without_values(port, backlog, moved);
-        let opened = locked.open(&board, &mut seat, predicate, &options)?;
+        let opened = locked.open(&board, &mut head, predicate, &options)?;
         let reader = Reader {
             reading: opened.reading,
             seat: opened.seat,
@@ -70,19 +72,18 @@ impl<N: Named> Server<N> {
             hang_up_asked: false,
         };
         let state = Mutex::new(locked);
-        let server = Server { state, board };
-        Ok((server, Callers { head, seat, reader }))
+        Ok((Server { state, board }, Callers { head, seat, reader }))
     }
 
     /// Opens a live query in the lowest free slot.
     ///
     /// The port has `port` places, 1 to 1,024. At most `backlog` messages are held before it, up to
     /// 65,536. With `moved`, one message reports a move of an entry that matches before and after
-    /// it. There are no messages of values, which `open_by` can ask for. The seat then knows the
-    /// book that the reader begins with, and has noted which slots were out and how many openings
-    /// there were. Refused, the first that fits by what it has noted: `BadPort`, `BadBacklog`,
-    /// `NoSlot` where 64 are taken, `Exhausted` where the openings have reached the volume's limit on
-    /// changes, `NoMemory`.
+    /// it. Messages of values are for `open_by` to ask for. The seat has to be one that may make
+    /// changes, or leads. It counts the reader (`openings`), then knows the book that the reader
+    /// begins with, and has recorded which slots were out and how many openings there were. Refused
+    /// by what it has recorded, the first that fits: `BadPort`, `BadBacklog`, `NoSlot` where 64 are
+    /// taken, `Exhausted` where the openings have reached the limit on changes, `NoMemory`.
     pub fn open<R: Wait>(
         &self,
         rt: &R,
@@ -92,22 +93,24 @@ impl<N: Named> Server<N> {
         backlog: u64,
         moved: bool,
     ) -> Result<Reader, Refusal>
-        requires { seat.old.board ≡ N.board }
+        requires board { seat.old.board ≡ N.board }
+        requires may { MayOpen seat.old }
         ensures seat { seat.new ≡ record seat.old {
           book = seat.new.book;
           moments = seat.new.moments;
+          openings = seat.new.openings;
         } }
+        ensures made { OnOk result (seat.new.openings ≡ seat.old.openings + 1) }
+        ensures none { OnErr result (seat.new.openings ≡ seat.old.openings) }
         ensures own { StaysOwn seat.old seat.new }
         ensures later { Extends seat.new.book seat.old.book }
         ensures opened { IfOk result (λ r.
             IsNewReader r N.board seat.new.book predicate.now (no_values moved) port backlog) }
-
-        // The numbers are checked first, by their bounds alone.
         ensures refused { IfSome (size_refusal port backlog) (λ e. result ≡ Err e) }
         ensures others { IfNone (size_refusal port backlog) (IfErr result IsOpeningRefused) }
 
         // The first that fits and no other, by the slots that stood under the lock in this call:
-        // the seat has noted their keeper, also where it is refused.
+        // the seat has recorded their keeper, also where it is refused.
         ensures table { (under : SlotsOf)
             × IsAnsweredOver under N.start seat.old seat.new port backlog result }
     {
@@ -124,24 +127,23 @@ impl<N: Named> Server<N> {
         predicate: &Predicate,
         options: &OpenOptions,
     ) -> Result<Reader, Refusal>
-        requires { seat.old.board ≡ N.board }
+        requires board { seat.old.board ≡ N.board }
+        requires may { MayOpen seat.old }
         ensures seat { seat.new ≡ record seat.old {
           book = seat.new.book;
           moments = seat.new.moments;
+          openings = seat.new.openings;
         } }
+        ensures made { OnOk result (seat.new.openings ≡ seat.old.openings + 1) }
+        ensures none { OnErr result (seat.new.openings ≡ seat.old.openings) }
         ensures own { StaysOwn seat.old seat.new }
         ensures later { Extends seat.new.book seat.old.book }
         ensures opened { IfOk result (λ r. IsNewReader r N.board seat.new.book predicate.now
             options.now.flags options.now.port options.now.backlog) }
-
-        // The numbers are checked first, by their bounds alone.
         ensures refused { IfSome (size_refusal options.now.port options.now.backlog) (λ e.
             result ≡ Err e) }
         ensures others { IfNone (size_refusal options.now.port options.now.backlog)
             (IfErr result IsOpeningRefused) }
-
-        // The first that fits and no other, by the slots that stood under the lock in this call:
-        // the seat has noted their keeper, also where it is refused.
         ensures table { (under : SlotsOf) × IsAnsweredOver under N.start seat.old seat.new
             options.now.port options.now.backlog result }
     {
@@ -211,8 +213,8 @@ impl<N: Named> Server<N> {
     /// Takes the reader back, and frees its slot.
     ///
     /// Refused: `StillOpen` just where its mark wasn't read; the reader then comes back as it was.
-    /// It takes no memory. No clause of this call says that the slot is free then, since a caller
-    /// sees no slots: a clause of the call under the lock does, and tests open a query in it.
+    /// It takes no memory. That the slot is free then is a clause of the call under the lock, since
+    /// a caller sees no slots; tests open a query in it.
     pub fn finish<R: Wait>(&self, rt: &R, reader: Reader) -> Result<(), (Reader, Refusal)>
         requires board { reader.seat.board ≡ N.board }
         requires own { IsOwn reader }
@@ -228,7 +230,7 @@ impl<N: Named> Server<N> {
             hang_up_asked,
             ..
         } = reader;
-        self.state.lock(rt).free(&self.board, seat, hang_up_asked);
+        self.state.lock(rt).finish(&self.board, seat, hang_up_asked);
         Ok(())
     }
 }

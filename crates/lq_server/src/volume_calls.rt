@@ -1,4 +1,4 @@
-//! Calls of a server on its volume: a change, and three ways to read.
+//! Calls of a server on its volume: a change, ways to read, and the number of changes.
 ghost use Rattle.std.specs.Prelude.{◌≡◌, length, true, IfOk, IfErr, OnOk, OnErr, None, Some, unwrap_or};
 ghost use Rattle.lq_value.specs.declared.refusal.Refusal.TheVariants.{NoMemory};
 ghost use Rattle.lq_value.specs.Refusal.{FailsOnlyForMemory, IsRefusedBy, first_refusal};
@@ -7,7 +7,7 @@ ghost use Rattle.lq_volume.specs.Change.{refused};
 ghost use Rattle.lq_volume.specs.Result.{result_of};
 ghost use Rattle.lq_volume.specs.State.{record_at, node_in};
 ghost use Rattle.lq_volume.specs.Lookup.{find_refusals, entry_refusals, listed};
-ghost use Rattle.lq_board.specs.Author.{with_change};
+ghost use Rattle.lq_board.specs.Author.{IsWhole, with_change};
 ghost use Rattle.lq_server_slots.specs.Applied.{IsAdded};
 ghost use Rattle.lq_server_slots.specs.Own.{StaysOwn};
 
@@ -23,11 +23,12 @@ impl<N: Named> Server<N> {
     ///
     /// The seat has to be one that may make changes: any of a server made by `new`, of a counted
     /// one an enlisted seat. It then knows a book that ends with this change, under the number that
-    /// the call answers, and has this number among those of its own changes. Refused as
-    /// `Volume::apply` is after the book that the seat then knows, or `NoMemory`. A subscription
-    /// whose reader hung up before ends, even where it is refused. No clause of this call says what
-    /// becomes of the subscriptions, or that a refused change leaves the volume as it was: clauses
-    /// of `ServerState::apply` do, for the requests that its keeper knows of.
+    /// the call answers, and has this number among those of its own changes. No seat and no reader
+    /// is made for it. Refused as `Volume::apply` is after the book that the seat then knows, or
+    /// `NoMemory`. A subscription whose reader hung up before ends, even where it is refused. No
+    /// clause of this call says what becomes of the subscriptions, or that a refused change leaves
+    /// the volume as it was: clauses of `ServerState::apply` do, for the requests that its keeper
+    /// knows of.
     pub fn apply<R: Wait>(
         &self,
         rt: &R,
@@ -122,5 +123,36 @@ impl<N: Named> Server<N> {
         let mut locked = self.state.lock(rt);
         locked.meet(&self.board, seat);
         locked.volume().listing(node)
+    }
+
+    /// The number of changes in a book that the seat then knows, which extends what it knew.
+    ///
+    /// Where it leads and none is enlisted, it has gathered all their numbers. It takes no lock.
+    pub fn latest(&self, seat: &mut Seat) -> u64
+        requires { seat.old.board ≡ N.board }
+        ensures same { seat.new ≡ record seat.old { book = seat.new.book } }
+        ensures own { StaysOwn seat.old seat.new }
+        ensures later { Extends seat.new.book seat.old.book }
+        ensures number { result ≡ length seat.new.book.changes }
+        ensures whole { IsWhole seat.new.author result }
+    {
+        self.board.latest(seat)
+    }
+
+    /// The number of changes in one book, which both seats then know. Either may be a reader's
+    /// seat.
+    pub fn meet<R: Wait>(&self, rt: &R, one: &mut Seat, two: &mut Seat) -> u64
+        requires boards { (one.old.board ≡ N.board) × (two.old.board ≡ N.board) }
+        ensures one { one.new ≡ record one.old { book = one.new.book } }
+        ensures two { two.new ≡ record two.old { book = two.new.book } }
+        ensures own { StaysOwn one.old one.new × StaysOwn two.old two.new }
+        ensures same { one.new.book ≡ two.new.book }
+        ensures first { Extends one.new.book one.old.book }
+        ensures second { Extends two.new.book two.old.book }
+        ensures number { result ≡ length one.new.book.changes }
+    {
+        let mut locked = self.state.lock(rt);
+        locked.meet(&self.board, one);
+        locked.meet(&self.board, two)
     }
 }
