@@ -121,7 +121,8 @@ made_before a b h o m =
 -- lines that change no book
 pub answers_quiet : (a b : OwnToken) (asked : List Asked) (replies : List Response)
     → MakesMore a b []
-    → (KnowsOwn a → HasMadeAll b → (s : Session) → s.core.book ≡ b.book → AreReplies s asked replies)
+    → (KnowsOwn a → HasMadeAll b → (s : Session) → s.core.book ≡ b.book
+    → AreReplies s asked replies)
     → ((s : Session) → (after_asked s asked).core.book ≡ s.core.book)
     → Answers a b asked [] replies
 answers_quiet a b asked replies h replied leaves = record {

@@ -156,7 +156,8 @@ carries_wait a b u slot seat written waits slots = record {
   made = subst (λ (s : OwnToken). MakesMore a.seat s []) (sym seat) (made_same a.seat);
   took = took_same a b written waits;
   stops = (refl, refl);
-  replied = subst (λ (s : OwnToken). Replies (asked_reads (slot ∷ [])) (Ok u) [] a.seat s a.slots b.slots)
+  replied = subst (λ (s : OwnToken).
+      Replies (asked_reads (slot ∷ [])) (Ok u) [] a.seat s a.slots b.slots)
       (sym seat) (replied_waits u a.seat a.slots b.slots slot slots);
 }
 

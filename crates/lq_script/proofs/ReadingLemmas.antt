@@ -1,25 +1,24 @@
 -- What a run has read, from what its reads gave.
-use Rattle.std.proofs.Common.{◌≡◌, ℕ, ◌+◌, List, [], ◌∷◌, ◌++◌, map, take, drop, get_or, Option, Some, None, Bool, true, false, Result, Ok, Err, refl, sym, ap, ◌∙◌, subst, append_assoc, append-nil, length}
+use Rattle.std.proofs.Common.{◌≡◌, ℕ, ◌+◌, List, [], ◌∷◌, ◌++◌, map, take, drop, get_or, Option, Bool, true, false, Result, Ok, Err, refl, sym, ap, ◌∙◌, subst, append_assoc, append-nil, length, take-append-drop}
 use Rattle.std.proofs.lemmas.List.{drop_more, map-append}
 use Rattle.std.proofs.KnownBytes.{Consumes-kept, Consumes-trans}
 use Rattle.std.specs.Io.KnownBytes.{Consumes}
 use Rattle.std.specs.Prelude.{nat_lt, if◌then◌else◌}
-use Rattle.memchr.specs.Find.{IsFirstByte, is_byte}
 use mathlib.Core.List.{IsPrefix}
 use Rattle.lq_script_lines.specs.declared.intake.Intake.{Intake}
 use Rattle.lq_script_lines.specs.Lines.{long, ended_lines, given_line, line_of, lines_of, without_cr}
 use Rattle.lq_script_lines.specs.Outcome.{log_of_reader}
-use Rattle.lq_script_lines.proofs.ProgressLemmas.{given_rest}
 use Rattle.lq_script_lines.specs.declared.run_fault.RunFault.{RunFault}
 use Rattle.lq_script_lines.specs.declared.run_fault.RunFault.TheVariants.{Read, Write, Limit, Memory, Thread}
 use Rattle.lq_script.specs.Asked.{Asked, asked_by, asked_by_all, asked_in, asked_of}
 use Rattle.lq_script.specs.Input.{GoesOn, Hands, ReadsOn, StopsReading}
 use Rattle.lq_script.specs.Reading.{HasReadAfter, HasReadAll, HasReadSome}
-use Rattle.lq_script.proofs.InputLemmas.{cut_all, ended_front, first_cut, given_all, given_of, none_cut}
+use Rattle.lq_script.proofs.InputLemmas.{cut_all, ended_front, given_all, given_of}
 
 -- ---- what lines ask that were handed on
 
-given_asked : (bytes : List ℕ) → map asked_by (given_of (given_line bytes)) ≡ asked_of (given_line bytes)
+given_asked : (bytes : List ℕ)
+    → map asked_by (given_of (given_line bytes)) ≡ asked_of (given_line bytes)
 given_asked [] = refl
 given_asked (b ∷ bytes) = refl
 
@@ -54,7 +53,8 @@ front_asked given more =
       sym (asked_append (ended_lines given) front.0) ∙ ap asked_in (sym front.1),
     )
 
-pub front_alone : (given : List ℕ) → IsPrefix (asked_in (ended_lines given)) (asked_in (lines_of given))
+pub front_alone : (given : List ℕ)
+    → IsPrefix (asked_in (ended_lines given)) (asked_in (lines_of given))
 front_alone given =
     subst (λ (l : List ℕ). IsPrefix (asked_in (ended_lines given)) (asked_in (lines_of l)))
     (append-nil given) (front_asked given [])
@@ -72,12 +72,17 @@ hands_asked {from} {to} {text} h =
 
 -- ---- what was read
 
-module _ (given : List ℕ) (left left' left'' : Option (List ℕ)) (consumed : Consumes left left' given)
-    (failed : Bool) (text : List ℕ) where
+-- what has come with a part of a piece, and the rest of it
+given_rest : (given xs : List ℕ) (i : ℕ) → (given ++ take i xs) ++ drop i xs ≡ given ++ xs
+given_rest given xs i = rw (append_assoc, take-append-drop)
+
+module _ (given : List ℕ) (left left' left'' : Option (List ℕ))
+    (consumed : Consumes left left' given) (failed : Bool) (text : List ℕ) where
   -- the lines of a part of a piece are first ones
   part_read : (piece : List ℕ) (count : ℕ) → Consumes left' left'' piece
       → Hands (ended_lines given) (ended_lines (given ++ take count piece)) [] text
-      → HasReadSome (log_of_reader left left'' failed) (asked_in (ended_lines given) ++ asked_by_all text)
+      → HasReadSome (log_of_reader left left'' failed)
+      (asked_in (ended_lines given) ++ asked_by_all text)
   part_read piece count more hands = record {
     given = given ++ piece;
     consumed = Consumes-trans left left' left'' given piece consumed more;
@@ -177,10 +182,11 @@ goes_on false given left left' failed intake handed text same is reads =
 -- ---- the lines of a text, one after another
 
 -- the first line of a text, and the rest
-pub first_asked : (text : List ℕ) (count : ℕ) → IsFirstByte (is_byte 10) text (Some count)
+pub first_asked : (text : List ℕ) (count : ℕ)
+    → ended_lines text ≡ take count text ∷ ended_lines (drop (count + 1) text)
     → asked_by_all text ≡ asked_by (take count text) ∷ asked_by_all (drop (count + 1) text)
-first_asked text count first = ap (λ (l : List (List ℕ)). map asked_by l) (first_cut text count first)
+first_asked text count first = ap (λ (l : List (List ℕ)). map asked_by l) first
 
 -- a text without LF has no line
-pub none_asked : (text : List ℕ) → IsFirstByte (is_byte 10) text None → asked_by_all text ≡ []
-none_asked text none = ap (λ (l : List (List ℕ)). map asked_by l) (none_cut text none)
+pub none_asked : (text : List ℕ) → ended_lines text ≡ [] → asked_by_all text ≡ []
+none_asked text none = ap (λ (l : List (List ℕ)). map asked_by l) none

@@ -20,7 +20,7 @@ pub record HasMadeAll (s : SeatToken Identity) : Type 0 where
   pub lawful : IsBook s.book
   pub first : s.book.start.number ≡ 0
 
--- Where at the end all changes that the seat knows are its own, these are those of a script's lines:
+-- If at the end all changes that the seat knows are its own, these are those of a script's lines:
 -- with a session whose book the seat knew before, the lines `done` have these replies, and after
 -- them and `next` the session's book is the one that the seat then knows.
 pub record Answers (old new : SeatToken Identity) (done next : List Asked)
@@ -39,7 +39,7 @@ pub record AnswersRefusal (old new : SeatToken Identity) (a : Asked) (e : Refusa
 
 -- ---- lines that were carried out
 
--- Where these lines succeeded, all have a reply, but for the reads that wait. After a fault one line
+-- If these lines succeeded, all have a reply, but for the reads that wait. After a fault one line
 -- at most was carried out without one.
 abbrev pub Leaves : Result (Unit {0}) RunFault → List Asked → List Asked → List ℕ → Type 0
 Leaves (Ok done) next more slots = (next ≡ []) × (more ≡ asked_reads slots)

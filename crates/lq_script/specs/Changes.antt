@@ -65,7 +65,7 @@ LeavesUntold (Err fault) untold rest = LeavesAfter fault untold rest
 
 -- All changes of this book are those that a run's replies tell, in order, and `untold` at the end.
 -- What was written is the text of these replies, but for `rest` at its end. They are the replies to
--- the lines that were read, and the book has the changes that these lines ask and the volume accepts.
+-- the lines that were read. The book has the changes that these lines ask and the volume accepts.
 pub record TellsAllOf (book : Book) (result : Result (Unit {0}) RunFault) (reader : ReaderLog)
     (written written' : Option (List ℕ)) : Type 0 where
   pub replies : List Response

@@ -1,11 +1,11 @@
--- What has come of an input, and the bytes by which its lines are handed on.
-use Rattle.std.specs.Prelude.{◌≡◌, ◌<◌, ◌≤◌, ℕ, List, [], ◌∷◌, ◌++◌, length, take, Bool, true, false, Option, None, Result, Ok, Err, get_or}
+-- The bytes by which the lines of an input are handed on, and what a read hands on.
+use Rattle.std.specs.Prelude.{◌≡◌, ◌<◌, ◌≤◌, ℕ, List, [], ◌∷◌, ◌++◌, length, take, Bool, true, false, Option, Result, Ok, Err, get_or}
 use Rattle.std.specs.Io.KnownBytes.{Consumes, IsAtEnd, Keeps}
 use Rattle.std.specs.List.{AllByRecursion}
 use Rattle.lq_script_lines.specs.declared.intake.Intake.{Intake}
-use Rattle.lq_script_lines.specs.Lines.{IsUnbroken, Line, long, empty, whole, Rules, ended_lines, line_of, lines_of}
+use Rattle.lq_script_lines.specs.Lines.{IsUnbroken, Line, long, empty, whole, ended_lines, line_of, lines_of}
 use Rattle.lq_script_lines.specs.Output.{IsWithinInput}
-use Rattle.lq_script_lines.specs.Progress.{RunStands}
+use Rattle.lq_script_lines.specs.Progress.{HasCome}
 use Rattle.lq_script_lines.specs.declared.run_fault.RunFault.{RunFault}
 use Rattle.lq_script_lines.specs.declared.run_fault.RunFault.TheVariants.{Read, Write, Limit, Memory, Thread}
 
@@ -29,18 +29,6 @@ pub record Hands (from to : List (List ℕ)) (old new : List ℕ) : Type 0 where
   pub split : to ≡ from ++ lines
   pub unbroken : AllByRecursion IsUnbroken lines
   pub text : new ≡ old ++ handed_all lines
-
--- ---- what has come
-
--- rules by which nothing is written
-abbrev pub quiet : Rules (Unit {0})
-quiet = record { reply = λ state line. []; after = λ state line. state; long = [] }
-
--- these bytes have come, and are within the limits: their lines and their bytes are counted, and the
--- line in progress is kept
-abbrev pub HasCome : List ℕ → Intake → Type 0
-HasCome given intake =
-    RunStands quiet (record { state = tt; written = None }) given None tt intake []
 
 -- the lines that LF ended in later bytes were handed on
 abbrev pub HandsEnded : List ℕ → List ℕ → List ℕ → List ℕ → Type 0

@@ -70,8 +70,8 @@ pub record Carries (asked : List Asked) (result : Result (Unit {0}) RunFault)
 -- ---- the end of a run
 
 -- the replies of a run by this seat
-pub record AnswersRun (result : Result (Unit {0}) RunFault) (asked : List Asked) (old new : OwnToken)
-    (replies : List Response) : Type 0 where
+pub record AnswersRun (result : Result (Unit {0}) RunFault) (asked : List Asked)
+    (old new : OwnToken) (replies : List Response) : Type 0 where
   pub done : List Asked
   pub next : List Asked
   pub more : List Asked

@@ -14,8 +14,8 @@ use std::thread::Threads;
 
 /// Does what the program's arguments, `words`, ask for, and answers the exit status.
 ///
-/// `run` carries out the reader's script by `run`, `threads` by `run_threads` with an open gate, and
-/// is what that ensures. `check FORMULA` writes its canonical text and LF; a formula
+/// `run` carries out the reader's script by `run`, `threads` by `run_threads` with an open gate, as
+/// that ensures. `check FORMULA` writes its canonical text and LF; a formula
 /// that begins with `-` has to follow `--`. Status 0: done. 1: a `RunFault`, a writer's fault in
 /// `check`, or no memory, with one line on `faults`. 2: a refused formula, with `lq: BadQuery at P`
 /// there, or other arguments, with `lq: usage`. A fault there is ignored. It may wait, so what is

@@ -1,4 +1,4 @@
-//! Reads of several slots, side by side. Clauses say only that each has a reply that tells no change.
+//! Reads of several slots, side by side. Contracts say only that no reply to them reports a change.
 ghost use Rattle.std.specs.Prelude.{◌≡◌, [], length, IfOk, OnOk, OnErr};
 ghost use Rattle.std.specs.Thread.{IsSend};
 ghost use Rattle.lq_script_desk.specs.Answer.{response_of};

@@ -1,18 +1,11 @@
 //! The whole lines of an input, a piece at a time.
-ghost use Rattle.std.specs.Prelude.{◌≡◌, ◌≢◌, ◌+◌, ◌++◌, ◌<◌, ◌≤◌, ℕ, List, [], ◌∷◌, length, drop, take, slice_index, false, IfErr, IsErrOf, IsOk, OnOk, OnErr, ◌⊎◌};
-ghost use Rattle.lq_script_lines.specs.Lines.{IsUnbroken};
-ghost use Rattle.lq_script.specs.Input.{HandsEnded, HandsPart, HasCome, PassesIn, ReadsOn};
+ghost use Rattle.std.specs.Prelude.{◌≡◌, ◌≢◌, ◌++◌, ℕ, List, [], IfErr, IsErrOf, OnOk, ◌⊎◌};
+ghost use Rattle.lq_script_lines.specs.Progress.{HasCome};
+ghost use Rattle.lq_script.specs.Input.{HandsEnded, HandsPart, PassesIn, ReadsOn};
 
-use lq_script_lines::{BLOCK, Intake, LF, Responder, RunFault, Source};
+use lq_script_lines::{BLOCK, Intake, Responder, RunFault, Source, lines_grow, run_at};
 use lq_value::Refusal;
-use memchr::memchr;
 use std::alloc::Global;
-
-/// The most lines of an input.
-const MAX_LINES: u64 = 10_000_000;
-
-/// The most bytes of an input.
-const MAX_BYTES: u64 = 1_073_741_824;
 
 /// Cuts each piece of the input into the lines that end in it.
 #[derive(Drop)]
@@ -24,10 +17,7 @@ pub struct Lines {
 impl Lines {
     /// Nothing was read.
     pub fn new(alloc: Global) -> Lines
-        ensures line { result.intake.line.items ≡ [] }
-        ensures long { result.intake.long ≡ false }
-        ensures lines { result.intake.lines ≡ 0 }
-        ensures bytes { result.intake.bytes ≡ 0 }
+        ensures { HasCome [] result.intake }
     {
         Lines {
             intake: Intake::new(alloc),
@@ -52,6 +42,8 @@ impl Lines {
         };
         if count == 0 {
             self.intake.answer(&mut Echo, &mut self.given)?;
+            // For the proof: which line is the last one of an input.
+            lines_grow();
             return Ok(false);
         }
         self.take(&block[..count])?;
@@ -80,16 +72,18 @@ impl Lines {
             → HandsPart given piece.now self.old.given.items self.new.given.items }
         ensures fault { IfErr result (λ e. (e ≡ RunFault.Limit) ⊎ (e ≡ RunFault.Memory)) }
     {
+        // For the proof: which lines end in the piece.
+        lines_grow();
         let mut at = 0;
         while at < piece.len() {
-            if self.intake.lines >= MAX_LINES || self.intake.bytes >= MAX_BYTES {
+            let room = self.intake.room();
+            if room == 0 {
                 return Err(RunFault::Limit);
             }
-            let most = (MAX_BYTES - self.intake.bytes) as usize;
-            let run = run_at(piece, at, most);
+            let run = run_at(piece, at, room);
             at += run.len();
-            if at < piece.len() && run.len() < most {
-                self.end_line(run)?;
+            if at < piece.len() && run.len() < room {
+                self.intake.end_line(run, &mut Echo, &mut self.given)?;
                 at += 1;
             } else {
                 self.intake.keep(run)?;
@@ -97,45 +91,6 @@ impl Lines {
         }
         Ok(())
     }
-
-    // Ends the line in progress, after these last bytes of it, and hands it on. Refused: `Memory`.
-    fn end_line(&mut self, run: &[u8]) -> Result<(), RunFault>
-        requires lines { self.old.intake.lines < MAX_LINES }
-        requires bytes { self.old.intake.bytes + length run.now < MAX_BYTES }
-        requires unbroken { IsUnbroken run.now }
-        ensures come { OnOk result ((given : List ℕ) → HasCome given self.old.intake
-            → HasCome (given ++ (run.now ++ LF ∷ [])) self.new.intake) }
-        ensures hands { OnOk result ((given : List ℕ) → HasCome given self.old.intake
-            → HandsEnded given (given ++ (run.now ++ LF ∷ []))
-            self.old.given.items self.new.given.items) }
-        ensures err { OnErr result (self.new.given.items ≡ self.old.given.items) }
-        ensures fault { IfErr result (λ e. e ≡ RunFault.Memory) }
-    {
-        self.intake.keep(run)?;
-        self.intake.answer(&mut Echo, &mut self.given)?;
-        self.intake.line.clear();
-        self.intake.long = false;
-        self.intake.lines += 1;
-        self.intake.bytes += 1;
-        Ok(())
-    }
-}
-
-/// The bytes from an index to the next LF, at most this many.
-fn run_at(piece: &[u8], at: usize, most: usize) -> &[u8]
-    requires at { at < length piece.now }
-    requires some { 0 < most }
-    ensures run { result.now ≡ take (length result.now) (drop at piece.now) }
-    ensures bound { at + length result.now ≤ length piece.now }
-    ensures most { length result.now ≤ most }
-    ensures unbroken { IsUnbroken result.now }
-    ensures stops { at + length result.now < length piece.now → length result.now < most
-        → slice_index piece.now (at + length result.now) ≡ 10 }
-{
-    let (_, rest) = piece.split_at(at);
-    let count = memchr(LF, rest).unwrap_or(rest.len());
-    let (run, _) = rest.split_at(count.min(most));
-    run
 }
 
 /// Answers each line with the line itself and LF, and a line that is too long with LF alone.

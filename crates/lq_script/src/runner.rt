@@ -10,11 +10,10 @@ ghost use Rattle.lq_script.specs.Progress.{Carries, standing_of_seat};
 use crate::gate::Gate;
 use crate::server_session::ServerSession;
 use lq_script_desk::{Output, Response};
-use lq_script_lines::{LF, RunFault, Sink};
+use lq_script_lines::{RunFault, Sink, first_lf};
 use lq_script_request::{Event, Request, Scratch, request_in};
 use lq_server::{Named, OwnSeat};
 use lq_value::Refusal;
-use memchr::memchr;
 use std::alloc::Global;
 use std::sync::Wait;
 use std::thread::Threads;
@@ -81,7 +80,7 @@ impl<
         ensures no_reads { OnOk result (self.new.slots.items ≡ []) }
     {
         let mut rest = lines;
-        while let Some(count) = memchr(LF, rest) {
+        while let Some(count) = first_lf(rest) {
             self.take_line(&rest[..count])?;
             rest = after(rest, count);
         }

@@ -1,5 +1,5 @@
-//! The replies to lines, by a server's public calls. Clauses say which changes they tell, and of a
-//! change and of a look at the volume that the reply is that of the script's world (`Answers`).
+//! The replies to lines, by a server's public calls. Contracts say which changes they report; the
+//! reply to a change, or to a look at the volume, is that of the script's world (`Answers`).
 ghost use Rattle.std.specs.Prelude.{◌≡◌, [], ◌∷◌, length, IfOk, IfErr, OnOk, OnErr, Ok};
 ghost use Rattle.lq_server.specs.Made.{MakesMore};
 ghost use Rattle.lq_script_desk.specs.Answer.{response_of};

@@ -26,12 +26,12 @@ use std::thread::{Scope, Threads};
 
 /// Carries out a script, its reads in threads.
 ///
-/// It writes a reply to each line that isn't empty: to all of them where it succeeds, after `Read`
-/// and `Limit` to those that LF ended, else to a first part of them, with a rest unwritten where the
-/// writer fails. A change, a look at the volume and a line without a request have the reply that
-/// `run` writes; of what reads and other lines of slots are answered only tests show that. The
-/// server makes just the changes that the lines with replies ask and the volume accepts, and at
-/// most that of the next line, where memory is wanting or the writer fails.
+/// It writes a reply to each line that isn't empty: to all lines if it succeeds, after `Read` and
+/// `Limit` to those that LF ended, otherwise to the first ones; a writer that fails may leave some
+/// replies out. A change, a look at the volume and a line without a request have the reply that
+/// `run` writes. Only tests show how reads and other lines of slots are answered. The server makes
+/// just the changes that the answered lines ask for and the volume accepts. If memory runs out or
+/// the writer fails, it may also have made the change of the next line.
 pub fn run_threads<T: Threads + Wait + Sync, R: Source, W: Sink, G: Gate + Sync>(
     rt: &T,
     alloc: Global,
@@ -44,8 +44,8 @@ pub fn run_threads<T: Threads + Wait + Sync, R: Source, W: Sink, G: Gate + Sync>
     requires writer_moves { W.stalled writer.old ≡ false }
 
     // The server made no change but the script's. Each line that was read has its reply, but for a
-    // rest after a fault: that of `run` to a change, to a look at the volume, and to a line without a
-    // request.
+    // rest after a fault: that of `run` to a change, to a look at the volume, and to a line without
+    // a request.
     ensures changes { TellsAllChanges result
         (log_of_reader (R.left reader.old) (R.left reader.new) (R.failed reader.new))
         (W.written writer.old) (W.written writer.new) }

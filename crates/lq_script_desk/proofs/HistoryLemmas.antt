@@ -139,7 +139,8 @@ turn-folds : (s : Session) (e : Event)
 turn-folds s (Change c) =
     let ports = ports_of s.core in
     among-quiet s (notices ports) (all_puts ports) (Change c)
-    (each-quiet one_notice (λ k port. notice-quiet k) 1 ports) (each-quiet put_events puts-quiet 1 ports)
+    (each-quiet one_notice (λ k port. notice-quiet k) 1 ports)
+    (each-quiet put_events puts-quiet 1 ports)
 turn-folds s (Take k) =
     let n = places_at (ports_of s.core) k in
     among-quiet s (Notice k ∷ put_events k n) [] (Take k)

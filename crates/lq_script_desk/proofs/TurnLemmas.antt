@@ -65,8 +65,8 @@ added-reads slot (Put k ∷ events) (a ∷ answers) all =
 added-reads slot (e ∷ events) (a ∷ answers) all = absurd all
 
 -- a fold that goes on from folds goes on from them by such events before
-pub goes-before : (slot : ℕ) (folds : Folds) (more events : List Event) (mores answers : List Answer)
-    (f : Folding) → AreAdded more → length mores ≡ length more
+pub goes-before : (slot : ℕ) (folds : Folds) (more events : List Event)
+    (mores answers : List Answer) (f : Folding) → AreAdded more → length mores ≡ length more
     → GoesOn slot folds events answers f
     → GoesOn slot folds (more ++ events) (mores ++ answers) f
 goes-before slot folds [] events [] answers f all same g = g

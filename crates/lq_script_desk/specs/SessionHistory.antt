@@ -14,8 +14,8 @@ use Rattle.lq_script_desk.specs.Script.{script_world}
 use Rattle.lq_script_desk.specs.Session.{Session}
 use Rattle.lq_script_desk.specs.Turned.{Turned}
 
--- These events and the answers to them lead from the first world of a script to the session's. Where
--- a slot has a result, it is Fold over its opening's result and the updates that were read since.
+-- These events and the answers to them lead from the first world of a script to the session's. If a
+-- slot has a result, it is Fold over its opening's result and the updates that were read since.
 pub record IsHistory (s : Session) (events : List Event) (answers : List Answer) : Type 0 where
   pub run : Run script_world events answers s.core
   pub folds : (slot : ℕ) (f : Folding) → fold_at s.folds slot ≡ Some f

@@ -27,8 +27,8 @@ pub fn scripts_tell_readers()
 /// The first session has the empty history, and of every history of a session the headline is true.
 /// In it each result of a slot is Fold over its opening's result and the updates read since.
 ///
-/// A turn goes on from each history (`specs/SessionHistory`): that of a line, and that of a typed
-/// call too. So what was read of a slot since its opening is as the headline says, at every moment.
+/// A turn, by a line or by a typed call, extends each history (`specs/SessionHistory`). So at every
+/// moment, what was read of a slot since its opening is as the headline says.
 pub fn sessions_tell_readers()
     ensures { SessionsTell script_session }
 {

@@ -1,10 +1,12 @@
 -- How an input is cut into lines, and what is written for lines one after another.
-use Rattle.std.proofs.Common.{◌≡◌, ◌==◌, ℕ, zero, suc, ◌-◌, ◌≤◌, ◌++◌, List, [], ◌∷◌, take, length, Option, None, Some, Bool, true, false, refl, arith, append_assoc, append-nil}
-use Rattle.std.specs.Prelude.{if◌then◌else◌, unwrap_or}
+use Rattle.std.proofs.Common.{◌≡◌, ◌≢◌, ◌==◌, ℕ, zero, suc, ◌+◌, ◌-◌, ◌<◌, ◌≤◌, ◌++◌, List, [], ◌∷◌, take, drop, get_or, length, Option, None, Some, Bool, true, false, refl, sym, ap, ◌∙◌, subst, arith, append_assoc, append-nil, take-append-drop}
+use Rattle.std.proofs.lemmas.Bool.Decides.{nat_tests}
+use Rattle.std.proofs.lemmas.List.{drop_more, take_all}
+use Rattle.std.specs.Prelude.{IfNone, IfSome, if◌then◌else◌, unwrap_or}
 use Rattle.memchr.specs.Find.{IsFirstByte, Nowhere, Passes, is_byte}
 use Rattle.std.proofs.lemmas.Bool.{false_from_ne_true}
-use Rattle.lq_script_lines.specs.Lines.{IsUnbroken, Rules, ended_lines, line_of, lines_of, replies_to, reply_to, state_after, with_front}
-use Rattle.lq_script_lines.specs.Progress.{IsCut, state_after_all}
+use Rattle.lq_script_lines.specs.Lines.{IsUnbroken, Rules, before_ended, before_last, ended_lines, line_of, lines_of, replies_to, reply_to, state_after, unended_line, with_front}
+use Rattle.lq_script_lines.specs.Progress.{state_after_all}
 
 -- the first line, and the first that LF ended, end at the first LF
 line_cut : (bytes rest : List ℕ) → IsUnbroken bytes
@@ -70,38 +72,162 @@ pub unbroken_first : (xs : List ℕ) (r : Option ℕ) (n : ℕ)
 unbroken_first xs None n none le = unbroken_before xs n (length xs) none le
 unbroken_first xs (Some k) n first le = unbroken_before xs n k first.0.before le
 
--- nothing has come
-pub cut_none : IsCut [] [] []
-cut_none = record { ahead = λ rest. refl; ended = λ rest. refl; unbroken = tt }
+-- bytes without an LF are at most one line
+pub lines_few : (bytes : List ℕ) → IsUnbroken bytes → length (lines_of bytes) ≤ 1
+lines_few [] u = omega arith
+lines_few (a ∷ bytes) u = rw (lines_one a bytes u) (omega arith)
 
--- of an input that is cut into lines and the bytes of one in progress
-module _ {given : List ℕ} {lines : List (List ℕ)} {bytes : List ℕ}
-    (c : IsCut given lines bytes) where
-  -- more bytes come, among which is no LF
-  pub cut_run : (more : List ℕ) → IsUnbroken more → IsCut (given ++ more) lines (bytes ++ more)
-  cut_run more u = record {
-    ahead = λ rest. simp append_assoc (c.ahead (more ++ rest));
-    ended = λ rest. simp append_assoc (c.ended (more ++ rest));
-    unbroken = unbroken_append bytes more c.unbroken u;
-  }
+-- they are the line in progress
+unended_all : (bytes : List ℕ) → IsUnbroken bytes → unended_line bytes ≡ bytes
+unended_all [] u = refl
+unended_all (a ∷ bytes) u = rw (u.0, ended_none bytes u.1, unended_all bytes u.1)
 
-  -- an LF ends the line in progress
-  pub cut_line : IsCut (given ++ 10 ∷ []) (lines ++ bytes ∷ []) []
-  cut_line = record {
-    ahead = λ rest. simp append_assoc
-        (rw (line_cut bytes rest c.unbroken).0 at (c.ahead (10 ∷ rest)));
-    ended = λ rest. simp append_assoc
-        (rw (line_cut bytes rest c.unbroken).1 at (c.ended (10 ∷ rest)));
-    unbroken = tt;
-  }
+-- the line in progress has no LF
+pub unended_unbroken : (given : List ℕ) → IsUnbroken (unended_line given)
+unended_unbroken [] = tt
+unended_unbroken (b ∷ bs) = by (b == 10) refl (ended_lines bs) (unended_unbroken bs)
+  where
+    by : (x : Bool) → (b == 10) ≡ x → (ended : List (List ℕ)) → IsUnbroken (unended_line bs)
+        → IsUnbroken (if x then unended_line bs else before_last b ended (unended_line bs))
+    by true e ended u = u
+    by false e [] u = (e, u)
+    by false e (line ∷ ended) u = u
 
-  -- the lines of what has come
-  pub cut_lines : lines_of given ≡ lines ++ lines_of bytes
-  cut_lines = simp append-nil at (c.ahead [])
+-- The lines of an input and what follows it: those that LF ended, then those of the line in
+-- progress with what follows.
+pub lines_ahead : (given rest : List ℕ)
+    → lines_of (given ++ rest) ≡ ended_lines given ++ lines_of (unended_line given ++ rest)
+lines_ahead [] rest = refl
+lines_ahead (b ∷ bs) rest =
+    by (b == 10) refl (ended_lines bs) (unended_line bs) (lines_ahead bs rest)
+  where
+    by : (x : Bool) → (b == 10) ≡ x → (ended : List (List ℕ)) (last : List ℕ)
+        → lines_of (bs ++ rest) ≡ ended ++ lines_of (last ++ rest)
+        → (if x then [] ∷ lines_of (bs ++ rest) else with_front b (lines_of (bs ++ rest)))
+        ≡ (if x then [] ∷ ended else before_ended b ended)
+        ++ lines_of ((if x then last else before_last b ended last) ++ rest)
+    by true e ended last h = ap (λ (l : List (List ℕ)). [] ∷ l) h
+    by false e [] last h = rw e (ap (with_front b) h)
+    by false e (line ∷ ended) last h = ap (with_front b) h
 
-  -- those of them that LF ended
-  pub cut_ended : ended_lines given ≡ lines
-  cut_ended = simp (append-nil, ended_none bytes c.unbroken) at (c.ended [])
+-- and so are those of them that LF ended
+pub ended_ahead : (given rest : List ℕ)
+    → ended_lines (given ++ rest) ≡ ended_lines given ++ ended_lines (unended_line given ++ rest)
+ended_ahead [] rest = refl
+ended_ahead (b ∷ bs) rest =
+    by (b == 10) refl (ended_lines bs) (unended_line bs) (ended_ahead bs rest)
+  where
+    by : (x : Bool) → (b == 10) ≡ x → (ended : List (List ℕ)) (last : List ℕ)
+        → ended_lines (bs ++ rest) ≡ ended ++ ended_lines (last ++ rest)
+        → (if x then [] ∷ ended_lines (bs ++ rest) else before_ended b (ended_lines (bs ++ rest)))
+        ≡ (if x then [] ∷ ended else before_ended b ended)
+        ++ ended_lines ((if x then last else before_last b ended last) ++ rest)
+    by true e ended last h = ap (λ (l : List (List ℕ)). [] ∷ l) h
+    by false e [] last h = rw e (ap (before_ended b) h)
+    by false e (line ∷ ended) last h = ap (before_ended b) h
+
+-- bytes without an LF end no line
+pub ended_run : (given more : List ℕ) → IsUnbroken more
+    → ended_lines (given ++ more) ≡ ended_lines given
+ended_run given more u = rw (
+  ended_ahead given more,
+  ended_none (unended_line given ++ more)
+      (unbroken_append (unended_line given) more (unended_unbroken given) u),
+  append-nil,
+) refl
+
+-- they are added to the line in progress
+pub unended_run : (given more : List ℕ) → IsUnbroken more
+    → unended_line (given ++ more) ≡ unended_line given ++ more
+unended_run [] more u = unended_all more u
+unended_run (b ∷ bs) more u =
+    rw (ended_run bs more u, unended_run bs more u) (by (b == 10) (ended_lines bs))
+  where
+    by : (x : Bool) (ended : List (List ℕ))
+        → (if x then unended_line bs ++ more else before_last b ended (unended_line bs ++ more))
+        ≡ (if x then unended_line bs else before_last b ended (unended_line bs)) ++ more
+    by true ended = refl
+    by false [] = refl
+    by false (line ∷ ended) = refl
+
+-- an LF ends the line in progress
+pub ended_lf : (given : List ℕ)
+    → ended_lines (given ++ 10 ∷ []) ≡ ended_lines given ++ unended_line given ∷ []
+ended_lf given =
+    ended_ahead given (10 ∷ [])
+    ∙ ap (λ (l : List (List ℕ)). ended_lines given ++ l)
+    (line_cut (unended_line given) [] (unended_unbroken given)).1
+
+-- and the next one is empty
+pub unended_lf : (given : List ℕ) → unended_line (given ++ 10 ∷ []) ≡ []
+unended_lf [] = refl
+unended_lf (b ∷ bs) = rw (ended_lf bs, unended_lf bs) (by (b == 10) (ended_lines bs))
+  where
+    by : (x : Bool) (ended : List (List ℕ))
+        → (if x then [] else before_last b (ended ++ unended_line bs ∷ []) []) ≡ []
+    by true ended = refl
+    by false [] = refl
+    by false (line ∷ ended) = refl
+
+-- bytes and an LF end the line in progress
+pub ended_line : (given run : List ℕ) → IsUnbroken run → ended_lines (given ++ (run ++ 10 ∷ []))
+    ≡ ended_lines given ++ (unended_line given ++ run) ∷ []
+ended_line given run u =
+    ap ended_lines (sym (append_assoc given run (10 ∷ [])))
+    ∙ ended_lf (given ++ run)
+    ∙ rw (ended_run given run u, unended_run given run u) refl
+
+pub unended_ended : (given run : List ℕ) → unended_line (given ++ (run ++ 10 ∷ [])) ≡ []
+unended_ended given run =
+    ap unended_line (sym (append_assoc given run (10 ∷ []))) ∙ unended_lf (given ++ run)
+
+-- the lines of an input
+pub lines_whole : (given : List ℕ)
+    → lines_of given ≡ ended_lines given ++ lines_of (unended_line given)
+lines_whole given = simp append-nil at (lines_ahead given [])
+
+-- those where no line is in progress
+pub lines_all : (given : List ℕ) → unended_line given ≡ [] → lines_of given ≡ ended_lines given
+lines_all given none = lines_whole given ∙ rw (none, append-nil) refl
+
+-- and where one is
+pub lines_last : (given : List ℕ) → unended_line given ≢ []
+    → lines_of given ≡ ended_lines given ++ unended_line given ∷ []
+lines_last given some =
+    lines_whole given
+    ∙ ap (λ (l : List (List ℕ)). ended_lines given ++ l)
+    (by (unended_line given) (unended_unbroken given) some)
+  where
+    by : (bytes : List ℕ) → IsUnbroken bytes → bytes ≢ [] → lines_of bytes ≡ bytes ∷ []
+    by [] u more = absurd (more refl)
+    by (a ∷ bytes) u more = lines_one a bytes u
+
+-- the first line of a text ends at its first LF
+first_ended : (text : List ℕ) (count : ℕ) → IsFirstByte (is_byte 10) text (Some count)
+    → ended_lines text ≡ take count text ∷ ended_lines (drop (count + 1) text)
+first_ended text count first =
+    let within : count < length text = first.0.high in
+    let last : get_or text count 0 ≡ 10 = grind (arith, nat_tests, first.1) in
+    let parts : text ≡ take count text ++ 10 ∷ drop (count + 1) text =
+    sym (take-append-drop count text)
+    ∙ ap (λ (l : List ℕ). take count text ++ l) (drop_more text count 0 within)
+    ∙ ap (λ (n : ℕ). take count text ++ n ∷ drop (count + 1) text) last in
+    ap ended_lines parts
+    ∙ (line_cut (take count text) (drop (count + 1) text)
+    (unbroken_first text (Some count) count first (omega arith))).1
+
+pub some_ended : (text : List ℕ) (r : Option ℕ) → IsFirstByte (is_byte 10) text r
+    → IfSome r (λ count. ended_lines text ≡ take count text ∷ ended_lines (drop (count + 1) text))
+some_ended text None first = tt
+some_ended text (Some count) first = first_ended text count first
+
+-- without LF it has no line
+pub none_ended : (text : List ℕ) (r : Option ℕ) → IsFirstByte (is_byte 10) text r
+    → IfNone r (ended_lines text ≡ [])
+none_ended text (Some count) first = tt
+none_ended text None first = ended_none text
+    (subst IsUnbroken (take_all (length text) text (omega arith))
+    (unbroken_first text None (length text) first (omega arith)))
 
 -- the replies to lines and then to more
 pub replies_append : {State : Type 0} (rules : Rules State) (state : State) (xs ys : List (List ℕ))
@@ -125,14 +251,14 @@ state_one rules state [] y = refl
 state_one rules state (x ∷ xs) y = state_one rules (state_after rules state (line_of x)) xs y
 
 -- the output of an input whose last line is answered too
-pub output_cut : {State : Type 0} (rules : Rules State) (state : State) {given : List ℕ}
-    {lines : List (List ℕ)} {bytes : List ℕ} → IsCut given lines bytes
-    → replies_to rules state (lines_of given) ≡ replies_to rules state lines
-    ++ reply_to rules (state_after_all rules state lines) (line_of bytes)
-output_cut rules state {lines} {bytes} c =
+pub output_last : {State : Type 0} (rules : Rules State) (state : State) (given : List ℕ)
+    → replies_to rules state (lines_of given) ≡ replies_to rules state (ended_lines given)
+    ++ reply_to rules (state_after_all rules state (ended_lines given))
+    (line_of (unended_line given))
+output_last rules state given =
     rw (
-      cut_lines c,
-      replies_append rules state lines (lines_of bytes),
-      last_reply rules
-          (state_after_all rules state lines) bytes c.unbroken,
-    )
+      lines_whole given,
+      replies_append rules state (ended_lines given) (lines_of (unended_line given)),
+      last_reply rules (state_after_all rules state (ended_lines given)) (unended_line given)
+          (unended_unbroken given),
+    ) refl

@@ -1,50 +1,24 @@
 -- What a whole run has read and written, from what it knows at its end.
-use Rattle.std.proofs.Common.{◌≡◌, ℕ, ◌+◌, ◌-◌, ◌≢◌, ◌≤◌, ◌<◌, ◌⊎◌, ◌++◌, List, [], ◌∷◌, length, take, drop, get_or, true, false, Option, Result, Err, IfErr, OnErr, OnOk, refl, sym, ap, ◌∙◌, arith, append_assoc, append-nil, length-append, length-take, inl, inr}
+use Rattle.std.proofs.Common.{◌≡◌, ℕ, ◌+◌, ◌-◌, ◌≢◌, ◌≤◌, ◌<◌, ◌⊎◌, ◌++◌, List, [], length, take, drop, get_or, true, false, Option, Result, Err, IfErr, OnErr, OnOk, refl, sym, ◌∙◌, arith, append_assoc, append-nil, length-append, length-take, inl, inr}
 use Rattle.std.proofs.lemmas.List.{drop_more}
 use Rattle.std.proofs.lemmas.Result.{on_ok_weaker}
-use Rattle.std.proofs.KnownBytes.{Appends-nil, Consumes-trans}
+use Rattle.std.proofs.KnownBytes.{Consumes-trans}
 use Rattle.std.specs.Io.KnownBytes.{Consumes}
 use Rattle.lq_script_lines.specs.declared.intake.Intake.{Intake}
-use Rattle.lq_script_lines.specs.Lines.{Rules, lines_of}
+use Rattle.lq_script_lines.specs.Lines.{Rules}
 use Rattle.lq_script_lines.specs.Outcome.{IsRunOutcome, ReaderLog, WriterLog}
 use Rattle.lq_script_lines.specs.declared.run_fault.RunFault.{RunFault}
 use Rattle.lq_script_lines.specs.declared.run_fault.RunFault.TheVariants.{Memory, Read, Write}
 use Rattle.lq_script_lines.proofs.ResultLemmas.{else_memory, neither, no_other}
-use Rattle.lq_script_lines.specs.Output.{Answered, Ended, Halted, IsWithinInput, Passed, Stopped}
-use Rattle.lq_script_lines.specs.Progress.{Began, Fronts, Halts, Meets, RunStands}
-use Rattle.lq_script_lines.proofs.LineLemmas.{cut_none}
-use Rattle.lq_script_lines.proofs.ProgressLemmas.{given_rest, stands_ended, stands_within}
-
--- at the beginning nothing has come
-pub stands_none : {State : Type 0} {rules : Rules State} {state : State} {w : Option (List ℕ)}
-    {intake : Intake} {out : List ℕ}
-    → intake.line.items ≡ [] → intake.long ≡ false → intake.lines ≡ 0 → intake.bytes ≡ 0 → out ≡ []
-    → RunStands rules (record { state = state; written = w }) [] w state intake out
-stands_none {w} line long lines bytes none = record {
-  lines = [];
-  bytes = [];
-  text = [];
-  cut = cut_none;
-  kept = rw (long, line) (refl, omega arith);
-  answered = refl;
-  appended = Appends-nil w;
-  due = none;
-  lines_counted = lines;
-  bytes_counted = bytes;
-  lines_within = omega (arith, lines);
-  bytes_within = omega (arith, bytes);
-  full = λ _. refl;
-}
+use Rattle.lq_script_lines.specs.Output.{Answered, Ended, Halted, Passed, Stopped}
+use Rattle.lq_script_lines.specs.Progress.{Began, Fronts, Halts, HasCome, Meets, RunStands}
+use Rattle.lq_script_lines.proofs.ProgressLemmas.{given_rest, stands_ended}
 
 -- a read that gave nothing
 pub read_none : (l l' l'' : Option (List ℕ)) (given buf : List ℕ) (n : ℕ)
     → n ≡ 0 → Consumes l l' given → Consumes l' l'' (take n buf) → Consumes l l'' given
 read_none l l' l'' given buf n e h k =
     rw append-nil at (Consumes-trans l l' l'' given [] h (rw e at k))
-
--- one byte is one line
-byte_line : (b : ℕ) → length (lines_of (b ∷ [])) ≡ 1
-byte_line b = grind arith
 
 module _ {State : Type 0} {rules : Rules State} {began : Began State} {given : List ℕ}
     {w : Option (List ℕ)} {state : State} {intake : Intake} {out : List ℕ}
@@ -55,28 +29,9 @@ module _ {State : Type 0} {rules : Rules State} {began : Began State} {given : L
   run_ended h none = record {
     given = given;
     consumed = h;
-    within = stands_within s;
+    within = s.come.within;
     appended = stands_ended s none;
   }
-
-  -- at a limit one byte more is too much
-  stands_passes : (b : ℕ) → (intake.lines ≡ 10000000) ⊎ (intake.bytes ≡ 1073741824)
-      → ¬ IsWithinInput (given ++ b ∷ [])
-  stands_passes b (inl full) within =
-      let lines : length (lines_of (given ++ b ∷ [])) ≡ length (s.lines ++ lines_of (b ∷ [])) =
-      ap length (s.cut.ahead (b ∷ []) ∙ ap (λ l. s.lines ++ lines_of (l ++ b ∷ [])) (s.full full))
-      in
-      omega (
-        arith,
-        within.0,
-        lines,
-        s.lines_counted,
-        full,
-        byte_line b,
-        length-append s.lines (lines_of (b ∷ [])),
-      )
-  stands_passes b (inr full) within =
-      omega (arith, within.1, s.bytes_counted, full, length-append given (b ∷ []))
 
 module _ {State : Type 0} {rules : Rules State} {began : Began State} {l l' w : Option (List ℕ)}
     {given : List ℕ} (h : Consumes l l' given) where
@@ -113,16 +68,25 @@ run_passed {given} {piece} h m = record {
   next = get_or piece m.count 0;
   rest = drop (m.count + 1) piece;
   consumed = rw (← drop_more piece m.count 0 m.follows, given_rest) h;
-  within = stands_within m.stands;
-  passes = stands_passes m.stands (get_or piece m.count 0) m.at_limit;
+  within = m.stands.come.within;
+  passes = m.passes;
   appended = stands_ended m.stands refl;
 }
 
 -- a read that gave bytes leaves less to read
-pub less_left : (old new n : ℕ) (buf : List ℕ) → n ≢ 0 → n ≤ length buf
-    → new ≡ old + length (take n buf) → new ≤ 1073741824 → 1073741824 - new < 1073741824 - old
-less_left old new n buf some bound more within =
-    omega (arith, some, bound, more, within, length-take n buf)
+pub less_left : (given : List ℕ) (n : ℕ) (buf : List ℕ) → n ≢ 0 → n ≤ length buf
+    → {old new : Intake} → HasCome given old → HasCome (given ++ take n buf) new
+    → 1073741824 - new.bytes < 1073741824 - old.bytes
+less_left given n buf some bound h k = omega (
+  arith,
+  some,
+  bound,
+  h.bytes,
+  k.bytes,
+  k.within.1,
+  length-append given (take n buf),
+  length-take n buf,
+)
 
 module _ {State : Type 0} {rules : Rules State} {state : State} {r : ReaderLog} {w : WriterLog}
     (stopped : Stopped rules state r.left r.left' w.written w.written') where

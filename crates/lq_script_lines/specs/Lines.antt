@@ -1,5 +1,5 @@
 -- The lines of a script's bytes, and the replies to them.
-use Rattle.std.specs.Prelude.{◌≡◌, ℕ, List, [], ◌∷◌, ◌++◌, false, if◌then◌else◌, ◌==◌, length, nat_lt}
+use Rattle.std.specs.Prelude.{◌≡◌, ◌≢◌, ℕ, List, [], ◌∷◌, ◌++◌, false, if◌then◌else◌, ◌==◌, length, nat_lt}
 use Rattle.std.specs.Io.BufRead.{strip_last}
 
 -- the lines with a byte added before the first one; without lines, the byte is the only line
@@ -26,6 +26,35 @@ IsUnbroken (b ∷ bs) = ((b == 10) ≡ false) × IsUnbroken bs
 abbrev pub ended_lines : List ℕ → List (List ℕ)
 ended_lines [] = []
 ended_lines (b ∷ bs) = if b == 10 then [] ∷ ended_lines bs else before_ended b (ended_lines bs)
+
+-- the line in progress with a byte added before it, unless a line ended before it
+abbrev pub before_last : ℕ → List (List ℕ) → List ℕ → List ℕ
+before_last b [] bytes = b ∷ bytes
+before_last b (line ∷ lines) bytes = bytes
+
+-- the bytes after the last LF: the line in progress
+abbrev pub unended_line : List ℕ → List ℕ
+unended_line [] = []
+unended_line (b ∷ bs) =
+    if b == 10 then unended_line bs else before_last b (ended_lines bs) (unended_line bs)
+
+-- What more bytes do to the lines of an input. An LF ends the line in progress, and the next one is
+-- empty. Bytes without LF end no line, and are added to the line in progress.
+pub record LinesGrow : Type 0 where
+  pub ended : (given : List ℕ)
+      → ended_lines (given ++ 10 ∷ []) ≡ ended_lines given ++ unended_line given ∷ []
+  pub begun : (given : List ℕ) → unended_line (given ++ 10 ∷ []) ≡ []
+  pub same : (given run : List ℕ) → IsUnbroken run → ended_lines (given ++ run) ≡ ended_lines given
+  pub added : (given run : List ℕ) → IsUnbroken run
+      → unended_line (given ++ run) ≡ unended_line given ++ run
+
+-- The lines of an input are those that LF ended and, unless it is empty, the line in progress, which
+-- has no LF.
+pub record LinesEnd : Type 0 where
+  pub unbroken : (given : List ℕ) → IsUnbroken (unended_line given)
+  pub all : (given : List ℕ) → unended_line given ≡ [] → lines_of given ≡ ended_lines given
+  pub last : (given : List ℕ) → unended_line given ≢ []
+      → lines_of given ≡ ended_lines given ++ unended_line given ∷ []
 
 -- the bytes without a single CR at the end
 abbrev pub without_cr : List ℕ → List ℕ

@@ -1,10 +1,10 @@
 -- The progress of a run over a script.
-use Rattle.std.specs.Prelude.{◌≡◌, ◌<◌, ◌≤◌, ◌⊎◌, ℕ, List, [], ◌∷◌, ◌++◌, Bool, true, false, length, take, Option, ◌+◌, Result, OnOk, OnErr, IsErrOf}
+use Rattle.std.specs.Prelude.{◌≡◌, ◌<◌, ◌≤◌, ◌⊎◌, ℕ, List, [], ◌∷◌, ◌++◌, Bool, true, false, length, take, get_or, Option, Result, OnOk, OnErr, IsErrOf}
 use Rattle.std.specs.Io.KnownBytes.{Appends}
 use Rattle.lq_script_lines.specs.declared.intake.Intake.{Intake}
 use mathlib.Core.List.{IsPrefix}
-use Rattle.lq_script_lines.specs.Lines.{IsUnbroken, Rules, ended_lines, line_of, lines_of, replies_to, state_after}
-use Rattle.lq_script_lines.specs.Output.{output_of}
+use Rattle.lq_script_lines.specs.Lines.{Rules, ended_lines, line_of, lines_of, replies_to, state_after, unended_line}
+use Rattle.lq_script_lines.specs.Output.{IsWithinInput, output_of}
 use Rattle.lq_script_lines.specs.declared.run_fault.RunFault.{RunFault}
 use Rattle.lq_script_lines.specs.declared.run_fault.RunFault.TheVariants.{Limit, Memory, Read, Thread, Write}
 
@@ -13,11 +13,13 @@ abbrev pub IsKeptLine : List ℕ → Bool → List ℕ → Type 0
 IsKeptLine bytes true line = 65536 < length bytes
 IsKeptLine bytes false line = (bytes ≡ line) × (length line ≤ 65536)
 
--- An input consists of lines and the bytes of a line in progress, whatever comes next.
-pub record IsCut (given : List ℕ) (lines : List (List ℕ)) (bytes : List ℕ) : Type 0 where
-  pub ahead : (rest : List ℕ) → lines_of (given ++ rest) ≡ lines ++ lines_of (bytes ++ rest)
-  pub ended : (rest : List ℕ) → ended_lines (given ++ rest) ≡ lines ++ ended_lines (bytes ++ rest)
-  pub unbroken : IsUnbroken bytes
+-- These bytes have come, and are within the limits. Their bytes and the lines that LF ended are
+-- counted, and the line in progress is kept.
+pub record HasCome (given : List ℕ) (intake : Intake) : Type 0 where
+  pub lines : intake.lines ≡ length (ended_lines given)
+  pub bytes : intake.bytes ≡ length given
+  pub kept : IsKeptLine (unended_line given) intake.long intake.line.items
+  pub within : IsWithinInput given
 
 -- the state after several lines
 abbrev pub state_after_all : {State : Type 0} → Rules State → State → List (List ℕ) → State
@@ -35,19 +37,11 @@ pub record Began (State : Type 0) : Type 0 where
 pub record RunStands {State : Type 0} (rules : Rules State) (began : Began State)
     (given : List ℕ) (written : Option (List ℕ)) (state : State) (intake : Intake) (out : List ℕ)
     : Type 0 where
-  pub lines : List (List ℕ)
-  pub bytes : List ℕ
+  pub come : HasCome given intake
   pub text : List ℕ
-  pub cut : IsCut given lines bytes
-  pub kept : IsKeptLine bytes intake.long intake.line.items
-  pub answered : state ≡ state_after_all rules began.state lines
+  pub answered : state ≡ state_after_all rules began.state (ended_lines given)
   pub appended : Appends began.written written text
-  pub due : text ++ out ≡ replies_to rules began.state lines
-  pub lines_counted : intake.lines ≡ length lines
-  pub bytes_counted : intake.bytes ≡ length given
-  pub lines_within : intake.lines ≤ 10000000
-  pub bytes_within : intake.bytes ≤ 1073741824
-  pub full : intake.lines ≡ 10000000 → bytes ≡ []
+  pub due : text ++ out ≡ replies_to rules began.state (ended_lines given)
 
 -- a prefix of the output for an input is what was written and then `out`
 pub record Fronts {State : Type 0} (rules : Rules State) (began : Began State)
@@ -68,14 +62,15 @@ pub record Halts {State : Type 0} (rules : Rules State) (began : Began State)
   pub appended : Appends began.written written text
   pub due : text ++ out ≡ replies_to rules began.state lines
 
--- a limit was reached in a piece: the invariant holds before it, and a byte follows
+-- a limit was reached in a piece: the invariant holds before it, and the byte that follows is too
+-- much
 pub record Meets {State : Type 0} (rules : Rules State) (began : Began State)
     (given piece : List ℕ) (written : Option (List ℕ)) (state : State) (intake : Intake)
     (out : List ℕ) : Type 0 where
   pub count : ℕ
   pub follows : count < length piece
   pub stands : RunStands rules began (given ++ take count piece) written state intake out
-  pub at_limit : (intake.lines ≡ 10000000) ⊎ (intake.bytes ≡ 1073741824)
+  pub passes : ¬ IsWithinInput ((given ++ take count piece) ++ get_or piece count 0 ∷ [])
 
 -- these bytes keep the invariant, wherever the run began
 abbrev pub Goes : {State : Type 0} → Rules State → List ℕ
@@ -158,7 +153,6 @@ pub record TakesPiece {State : Type 0} (rules : Rules State) (piece : List ℕ)
     (result : Result (Unit {0}) RunFault) (old new : Standing State) : Type 0 where
   pub ok : OnOk result (Goes rules piece old.written old.state old.intake old.out
       new.written new.state new.intake new.out)
-  pub bytes : OnOk result (new.intake.bytes ≡ old.intake.bytes + length piece)
   pub works : OnOk result ((new.failed ≡ old.failed) × (new.stalled ≡ old.stalled))
   pub err : OnErr result
       (Leaves rules piece old.written old.state old.intake old.out new.written new.out)

@@ -1,13 +1,11 @@
 //! A piece of an input, and the replies to each line that ends in it.
-ghost use Rattle.std.specs.Prelude.{◌≡◌, ◌+◌, ◌++◌, ◌⊎◌, ◌<◌, ◌≤◌, ℕ, List, [], ◌∷◌, length, slice_index, take, drop, true, IfErr, OnOk, OnErr, IsErrOf};
-ghost use Rattle.std.specs.Io.KnownBytes.{Appends};
+ghost use Rattle.std.specs.Prelude.{◌≡◌, ◌+◌, ◌++◌, ◌⊎◌, ◌<◌, ◌≤◌, ℕ, List, [], ◌∷◌, length, take, drop, true, IfErr, IfNone, IfSome, OnOk, OnErr, IsErrOf};
 ghost use Rattle.lq_script_lines.specs.Calls.{CallsOf, WritesOf};
-ghost use Rattle.lq_script_lines.specs.Lines.{IsUnbroken};
-ghost use Rattle.lq_script_lines.specs.Output.{output_of};
+ghost use Rattle.lq_script_lines.specs.Lines.{IsUnbroken, LinesEnd, LinesGrow, ended_lines};
 ghost use Rattle.lq_script_lines.specs.Progress.{Completes, Goes, HaltsAtEnd, Leaves, LeavesAtEnd, TakesPiece, standing_of};
 
 use crate::devices::{Failed, Sink};
-use crate::intake::{Intake, MAX_BYTES, MAX_LINES};
+use crate::intake::{Intake, LF, MAX_BYTES, MAX_LINES};
 use crate::responder::Responder;
 use crate::run_fault::RunFault;
 use crate::writing::{write_and_flush, write_replies};
@@ -15,9 +13,6 @@ use memchr::memchr;
 
 /// Replies are written once they have this many bytes.
 pub const GATHERED: usize = 65536;
-
-/// What ends a line.
-pub const LF: u8 = 10;
 
 /// Answers the line that these bytes and an LF end, and writes the replies if many wait.
 fn end_line<S: Responder, W: Sink>(
@@ -33,7 +28,6 @@ fn end_line<S: Responder, W: Sink>(
     ensures ok { OnOk result (Goes S.rules (run.now ++ LF ∷ [])
         (W.written writer.old) (S.state responder.old) intake.old out.old.items
         (W.written writer.new) (S.state responder.new) intake.new out.new.items) }
-    ensures bytes { OnOk result (intake.new.bytes ≡ intake.old.bytes + length run.now + 1) }
     ensures works { OnOk result ((W.failed writer.new ≡ W.failed writer.old)
         × (W.stalled writer.new ≡ W.stalled writer.old)) }
     ensures err { OnErr result ((rest : List ℕ) → Leaves S.rules (run.now ++ LF ∷ rest)
@@ -46,11 +40,7 @@ fn end_line<S: Responder, W: Sink>(
         (W.failed writer.new ≡ true) ⊎ (W.stalled writer.new ≡ true) }
     ensures calls { WritesOf result (W.calls writer.old) (W.calls writer.new) }
 {
-    intake.answer_with(run, responder, out)?;
-    intake.line.clear();
-    intake.long = false;
-    intake.lines += 1;
-    intake.bytes += 1;
+    intake.end_line(run, responder, out)?;
     if out.len() < GATHERED {
         return Ok(());
     }
@@ -74,13 +64,13 @@ pub fn take_piece<S: Responder, W: Sink>(
 {
     let mut at = 0;
     while at < piece.len() {
-        if intake.lines >= MAX_LINES || intake.bytes >= MAX_BYTES {
+        let room = intake.room();
+        if room == 0 {
             return Err(RunFault::Limit);
         }
-        let most = (MAX_BYTES - intake.bytes) as usize;
-        let run = run_at(piece, at, most);
+        let run = run_at(piece, at, room);
         at += run.len();
-        if at < piece.len() && run.len() < most {
+        if at < piece.len() && run.len() < room {
             end_line(intake, run, responder, out, writer)?;
             at += 1;
         } else {
@@ -91,20 +81,31 @@ pub fn take_piece<S: Responder, W: Sink>(
 }
 
 /// The bytes from an index to the next LF, at most this many.
-fn run_at(piece: &[u8], at: usize, most: usize) -> &[u8]
+pub fn run_at(piece: &[u8], at: usize, most: usize) -> &[u8]
     requires at { at < length piece.now }
     requires some { 0 < most }
-    ensures run { result.now ≡ take (length result.now) (drop at piece.now) }
+    ensures run { take at piece.now ++ result.now ≡ take (at + length result.now) piece.now }
     ensures bound { at + length result.now ≤ length piece.now }
     ensures most { length result.now ≤ most }
     ensures unbroken { IsUnbroken result.now }
     ensures stops { at + length result.now < length piece.now → length result.now < most
-        → slice_index piece.now (at + length result.now) ≡ 10 }
+        → take at piece.now ++ (result.now ++ LF ∷ [])
+        ≡ take (at + length result.now + 1) piece.now }
 {
     let (_, rest) = piece.split_at(at);
     let count = memchr(LF, rest).unwrap_or(rest.len());
     let (run, _) = rest.split_at(count.min(most));
     run
+}
+
+/// The place of the first LF, which ends the first line.
+pub fn first_lf(text: &[u8]) -> Option<usize>
+    ensures within { IfSome result (λ count. count < length text.now) }
+    ensures some { IfSome result (λ count. ended_lines text.now
+        ≡ take count text.now ∷ ended_lines (drop (count + 1) text.now)) }
+    ensures none { IfNone result (ended_lines text.now ≡ []) }
+{
+    memchr(LF, text)
 }
 
 /// Answers the last line, if it has no LF, and flushes once.
@@ -142,3 +143,10 @@ pub(crate) fn finish<S: Responder, W: Sink>(
         Err(Failed) => Err(RunFault::Write),
     }
 }
+
+/// An LF ends the line in progress, and other bytes are added to it. At the end of an input the
+/// line in progress is the last line, unless it is empty.
+pub fn lines_grow()
+    ensures grow { LinesGrow }
+    ensures end { LinesEnd }
+{}

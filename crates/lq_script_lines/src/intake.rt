@@ -1,8 +1,9 @@
 //! The part of an input that has come so far: the line in progress, and the counts that the limits
 //! are on.
-ghost use Rattle.std.specs.Prelude.{◌≡◌, ◌+◌, ◌++◌, ◌≤◌, ℕ, List, [], length, false, true, IfErr, IsOk, OnOk, OnErr};
-ghost use Rattle.lq_script_lines.specs.Lines.{given_line, line_of, reply_to, state_after, without_cr};
-ghost use Rattle.lq_script_lines.specs.Progress.{IsKeptLine};
+ghost use Rattle.std.specs.Prelude.{◌≡◌, ◌+◌, ◌++◌, ◌<◌, ◌≤◌, ℕ, List, [], ◌∷◌, length, false, true, IfErr, IsOk, OnOk, OnErr};
+ghost use Rattle.lq_script_lines.specs.Lines.{IsUnbroken, given_line, line_of, reply_to, state_after, unended_line, without_cr};
+ghost use Rattle.lq_script_lines.specs.Output.{IsWithinInput};
+ghost use Rattle.lq_script_lines.specs.Progress.{HasCome, IsKeptLine};
 
 use crate::responder::Responder;
 use crate::run_fault::RunFault;
@@ -16,6 +17,9 @@ pub const MAX_LINES: u64 = 10000000;
 
 /// The most bytes of an input.
 pub const MAX_BYTES: u64 = 1073741824;
+
+/// What ends a line.
+pub const LF: u8 = 10;
 
 const CR: u8 = 13;
 
@@ -35,10 +39,7 @@ pub struct Intake {
 impl Intake {
     /// The state before any input.
     pub fn new(alloc: Global) -> Self
-        ensures line { result.line.items ≡ [] }
-        ensures long { result.long ≡ false }
-        ensures lines { result.lines ≡ 0 }
-        ensures bytes { result.bytes ≡ 0 }
+        ensures { HasCome [] result }
     {
         Intake {
             line: Vec::new(alloc),
@@ -46,6 +47,21 @@ impl Intake {
             lines: 0,
             bytes: 0,
         }
+    }
+
+    /// How many bytes may come: 0 after 10,000,000 lines or 1,073,741,824 bytes.
+    pub fn room(&self) -> usize
+        ensures some { 0 < result
+            → (self.now.lines < MAX_LINES) × (self.now.bytes + result ≤ MAX_BYTES) }
+
+        // Without room one byte more is too much.
+        ensures none { result ≡ 0 → (given : List ℕ) → HasCome given self.now
+            → (next : ℕ) → ¬ IsWithinInput (given ++ next ∷ []) }
+    {
+        if self.lines >= MAX_LINES || self.bytes >= MAX_BYTES {
+            return 0;
+        }
+        (MAX_BYTES - self.bytes) as usize
     }
 
     /// Appends the reply to the line in progress to `out`.
@@ -76,11 +92,58 @@ impl Intake {
         Ok(())
     }
 
-    /// Appends the reply to the line in progress to `out`, after these last bytes of it.
+    /// Adds bytes without LF to the line in progress. A line that is too long takes no memory.
     ///
-    /// A line that stands in `bytes` whole is answered from there, without a copy. Refused:
-    /// `Memory`; `out` is then unchanged.
-    pub(crate) fn answer_with<S: Responder>(
+    /// Refused: `Memory`.
+    pub fn keep(&mut self, run: &[u8]) -> Result<(), RunFault>
+        requires lines { self.old.lines < MAX_LINES }
+        requires bytes { self.old.bytes + length run.now ≤ MAX_BYTES }
+        requires unbroken { IsUnbroken run.now }
+        ensures come { OnOk result ((given : List ℕ) → HasCome given self.old
+            → HasCome (given ++ run.now) self.new) }
+        ensures memory { IfErr result (λ e. e ≡ RunFault.Memory) }
+    {
+        self.add_to_line(run)
+    }
+
+    /// Ends the line in progress, after these last bytes of it and an LF, and appends its reply to
+    /// `out`.
+    ///
+    /// Refused: `Memory`; `out` is then unchanged.
+    pub fn end_line<S: Responder>(
+        &mut self,
+        run: &[u8],
+        responder: &mut S,
+        out: &mut Vec<u8>,
+    ) -> Result<(), RunFault>
+        requires lines { self.old.lines < MAX_LINES }
+        requires bytes { self.old.bytes + length run.now < MAX_BYTES }
+        requires unbroken { IsUnbroken run.now }
+        ensures come { OnOk result ((given : List ℕ) → HasCome given self.old
+            → HasCome (given ++ (run.now ++ LF ∷ [])) self.new) }
+        ensures ok { OnOk result ((given : List ℕ) → HasCome given self.old
+            → out.new.items ≡ out.old.items
+            ++ reply_to S.rules (S.state responder.old) (line_of (unended_line given ++ run.now))) }
+        ensures after { OnOk result ((given : List ℕ) → HasCome given self.old
+            → S.state responder.new
+            ≡ state_after S.rules (S.state responder.old)
+            (line_of (unended_line given ++ run.now))) }
+        ensures err { OnErr result (out.new.items ≡ out.old.items) }
+        ensures memory { IfErr result (λ e. e ≡ RunFault.Memory) }
+    {
+        self.answer_with(run, responder, out)?;
+        self.line.clear();
+        self.long = false;
+        self.lines += 1;
+        self.bytes += 1;
+        Ok(())
+    }
+
+    // Appends the reply to the line in progress to `out`, after these last bytes of it.
+    //
+    // A line that is whole in `bytes` is answered from there, without a copy. Refused: `Memory`;
+    // `out` is then unchanged.
+    fn answer_with<S: Responder>(
         &mut self,
         bytes: &[u8],
         responder: &mut S,
@@ -101,7 +164,7 @@ impl Intake {
         ensures bytes { OnOk result (self.new.bytes ≡ self.old.bytes + length bytes.now) }
     {
         if self.long || !self.line.is_empty() || bytes.len() > MAX_LINE {
-            self.keep(bytes)?;
+            self.add_to_line(bytes)?;
             return self.answer(responder, out);
         }
         answer_line(bytes, responder, out)?;
@@ -109,16 +172,13 @@ impl Intake {
         Ok(())
     }
 
-    /// Adds bytes without LF to the line in progress.
-    pub fn keep(&mut self, bytes: &[u8]) -> Result<(), RunFault>
+    // Adds bytes to the line in progress.
+    fn add_to_line(&mut self, bytes: &[u8]) -> Result<(), RunFault>
         requires { self.old.bytes + length bytes.now ≤ MAX_BYTES }
         ensures ok { OnOk result ((before : List ℕ)
             → IsKeptLine before self.old.long self.old.line.items
             → IsKeptLine (before ++ bytes.now) self.new.long self.new.line.items) }
         ensures memory { IfErr result (λ e. e ≡ RunFault.Memory) }
-
-        // A line that is too long isn't kept and takes no memory.
-        ensures long { self.old.long ≡ true → IsOk result }
         ensures lines { self.new.lines ≡ self.old.lines }
         ensures bytes { OnOk result (self.new.bytes ≡ self.old.bytes + length bytes.now) }
     {

@@ -1,5 +1,5 @@
 //! A run over a script: each line is answered before the next read.
-ghost use Rattle.std.specs.Prelude.{◌≡◌, ◌+◌, ◌⊎◌, [], length, true, false, OnOk, OnErr, IsErrOf};
+ghost use Rattle.std.specs.Prelude.{◌≡◌, ◌⊎◌, [], true, false, OnOk, OnErr, IsErrOf};
 ghost use Rattle.lq_script_lines.specs.Calls.{CallsOf, OnlyWrites};
 ghost use Rattle.lq_script_lines.specs.Faults.{is_write as is_write_fault};
 ghost use Rattle.lq_script_lines.specs.Outcome.{IsRunOutcome, MayReadAfterReplies, log_of_reader, log_of_writer};
@@ -29,7 +29,6 @@ fn take_block<S: Responder, W: Sink>(
     ensures ok { OnOk result (Goes S.rules piece.now
         (W.written writer.old) (S.state responder.old) intake.old out.old.items
         (W.written writer.new) (S.state responder.new) intake.new out.new.items) }
-    ensures bytes { OnOk result (intake.new.bytes ≡ intake.old.bytes + length piece.now) }
     ensures works { OnOk result ((W.failed writer.new ≡ W.failed writer.old)
         × (W.stalled writer.new ≡ W.stalled writer.old)) }
     ensures err { OnErr result (Leaves S.rules piece.now

@@ -9,8 +9,9 @@ loop-slot-init g c = no_reads c.args.out.now.items
 
 pub loop-slot-preserved : goal.loop-slot-preserved
 loop-slot-preserved g c =
-    reads_more c.loop-slot.slot-index c.args.out.now.items c.loop-slot.out.items c.put_reply.new.out.items
-    (response_of c.in_ok-response.response) c.loop-slot.invariant c.in_ok-response.ensures.none
+    reads_more c.loop-slot.slot-index c.args.out.now.items c.loop-slot.out.items
+    c.put_reply.new.out.items (response_of c.in_ok-response.response) c.loop-slot.invariant
+    c.in_ok-response.ensures.none
     c.in_ok-put_reply.ensures.ok
 
 pub returns-in_err-response-clause-err : goal.returns-in_err-response-clause-err

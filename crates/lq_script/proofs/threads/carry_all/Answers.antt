@@ -4,7 +4,6 @@ use Rattle.std.proofs.KnownBytes.{Consumes-nil, Consumes-trans}
 use Rattle.lq_script_lines.specs.Lines.{ended_lines}
 use Rattle.lq_script.specs.Asked.{asked_by_all, asked_in}
 use Rattle.lq_script.specs.Input.{ReadsOn, StopsReading}
-use Rattle.lq_script.proofs.InputLemmas.{come_none}
 use Rattle.lq_script.proofs.ProgressLemmas.{carries_as, carries_none, carries_then, tells_closed, tells_fault, tells_flush}
 use Rattle.lq_script.proofs.ReadingLemmas.{goes_on, hands_asked, read_after, read_all, read_some}
 use Rattle.lq_script.proofs.threads.carry_all.Goals as goal
@@ -18,8 +17,7 @@ loop-init g c = record {
   no_reads = c.requires.no_reads;
   given = [];
   consumed = Consumes-nil _;
-  come = come_none c.new-lines.ensures.line c.new-lines.ensures.long c.new-lines.ensures.lines
-      c.new-lines.ensures.bytes;
+  come = c.new-lines.ensures;
   carried = carries_none _ tt;
 }
 
@@ -31,9 +29,10 @@ returns-in-Err-clause-made g c =
     let left'' = g.R.Source.left c.read-goes.new.reader in
     let failed = g.R.Source.failed c.read-goes.new.reader in
     let reads = subst (λ t. ReadsOn c.read-goes.result i.given left' left'' failed
-    c.read-goes.new.self.intake t) (sym c.given.ensures) (c.read-goes.ensures.reads i.given i.come) in
-    tells_fault c.in-Err.fault c.close.result _ (asked_in (ended_lines i.given) ++ asked_by_all text)
-    _ _ _ c.requires.empty c.requires.no_reads
+    c.read-goes.new.self.intake t) (sym c.given.ensures)
+    (c.read-goes.ensures.reads i.given i.come) in
+    tells_fault c.in-Err.fault c.close.result _
+    (asked_in (ended_lines i.given) ++ asked_by_all text) _ _ _ c.requires.empty c.requires.no_reads
     (carries_then (asked_in (ended_lines i.given)) (asked_by_all text) (Err c.in-Err.fault) _ _ _ tt
     i.carried c.in-Err.ensures.carried) c.close.ensures.closed
     (read_some i.given (g.R.Source.left c.args.reader.now) left' left'' i.consumed failed text
@@ -60,8 +59,8 @@ loop-preserved g c =
       consumed = Consumes-trans left left' left'' i.given goes.piece i.consumed goes.consumed;
       come = goes.come;
       carried = carries_as (asked_in (ended_lines (i.given ++ goes.piece)))
-          (asked_in (ended_lines i.given) ++ asked_by_all text) (Ok tt) (Ok c.in_default.field-0) _ _
-          (sym (hands_asked goes.hands)) refl
+          (asked_in (ended_lines i.given) ++ asked_by_all text) (Ok tt) (Ok c.in_default.field-0) _
+          _ (sym (hands_asked goes.hands)) refl
           (carries_then (asked_in (ended_lines i.given)) (asked_by_all text)
           (Ok c.in_default.field-0) _ _ _ tt i.carried c.in_default.ensures.carried);
     }

@@ -1,8 +1,8 @@
 use Rattle.std.proofs.Common.{◌≡◌, ℕ, List, [], Ok}
 use Rattle.std.specs.Io.KnownBytes.{Consumes}
 use Rattle.lq_script_lines.specs.Lines.{ended_lines}
+use Rattle.lq_script_lines.specs.Progress.{HasCome}
 use Rattle.lq_script.specs.Asked.{asked_in}
-use Rattle.lq_script.specs.Input.{HasCome}
 use Rattle.lq_script.specs.Progress.{Carries, standing_of_seat}
 use Rattle.lq_script.proofs.threads.carry_all.Given as goal
 

@@ -1,17 +1,15 @@
-use Rattle.std.proofs.Common.{◌≡◌, ◌∙◌, ◌+◌, Err, length, append-nil, arith, rules, drop, refl, inl, inr}
+use Rattle.std.proofs.Common.{◌≡◌, ◌∙◌, ◌+◌, ◌++◌, [], ◌∷◌, Err, length, append-nil, arith, rules, drop, refl}
 use Rattle.std.proofs.lemmas.List.{take_all}
 use Rattle.lq_script_lines.specs.declared.run_fault.RunFault.TheVariants.{Memory}
 use Rattle.lq_script_lines.proofs.CallLemmas.{before_part, no_writes, writes_then}
 use Rattle.lq_script_lines.proofs.ResultLemmas.{neither, no_fault, no_other}
-use Rattle.lq_script_lines.proofs.ProgressLemmas.{given_rest, halted_at, line_rest, line_taken, run_taken, stands_fronts, stands_run}
+use Rattle.lq_script_lines.proofs.ProgressLemmas.{given_rest, halted_at, line_rest, more_taken, stands_fronts, stands_run}
 use Rattle.lq_script_lines.proofs.input_pieces.take_piece.Goals as goal
-use Rattle.lq_script_lines.proofs.input_pieces.take_piece.Goals.{then-intake-ge-MAX_LINES-via-then-intake-ge-MAX_LINES, then-intake-ge-MAX_LINES-via-else-intake-ge-MAX_LINES+then-intake-ge-MAX_BYTES}
 
-pub returns-then-intake-ge-MAX_LINES : goal.returns-then-intake-ge-MAX_LINES
-returns-then-intake-ge-MAX_LINES g c = record {
+pub returns-then-room-eq0 : goal.returns-then-room-eq0
+returns-then-room-eq0 g c = record {
   taken = record {
     ok = tt;
-    bytes = tt;
     works = tt;
     err = λ began given s. stands_fronts (c.loop-at.invariant.stands began given s)
         (drop c.loop-at.at c.args.piece.now) (given_rest given c.args.piece.now c.loop-at.at);
@@ -19,12 +17,7 @@ returns-then-intake-ge-MAX_LINES g c = record {
       count = c.loop-at.at;
       follows = c.loop-at-test.true;
       stands = stood;
-      at_limit = elim c.then-intake-ge-MAX_LINES.branch [
-        | then-intake-ge-MAX_LINES-via-then-intake-ge-MAX_LINES w ↦
-            inl (omega (arith, stood.lines_within, w.if-intake-ge-MAX_LINES.true))
-        | then-intake-ge-MAX_LINES-via-else-intake-ge-MAX_LINES+then-intake-ge-MAX_BYTES w ↦
-            inr (omega (arith, stood.bytes_within, w.if-intake-ge-MAX_BYTES.true))
-      ];
+      passes = c.room-room.ensures.none c.if-room-eq0.true _ stood.come _;
     };
     memory = λ h. no_other h refl;
     memory_works = λ h. no_other h refl;
@@ -40,7 +33,6 @@ loop-at-init g c = record {
   within = omega arith;
   stands = λ began given s. rw append-nil s;
   works = (refl, refl);
-  bytes = omega arith;
   calls = no_writes _;
 }
 
@@ -49,7 +41,6 @@ returns-in_err-keep g c =
     let is : c.from_residual-in_err-keep.result ≡ Err Memory = search rules in record {
       taken = rw is (record {
         ok = tt;
-        bytes = tt;
         works = tt;
         err = λ began given s. stands_fronts (c.loop-at.invariant.stands began given s)
             (drop c.loop-at.at c.args.piece.now) (given_rest given c.args.piece.now c.loop-at.at);
@@ -72,10 +63,9 @@ returns-in_err-end_line g c =
     let run = c.run_at-run.result.now in record {
       taken = rw is (record {
         ok = tt;
-        bytes = tt;
         works = tt;
-        err = λ began given s. rw (line_rest given c.args.piece.now run at c.run_at-run.ensures.run
-            c.if-at-piece.true (c.run_at-run.ensures.stops c.if-at-piece.true c.if-run-most.true))
+        err = λ began given s. rw (line_rest given c.args.piece.now run at (at + length run + 1)
+            (c.run_at-run.ensures.stops c.if-at-piece.true c.if-run-room.true))
             at (says.err (drop (at + length run + 1) c.args.piece.now) began _
             (c.loop-at.invariant.stands began given s));
         limit = λ h. neither h says.fault refl refl;
@@ -100,8 +90,6 @@ returns g c = record {
     ok = λ began given s.
         rw (take_all c.loop-at.at c.args.piece.now (omega (arith, c.loop-at-test.false)))
         at (c.loop-at.invariant.stands began given s);
-    bytes = omega
-        (arith, c.loop-at.invariant.bytes, c.loop-at.invariant.within, c.loop-at-test.false);
     works = c.loop-at.invariant.works;
     err = tt;
     limit = no_fault;
@@ -118,29 +106,24 @@ pub loop-at-preserved : goal.loop-at-preserved
 loop-at-preserved g c = record {
   within = c.run_at-run.ensures.bound;
   stands = λ began given s.
-      rw (run_taken given c.args.piece.now c.run_at-run.result.now c.loop-at.at
-      c.run_at-run.ensures.run) (stands_run (c.loop-at.invariant.stands began given s)
-      c.run_at-run.result.now c.run_at-run.ensures.unbroken
-      c.in_ok-keep.ensures.ok c.in_ok-keep.ensures.lines c.in_ok-keep.ensures.bytes
-      (omega (arith, c.if-intake-ge-MAX_LINES.false))
-      (omega (arith, c.run_at-run.ensures.most, c.if-intake-ge-MAX_BYTES.false)));
+      let stood = c.loop-at.invariant.stands began given s in
+      rw (more_taken given _ c.run_at-run.result.now _ c.run_at-run.ensures.run)
+      (stands_run stood c.run_at-run.result.now c.run_at-run.ensures.unbroken
+      (c.in_ok-keep.ensures.come _ stood.come));
   works = c.loop-at.invariant.works;
-  bytes = omega (arith, c.in_ok-keep.ensures.bytes, c.loop-at.invariant.bytes);
   calls = c.loop-at.invariant.calls;
 }
 
-pub loop-at-preserved-then-run-most : goal.loop-at-preserved-then-run-most
-loop-at-preserved-then-run-most g c = record {
+pub loop-at-preserved-then-run-room : goal.loop-at-preserved-then-run-room
+loop-at-preserved-then-run-room g c = record {
   within = omega (arith, c.if-at-piece.true);
   stands = λ began given s.
-      rw (line_taken given c.args.piece.now c.run_at-run.result.now c.loop-at.at
-      c.run_at-run.ensures.run c.if-at-piece.true
-      (c.run_at-run.ensures.stops c.if-at-piece.true c.if-run-most.true))
+      rw (more_taken given _ (c.run_at-run.result.now ++ 10 ∷ []) _
+      (c.run_at-run.ensures.stops c.if-at-piece.true c.if-run-room.true))
       (c.in_ok-end_line.ensures.ok began _ (c.loop-at.invariant.stands began given s));
   works = (
     c.in_ok-end_line.ensures.works.0 ∙ c.loop-at.invariant.works.0,
     c.in_ok-end_line.ensures.works.1 ∙ c.loop-at.invariant.works.1,
   );
-  bytes = omega (arith, c.in_ok-end_line.ensures.bytes, c.loop-at.invariant.bytes);
   calls = writes_then _ _ _ c.loop-at.invariant.calls c.in_ok-end_line.ensures.calls;
 }

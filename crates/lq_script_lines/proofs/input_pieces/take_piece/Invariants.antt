@@ -1,4 +1,4 @@
-use Rattle.std.proofs.Common.{◌≡◌, ◌≤◌, ◌+◌, ◌-◌, ◌++◌, ℕ, List, length, take}
+use Rattle.std.proofs.Common.{◌≡◌, ◌≤◌, ◌-◌, ◌++◌, ℕ, List, length, take}
 use Rattle.lq_script_lines.specs.Calls.{OnlyWrites}
 use Rattle.lq_script_lines.specs.Progress.{Began, RunStands}
 use Rattle.lq_script_lines.proofs.input_pieces.take_piece.Given as goal
@@ -13,7 +13,6 @@ invariant-loop-at g l = record {
       (g.S.Responder.state l.responder) l.intake l.out.items;
   works : (g.W.Sink.failed l.writer ≡ g.W.Sink.failed l.fn.writer)
       × (g.W.Sink.stalled l.writer ≡ g.W.Sink.stalled l.fn.writer);
-  bytes : l.intake.bytes ≡ l.fn.intake.bytes + l.at;
   calls : OnlyWrites (g.W.Sink.calls l.fn.writer) (g.W.Sink.calls l.writer);
 }
 

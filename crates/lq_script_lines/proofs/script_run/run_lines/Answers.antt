@@ -4,16 +4,15 @@ use Rattle.std.proofs.lemmas.Result.{on_err_weaker, on_ok_weaker}
 use Rattle.lq_script_lines.specs.declared.run_fault.RunFault.TheVariants.{Memory, Write}
 use Rattle.lq_script_lines.proofs.CallLemmas.{before_end, no_writes, writes_before, writes_then}
 use Rattle.lq_script_lines.proofs.ResultLemmas.{no_other}
-use Rattle.lq_script_lines.proofs.ProgressLemmas.{fronts_all, fronts_handed, stands_handed, stands_stops, stands_within}
-use Rattle.lq_script_lines.proofs.RunLemmas.{end_outcome, less_left, read_none, read_outcome, run_ended, run_halted, run_passed, run_stopped, stands_none, write_outcome}
+use Rattle.lq_script_lines.proofs.ProgressLemmas.{fronts_all, fronts_handed, stands_handed, stands_none, stands_stops}
+use Rattle.lq_script_lines.proofs.RunLemmas.{end_outcome, less_left, read_none, read_outcome, run_ended, run_halted, run_passed, run_stopped, write_outcome}
 use Rattle.lq_script_lines.proofs.script_run.run_lines.Goals as goal
 
 pub loop-out-init : goal.loop-out-init
 loop-out-init g c = record {
   given = [];
   consumed = Consumes-nil _;
-  stands = stands_none c.new-intake.ensures.line c.new-intake.ensures.long
-      c.new-intake.ensures.lines c.new-intake.ensures.bytes c.new-out.ensures.items;
+  stands = stands_none c.new-intake.ensures c.new-out.ensures.items;
   reader_works = c.requires.reader_works;
   writer_works = c.requires.writer_works;
   writer_moves = c.requires.writer_moves;
@@ -97,7 +96,7 @@ returns-then-count-eq0 g c =
         given = i.given;
         consumed = read;
         at_end = bytes.1 c.if-count-eq0.true (omega arith);
-        within = stands_within stood;
+        within = stood.come.within;
         appended = all _ i.given stood;
       }) says.ok) (on_err_weaker r (λ part. run_stopped read (part _ i.given stood)) says.err)
           halted (c.in-Ok.ensures.works ∙ i.reader_works) (on_ok_weaker r (λ same. (
@@ -114,8 +113,8 @@ loop-out-smaller g c =
     let i = c.loop-out.invariant in
     let more = c.in_ok-take_block.ensures.ok _ i.given
     (stands_handed i.stands c.in_ok-write_replies.ensures.ok c.write_replies.ensures.empty) in
-    less_left _ _ c.in-Ok.count _ c.if-count-eq0.false c.in-Ok.ensures.bound
-    c.in_ok-take_block.ensures.bytes more.bytes_within
+    less_left i.given c.in-Ok.count _ c.if-count-eq0.false c.in-Ok.ensures.bound
+    i.stands.come more.come
 
 pub loop-out-preserved : goal.loop-out-preserved
 loop-out-preserved g c =

@@ -20,7 +20,6 @@ returns-in_err-write_and_flush-in-Err g c =
     let is : c.from_residual.result ≡ Err Write = search rules in
     let failed = c.in_err-write_and_flush-in-Err.ensures in rw is (record {
       ok = tt;
-      bytes = tt;
       works = tt;
       err = λ began given s. rw c.write_and_flush.ensures.empty
           (fronts_handed (c.in-Err.ensures.taken.err began given s) failed.err);
@@ -45,7 +44,6 @@ returns-in_ok-write_and_flush-in-Err g c =
     let says = c.in-Err.ensures.taken in
     let wrote = c.in_ok-write_and_flush-in-Err.ensures in record {
       ok = tt;
-      bytes = tt;
       works = tt;
       err = λ began given s.
           rw c.write_and_flush.ensures.empty (fronts_all (says.err began given s) wrote.ok);
@@ -53,7 +51,7 @@ returns-in_ok-write_and_flush-in-Err g c =
         count = met.count;
         follows = met.follows;
         stands = stands_handed met.stands wrote.ok refl;
-        at_limit = met.at_limit;
+        passes = met.passes;
       };
       memory = λ is began given s. halts_handed (says.memory is began given s) wrote.ok;
       memory_works = λ is. wrote.stalls ∙ (says.memory_works is).1;

@@ -1,5 +1,6 @@
 use Rattle.std.proofs.Common.{◌≤◌, ◌-◌, ◌++◌, ℕ, List, length, take}
-use Rattle.lq_script.specs.Input.{HandsEnded, HasCome}
+use Rattle.lq_script_lines.specs.Progress.{HasCome}
+use Rattle.lq_script.specs.Input.{HandsEnded}
 use Rattle.lq_script.proofs.input_lines.Lines.take.Given as goal
 
 abbrev pub invariant-loop-at : goal.invariant-loop-at

@@ -21,7 +21,7 @@ returns-in_err-take_line-clause-carried g c =
     let text = c.loop-count.rest.now in
     let line = asked_by (take c.in-Some.count text) in
     let later = asked_by_all (drop (c.in-Some.count + 1) text) in
-    let first = first_asked text c.in-Some.count c.in-Some.ensures in
+    let first = first_asked text c.in-Some.count c.in-Some.ensures.some in
     carries_as (asked_by_all c.args.lines.now) (c.loop-count.invariant.asked ++ line ∷ later)
     c.from_residual.result (Err e) _ _
     (c.loop-count.invariant.split
@@ -34,7 +34,7 @@ pub loop-count-preserved : goal.loop-count-preserved
 loop-count-preserved g c =
     let text = c.loop-count.rest.now in
     let line = asked_by (take c.in-Some.count text) in
-    let first = first_asked text c.in-Some.count c.in-Some.ensures in
+    let first = first_asked text c.in-Some.count c.in-Some.ensures.some in
     record {
       within = omega (arith, c.after-rest.ensures.shorter, c.loop-count.invariant.within);
       same = c.take_line.ensures.same ∙ c.loop-count.invariant.same;
@@ -61,7 +61,7 @@ returns-in_err-end_batch-clause-carried g c =
     carries_as (asked_by_all c.args.lines.now) (asked ++ []) r (Err e) _ _
     (c.loop-count.invariant.split
     ∙ ap (λ (l : List Asked). asked ++ l)
-    (none_asked c.loop-count.rest.now c.in_default.ensures)) is
+    (none_asked c.loop-count.rest.now c.in_default.ensures.none)) is
     (carries_then asked [] (Err e) _ _ _ tt c.loop-count.invariant.carried
     c.in_err-end_batch.ensures.carried)
 
@@ -73,7 +73,7 @@ returns-clause-carried g c =
     carries_as (asked_by_all c.args.lines.now) (asked ++ []) r r _ _
     (c.loop-count.invariant.split
     ∙ ap (λ (l : List Asked). asked ++ l)
-    (none_asked c.loop-count.rest.now c.in_default.ensures)) refl
+    (none_asked c.loop-count.rest.now c.in_default.ensures.none)) refl
     (carries_then asked [] r _ _ _ tt c.loop-count.invariant.carried
     (carries_then [] [] r _ _ _ _ c.in_ok-end_batch.ensures.carried
     (carries_written r _ _ refl quiet quiet c.write_replies.ensures.put)))
