@@ -2,3 +2,4 @@ pub mod Handle
 pub mod Lent
 pub mod Held
 pub mod Numbers
+pub mod QuotedText

@@ -1,7 +1,7 @@
--- A text that is quoted a byte at a time.
-use Rattle.std.proofs.Common.{◌≡◌, ◌∙◌, ◌+◌, ◌<◌, ◌≤◌, ℕ, Bool, true, false, List, [], ◌∷◌, ◌++◌, length, get_or, take, drop, set, refl, sym, ap, arith, append_assoc, length-append, length-drop}
+-- A text that is quoted a byte at a time, each pushed.
+use Rattle.std.proofs.Common.{◌≡◌, ◌∙◌, ◌+◌, ◌<◌, ◌≤◌, ℕ, Bool, true, false, List, [], ◌∷◌, ◌++◌, length, get_or, drop, sym, ap, append_assoc}
 use Rattle.std.specs.Prelude.{if◌then◌else◌}
-use Rattle.std.proofs.lemmas.List.{at_drop_more, drop_all, take_all, take_more_set, length-set}
+use Rattle.std.proofs.lemmas.List.{at_drop_more, drop_all}
 use Rattle.lq_value.specs.declared.op.Op.{Op}
 use Rattle.lq_embed.specs.Quoting.{escaped_for, has_meaning, quoted_for}
 
@@ -39,8 +39,6 @@ written_next o text i d t out all lt is was =
 none_left : (o : Op) (text : List ℕ) (i : ℕ) → length text ≤ i → escaped_for o (drop i text) ≡ []
 none_left o text i past = ap (escaped_for o) (drop_all i text past)
 
--- ---- pushes
-
 -- the first mark
 pub pushed_first : (o : Op) (text out : List ℕ)
     → (out ++ 34 ∷ []) ++ (escaped_for o text ++ 34 ∷ []) ≡ out ++ quoted_for o text
@@ -51,27 +49,3 @@ pub pushed_last : (o : Op) (text : List ℕ) (i : ℕ) (out all : List ℕ) → 
     → Written o text i out all → out ++ 34 ∷ [] ≡ all
 pushed_last o text i out all past was =
     sym (ap (λ l. out ++ (l ++ 34 ∷ [])) (none_left o text i past)) ∙ was
-
--- ---- a room of just the size
-
--- what comes after the first mark has room
-pub written_room : (o : Op) (text out : List ℕ) → length out ≡ length (quoted_for o text)
-    → 1 + length (escaped_for o text) + 1 ≡ length (set out 0 34)
-written_room o text out size =
-    omega (arith, size, length-append (escaped_for o text) (34 ∷ []), length-set out 0 34)
-
--- the first mark
-pub written_first : (o : Op) (text out : List ℕ) → length out ≡ length (quoted_for o text)
-    → take 1 (set out 0 34) ++ (escaped_for o text ++ 34 ∷ []) ≡ quoted_for o text
-written_first o text [] size = absurd (omega (arith, size))
-written_first o text (b ∷ bs) size = refl
-
--- the last one, which fills the room
-pub written_last : (o : Op) (text : List ℕ) (i : ℕ) (out all : List ℕ) (at : ℕ) → length text ≤ i
-    → at + length (escaped_for o (drop i text)) + 1 ≡ length out
-    → Written o text i (take at out) all → set out at 34 ≡ all
-written_last o text i out all at past room was =
-    let left : length (escaped_for o (drop i text)) ≡ 0 = ap length (none_left o text i past) in
-    let lt : at < length out = omega (arith, room, left) in
-    sym (take_all (at + 1) (set out at 34) (omega (arith, room, left, length-set out at 34)))
-    ∙ (take_more_set out at 34 lt ∙ pushed_last o text i (take at out) all past was)

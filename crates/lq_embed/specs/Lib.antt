@@ -12,7 +12,6 @@ pub mod Reads
 pub mod PathNames
 pub mod Opening
 pub mod Quoting
-pub mod QuotedText
 pub mod QuotedReading
 pub mod Parameters
 pub mod ParameterList

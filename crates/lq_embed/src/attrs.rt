@@ -1,15 +1,14 @@
 //! Writes the attributes of an entry for the caller, by index or by name.
-ghost use Rattle.std.specs.Prelude.{◌≡◌};
+ghost use Rattle.std.specs.Prelude.{◌≡◌, length};
 ghost use Rattle.lq_value.specs.Value.{shown_by};
 ghost use Rattle.lq_embed.specs.Attrs.{ShowsAttr, ShowsNamed, attr_by_name, attr_by_index, attr_out, attr_with_name};
-ghost use Rattle.lq_embed.specs.Outs.{attr_after};
+ghost use Rattle.lq_embed.specs.Outs.{attr_after, text_put};
 ghost use Rattle.lq_embed.specs.SessionState.{holds, volume_in};
 ghost use Rattle.lq_embed.specs.Status.{outcome_status};
 
 use crate::embedded::Embedded;
-use crate::out_structs::AttrOut;
-use crate::out_text::put_text;
-use crate::statuses::status;
+use crate::numbers::status;
+use crate::out_structs::{AttrOut, put_text};
 use lq_value::{AttrName, Refusal, View};
 
 impl Embedded {
@@ -77,32 +76,27 @@ fn put_attr(name: &[u8], view: View<'_>, out: &mut AttrOut)
     ensures { out.new ≡ attr_after name.now (shown_by view.entry) out.old }
 {
     out.name_size = put_text(&mut out.name, name);
-    out.whole = 0;
-    out.natural = 0;
     match view {
-        View::Text(text) => {
-            out.kind = 0x43535452;
-            out.text_size = put_text(&mut out.text, text.as_bytes());
-        }
-        View::Int32(number) => {
-            out.kind = 0x4C4F4E47;
-            out.text_size = put_text(&mut out.text, b"");
-            out.whole = i64::from(number);
-        }
-        View::Int64(number) => {
-            out.kind = 0x4C4C4E47;
-            out.text_size = put_text(&mut out.text, b"");
-            out.whole = number;
-        }
-        View::UInt32(number) => {
-            out.kind = 0x554C4E47;
-            out.text_size = put_text(&mut out.text, b"");
-            out.natural = u64::from(number);
-        }
-        View::UInt64(number) => {
-            out.kind = 0x554C4C47;
-            out.text_size = put_text(&mut out.text, b"");
-            out.natural = number;
-        }
+        View::Text(text) => put_value(0x43535452, 0, 0, text.as_bytes(), out),
+        View::Int32(number) => put_value(0x4C4F4E47, i64::from(number), 0, b"", out),
+        View::Int64(number) => put_value(0x4C4C4E47, number, 0, b"", out),
+        View::UInt32(number) => put_value(0x554C4E47, 0, u64::from(number), b"", out),
+        View::UInt64(number) => put_value(0x554C4C47, 0, number, b"", out),
     }
+}
+
+// Writes the type of a value, and its number or its text.
+fn put_value(kind: u32, whole: i64, natural: u64, text: &[u8], out: &mut AttrOut)
+    ensures { out.new ≡ record out.old {
+      kind = kind;
+      whole = whole;
+      natural = natural;
+      text_size = length text.now;
+      text = text_put text.now out.old.text;
+    } }
+{
+    out.kind = kind;
+    out.whole = whole;
+    out.natural = natural;
+    out.text_size = put_text(&mut out.text, text);
 }

@@ -7,9 +7,9 @@ ghost use Rattle.lq_embed.specs.SessionState.{holds, with_bound};
 
 use crate::bound_formula::{Unbound, bind};
 use crate::embedded::Embedded;
+use crate::numbers::{MISUSE, NO_VALUE, UNUSED_VALUE, status};
 use crate::out_structs::{FetchedOut, OpenOptions, OpeningOut};
 use crate::parameters::MAX_VALUES;
-use crate::statuses::{MISUSE, NO_VALUE, UNUSED_VALUE, status};
 use lq_value::{Refusal, Value};
 
 impl Embedded {

@@ -10,9 +10,9 @@ ghost use Rattle.lq_embed.specs.SessionState.{holds};
 ghost use Rattle.lq_embed.specs.Status.{status_of};
 
 use crate::embedded::Embedded;
-use crate::numbers::kind_numbered;
+use crate::live_queries::acted;
+use crate::numbers::{kind_numbered, status};
 use crate::out_structs::AppliedOut;
-use crate::statuses::status;
 use lq_desk::Reply;
 use lq_script_request::RawRequest;
 use lq_value::{Refusal, View};
@@ -145,15 +145,9 @@ fn applied(reply: Reply, out: &mut AppliedOut) -> u32
     ensures status { result ≡ status_of (answer_of reply) }
     ensures out { out.new ≡ applied_after (answer_of reply) out.old }
 {
-    match reply {
-        Reply::Changed(applied) => {
-            *out = AppliedOut {
-                change: applied.change,
-                node: applied.node,
-            };
-            0
-        }
-        Reply::Refused(refusal) => status(refusal),
-        _ => 0,
+    if let Reply::Changed(applied) = &reply {
+        out.change = applied.change;
+        out.node = applied.node;
     }
+    acted(&reply)
 }

@@ -1,14 +1,15 @@
 //! The embedded session: a script's session, with what its calls gave kept until the caller takes
 //! it.
 ghost use Rattle.std.specs.Prelude.{◌≡◌, IfOk};
-ghost use Rattle.lq_value.specs.Refusal.{FailsOnlyForMemory};
+ghost use Rattle.lq_value.specs.Refusal.{FailsOnlyForMemory, code_of};
 ghost use Rattle.lq_desk.specs.Reply.{answer_of};
 ghost use Rattle.lq_script_desk.specs.Keeps.{keeps};
 ghost use Rattle.lq_script_request.specs.Asked.{asked_by};
 ghost use Rattle.lq_script_request.specs.Request.{request_for};
-ghost use Rattle.lq_embed.specs.Calls.{Asks};
+ghost use Rattle.lq_embed.specs.Calls.{Asks, state_after_refusal};
 ghost use Rattle.lq_embed.specs.SessionState.{first_state, holds, volume_in, with_session};
 
+use crate::numbers::status;
 use lq_desk::Reply;
 use lq_predicate::Stack;
 use lq_script_desk::Session;
@@ -80,6 +81,17 @@ impl Embedded {
             Ok(Request::Look(_)) => Reply::Refused(Refusal::BadLine),
             Err(refusal) => Reply::Refused(refusal),
         }
+    }
+
+    // The status of a refusal, whose place is kept if it has one.
+    pub(crate) fn refused(&mut self, refusal: Refusal) -> u32
+        ensures status { result ≡ code_of refusal }
+        ensures after { holds self.new ≡ state_after_refusal refusal (holds self.old) }
+    {
+        if let Refusal::BadQuery { place } = refusal {
+            self.fault = place;
+        }
+        status(refusal)
     }
 
     /// The place of the last fault: the byte of a formula, the number of pushes accepted before, or

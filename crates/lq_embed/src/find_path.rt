@@ -6,7 +6,7 @@ ghost use Rattle.lq_embed.specs.SessionState.{holds};
 
 use crate::embedded::Embedded;
 use crate::folders::SLASH;
-use crate::statuses::status;
+use crate::numbers::status;
 use lq_value::{MAX_NAME, Refusal};
 
 impl Embedded {

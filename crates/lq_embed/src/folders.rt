@@ -5,7 +5,7 @@ ghost use Rattle.lq_embed.specs.Folders.{Lists, Paths, path_text};
 ghost use Rattle.lq_embed.specs.SessionState.{holds};
 
 use crate::embedded::Embedded;
-use crate::statuses::status;
+use crate::numbers::status;
 use lq_value::{Name, Refusal};
 use std::alloc::Global;
 

@@ -22,20 +22,17 @@ mod lookups;
 mod numbers;
 mod options;
 mod out_structs;
-mod out_text;
 mod parameters;
 mod pushes;
 mod quoting;
 mod reads;
 mod rows;
-mod statuses;
 
 pub use embedded::Embedded;
 pub use laws::{bound_formulas_are_read, embedded_may_be_sent, texts_are_meant};
 pub use out_structs::{
     AppliedOut, AttrOut, FetchedOut, InfoOut, MessageOut, OpenOptions, OpeningOut, RebuiltOut,
-    RowOut,
+    RowOut, put_text,
 };
-pub use out_text::put_text;
 pub use pushes::Push;
-pub use quoting::quote_text;
+pub use quoting::has_meaning;

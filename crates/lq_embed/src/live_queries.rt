@@ -1,60 +1,19 @@
-//! Opens, reads and ends live queries by typed calls, and writes messages in C's layout.
-ghost use Rattle.std.specs.Prelude.{◌≡◌, [], length};
-ghost use Rattle.lq_value.specs.Refusal.{code_of};
+//! Reads and ends live queries by typed calls, and writes messages in C's layout.
+ghost use Rattle.std.specs.Prelude.{◌≡◌, length};
 ghost use Rattle.lq_desk.specs.Reply.{answer_of};
 ghost use Rattle.lq_desk_world.specs.declared.event.Event.TheVariants.{Close, Finish, HangUp, Take};
-ghost use Rattle.lq_embed.specs.Calls.{Acts, Ends, GivesRow, ReadsSlot, TellsSlots, forgotten, state_after_opening, state_after_refusal};
-ghost use Rattle.lq_embed.specs.Outs.{attr_of_op, change_after, from_dir_of, from_name_of, mark_after, message_after, number_of_op, opening_after, read_after, row_after, text_put};
+ghost use Rattle.lq_embed.specs.Calls.{Acts, Ends, ReadsSlot, TellsSlots, forgotten};
+ghost use Rattle.lq_embed.specs.Outs.{attr_of_op, change_after, from_dir_of, from_name_of, mark_after, message_after, number_of_op, read_after, text_put};
 ghost use Rattle.lq_embed.specs.SessionState.{holds};
 ghost use Rattle.lq_embed.specs.Status.{read_status, status_of};
 
 use crate::embedded::Embedded;
-use crate::numbers::number_of_kind;
-use crate::out_structs::{MessageOut, OpeningOut, RowOut};
-use crate::out_text::put_text;
-use crate::statuses::{EMPTY, ENDED, status};
+use crate::numbers::{EMPTY, ENDED, status};
+use crate::out_structs::{MessageOut, put_text};
 use lq_desk::{Event, Read, Reply};
 use lq_update::{Cause, Mark, Message, Opcode};
-use lq_value::{Entry, Refusal};
-use lq_volume::Volume;
 
 impl Embedded {
-    // Writes what was opened, keeps its result to be given, and answers the status.
-    pub(crate) fn opened(&mut self, reply: Reply, out: &mut OpeningOut) -> u32
-        ensures status { result ≡ status_of (answer_of reply) }
-        ensures out { out.new ≡ opening_after (answer_of reply) out.old }
-        ensures after { holds self.new ≡ state_after_opening (answer_of reply) (holds self.old) }
-    {
-        match reply {
-            Reply::Opened {
-                slot,
-                at,
-                result: entries,
-            } => {
-                *out = OpeningOut {
-                    slot,
-                    at,
-                    count: entries.len(),
-                };
-                self.entries = entries.into_iter();
-                0
-            }
-            Reply::Refused(refusal) => self.refused(refusal),
-            _ => 0,
-        }
-    }
-
-    // The status of a refusal, whose place is kept if it has one.
-    pub(crate) fn refused(&mut self, refusal: Refusal) -> u32
-        ensures status { result ≡ code_of refusal }
-        ensures after { holds self.new ≡ state_after_refusal refusal (holds self.old) }
-    {
-        if let Refusal::BadQuery { place } = refusal {
-            self.fault = place;
-        }
-        status(refusal)
-    }
-
     /// Takes the oldest parcel from a slot's port, after the turn's notice and puts. It never
     /// answers `NoMemory`: where memory runs out for the slot's rebuilt result, the slot is left
     /// without one.
@@ -95,19 +54,6 @@ impl Embedded {
         acted(&self.session.turn(&Event::Finish(slot)))
     }
 
-    /// Writes the next entry of the last result; false, and nothing is written, where there is
-    /// none. It takes no memory.
-    pub fn next_entry(&mut self, out: &mut RowOut) -> bool
-        ensures { GivesRow (holds self.old) (holds self.new) result out.old out.new
-            (holds self.old).entries }
-    {
-        let Some(entry) = self.entries.next() else {
-            return false;
-        };
-        put_row(self.session.volume(), &entry, out);
-        true
-    }
-
     /// Which slots have something to read: a word with a bit for each slot, for slot k the one at
     /// k - 1. A bit is set just where `read` would write a message or the mark. It takes no memory.
     pub fn ready(&self) -> u64
@@ -121,27 +67,6 @@ impl Embedded {
         ensures { holds self.new ≡ forgotten (holds self.old) slot }
     {
         self.session.forget(slot);
-    }
-}
-
-// Writes an entry of a result.
-fn put_row(volume: &Volume, entry: &Entry, out: &mut RowOut)
-    ensures { out.new ≡ row_after volume.now entry.now out.old }
-{
-    out.dir = entry.dir;
-    out.node = entry.node;
-    out.name_size = put_text(&mut out.name, entry.name.as_str().as_bytes());
-    match volume.entry(entry.node) {
-        Ok(there) => {
-            out.size = there.size();
-            out.time = there.time();
-            out.kind = number_of_kind(there.kind());
-        }
-        Err(_) => {
-            out.size = 0;
-            out.time = 0;
-            out.kind = 2;
-        }
     }
 }
 
@@ -188,43 +113,34 @@ fn put_opcode(op: &Opcode, out: &mut MessageOut)
     } }
 {
     match op {
-        Opcode::Created => put_no_place(1, out),
-        Opcode::Removed => put_no_place(2, out),
+        Opcode::Created => put_op(1, 0, b"", b"", out),
+        Opcode::Removed => put_op(2, 0, b"", b"", out),
         Opcode::Moved {
             from_dir,
             from_name,
-        } => {
-            put_no_place(3, out);
-            out.from_dir = *from_dir;
-            let name = from_name.as_str().as_bytes();
-            out.from_name_size = put_text(&mut out.from_name, name);
-        }
-        Opcode::ValueChanged { attribute: None } => put_no_place(4, out),
+        } => put_op(3, *from_dir, from_name.as_str().as_bytes(), b"", out),
+        Opcode::ValueChanged { attribute: None } => put_op(4, 0, b"", b"", out),
         Opcode::ValueChanged {
             attribute: Some(attribute),
-        } => {
-            put_no_place(5, out);
-            let name = attribute.as_str().as_bytes();
-            out.attr_size = put_text(&mut out.attr, name);
-        }
+        } => put_op(5, 0, b"", attribute.as_str().as_bytes(), out),
     }
 }
 
-// Writes an opcode with no old place and no attribute.
-fn put_no_place(op: u32, out: &mut MessageOut)
+// Writes an opcode's number, its old place and its attribute.
+fn put_op(op: u32, from_dir: u64, from_name: &[u8], attr: &[u8], out: &mut MessageOut)
     ensures { out.new ≡ record out.old {
       op = op;
-      from_dir = 0;
-      from_name_size = 0;
-      from_name = text_put [] out.old.from_name;
-      attr_size = 0;
-      attr = text_put [] out.old.attr;
+      from_dir = from_dir;
+      from_name_size = length from_name.now;
+      from_name = text_put from_name.now out.old.from_name;
+      attr_size = length attr.now;
+      attr = text_put attr.now out.old.attr;
     } }
 {
     out.op = op;
-    out.from_dir = 0;
-    out.from_name_size = put_text(&mut out.from_name, b"");
-    out.attr_size = put_text(&mut out.attr, b"");
+    out.from_dir = from_dir;
+    out.from_name_size = put_text(&mut out.from_name, from_name);
+    out.attr_size = put_text(&mut out.attr, attr);
 }
 
 // Writes the mark of a subscription.
@@ -235,9 +151,7 @@ fn put_mark(mark: &Mark, out: &mut MessageOut)
     out.change = mark.change;
     out.dir = 0;
     out.node = 0;
-    out.from_dir = 0;
     out.what = 2;
-    out.op = 0;
     out.cause = match mark.cause {
         Cause::Closed => 1,
         Cause::HungUp => 2,
@@ -245,8 +159,7 @@ fn put_mark(mark: &Mark, out: &mut MessageOut)
     };
     out.last = false;
     out.name_size = put_text(&mut out.name, b"");
-    out.from_name_size = put_text(&mut out.from_name, b"");
-    out.attr_size = put_text(&mut out.attr, b"");
+    put_op(0, 0, b"", b"", out);
 }
 
 // Writes the last change of a subscription that was ended, and answers the status.
@@ -254,18 +167,14 @@ fn ended(reply: &Reply, change: &mut u64) -> u32
     ensures status { result ≡ status_of (answer_of reply.now) }
     ensures change { change.new ≡ change_after (answer_of reply.now) change.old }
 {
-    match reply {
-        Reply::Shut(covered) => {
-            *change = *covered;
-            0
-        }
-        Reply::Refused(refusal) => status(*refusal),
-        _ => 0,
+    if let Reply::Shut(covered) = reply {
+        *change = *covered;
     }
+    acted(reply)
 }
 
 // The status of an act.
-fn acted(reply: &Reply) -> u32
+pub(crate) fn acted(reply: &Reply) -> u32
     ensures { result ≡ status_of (answer_of reply.now) }
 {
     match reply {

@@ -7,17 +7,15 @@ ghost use Rattle.lq_script_request.specs.declared.request.Look.TheVariants.{Entr
 ghost use Rattle.lq_script_desk.specs.Answer.{response_of};
 ghost use Rattle.lq_script_desk.specs.Answered.{Responds};
 ghost use Rattle.lq_script_desk.specs.Keeps.{keeps};
-ghost use Rattle.lq_embed.specs.Calls.{Fetches, FindsNode, Rebuilds, ShowsEntry, state_after_fetch, state_after_rebuilt};
-ghost use Rattle.lq_embed.specs.Outs.{fetched_after, node_after, rebuilt_after};
+ghost use Rattle.lq_embed.specs.Calls.{Fetches, FindsNode, Rebuilds, ShowsEntry, state_after_fetch};
+ghost use Rattle.lq_embed.specs.Outs.{fetched_after, node_after};
 ghost use Rattle.lq_embed.specs.Requests.{fetch_request, find_request};
 ghost use Rattle.lq_embed.specs.SessionState.{holds};
 ghost use Rattle.lq_embed.specs.Status.{response_status};
 
 use crate::embedded::Embedded;
-use crate::numbers::number_of_kind;
-use crate::out_structs::{FetchedOut, InfoOut, RebuiltOut};
-use crate::out_text::put_text;
-use crate::statuses::status;
+use crate::numbers::{number_of_kind, status};
+use crate::out_structs::{FetchedOut, InfoOut, RebuiltOut, put_text};
 use lq_script_desk::Response;
 use lq_script_request::{Look, RawRequest, Request, read_request};
 use lq_value::Refusal;
@@ -57,29 +55,16 @@ impl Embedded {
         ensures { Rebuilds (holds self.old) (holds self.new) (Ok (request.Look (Rebuilt slot)))
             result out.old out.new }
     {
-        let response = self.session.look(&Look::Rebuilt { slot });
-        self.given(response, out)
-    }
-
-    // Writes what a rebuilt result is, keeps it to be given, and answers the status.
-    fn given(&mut self, response: Response, out: &mut RebuiltOut) -> u32
-        ensures status { result ≡ response_status (response_of response) }
-        ensures out { out.new ≡ rebuilt_after (response_of response) out.old }
-        ensures after { holds self.new
-            ≡ state_after_rebuilt (response_of response) (holds self.old) }
-    {
-        match response {
+        match self.session.look(&Look::Rebuilt { slot }) {
             Response::Rebuilt {
                 change,
-                result: entries,
+                result,
                 settled,
             } => {
-                *out = RebuiltOut {
-                    change,
-                    count: entries.len(),
-                    settled,
-                };
-                self.entries = entries.into_iter();
+                out.change = change;
+                out.count = result.len();
+                out.settled = settled;
+                self.entries = result.into_iter();
                 0
             }
             Response::Refused(refusal) => status(refusal),
@@ -94,15 +79,10 @@ impl Embedded {
         ensures after { holds self.new ≡ state_after_fetch (response_of response) (holds self.old) }
     {
         match response {
-            Response::Fetched {
-                at,
-                result: entries,
-            } => {
-                *out = FetchedOut {
-                    at,
-                    count: entries.len(),
-                };
-                self.entries = entries.into_iter();
+            Response::Fetched { at, result } => {
+                out.at = at;
+                out.count = result.len();
+                self.entries = result.into_iter();
                 0
             }
             Response::Refused(refusal) => self.refused(refusal),

@@ -1,9 +1,33 @@
-//! The numbers that stand for kinds of entries and for operators in typed calls.
+//! The numbers of typed calls: statuses, which are a refusal's code or one from 40 on that only
+//! typed calls have; and those that stand for kinds of entries and for operators.
 ghost use Rattle.std.specs.Prelude.{◌≡◌};
+ghost use Rattle.lq_value.specs.Refusal.{code_of};
 ghost use Rattle.lq_embed.specs.Numbers.{kind_numbered, number_of_kind, op_numbered};
 
 use lq_predicate::StackOp;
-use lq_value::Kind;
+use lq_value::{Kind, Refusal};
+
+/// The call was misuse.
+pub(crate) const MISUSE: u32 = 40;
+
+/// There is nothing to read.
+pub(crate) const EMPTY: u32 = 41;
+
+/// The mark was read before.
+pub(crate) const ENDED: u32 = 42;
+
+/// No value was bound for a parameter.
+pub(crate) const NO_VALUE: u32 = 43;
+
+/// No parameter has the number of a bound value.
+pub(crate) const UNUSED_VALUE: u32 = 44;
+
+/// The number of a refusal.
+pub(crate) fn status(refusal: Refusal) -> u32
+    ensures { result ≡ code_of refusal }
+{
+    refusal.code() as u32
+}
 
 /// The kind with this number: 0 a file, 1 a folder.
 pub fn kind_numbered(number: u32) -> Option<Kind>

@@ -1,14 +1,18 @@
 //! Opens a live query with options; a backlog of 0 means the default.
 ghost use Rattle.std.specs.Prelude.{◌≡◌};
 ghost use Rattle.lq_predicate.specs.Stack.{only_part};
+ghost use Rattle.lq_desk.specs.Reply.{answer_of};
+ghost use Rattle.lq_embed.specs.Calls.{state_after_opening};
 ghost use Rattle.lq_embed.specs.Opening.{OpensBy, asked_options, backlog_of, kept_by};
+ghost use Rattle.lq_embed.specs.Outs.{opening_after};
 ghost use Rattle.lq_embed.specs.Requests.{left_by, open_pushed, open_request};
 ghost use Rattle.lq_embed.specs.SessionState.{holds};
+ghost use Rattle.lq_embed.specs.Status.{status_of};
 
 use crate::embedded::Embedded;
+use crate::numbers::status;
 use crate::out_structs::{OpenOptions, OpeningOut};
-use crate::statuses::status;
-use lq_desk::Event;
+use lq_desk::{Event, Reply};
 use lq_script_request::RawRequest;
 use lq_update::{Flags, OpenOptions as QueryOptions};
 use lq_value::Refusal;
@@ -31,13 +35,11 @@ impl Embedded {
         let Ok(query) = str::from_utf8(formula) else {
             return status(Refusal::NotUtf8);
         };
-        let asked = asked_options(options);
-        let reply = self.answer_request(&RawRequest::Open {
-            query,
-            options: asked,
-        });
+        let no_result = options.no_result;
+        let options = asked_options(options);
+        let reply = self.answer_request(&RawRequest::Open { query, options });
         let status = self.opened(reply, out);
-        self.keep_by(options.no_result, status, out.slot);
+        self.keep_by(no_result, status, out.slot);
         status
     }
 
@@ -57,14 +59,31 @@ impl Embedded {
             Ok(predicate) => predicate,
             Err(refusal) => return self.refused(refusal),
         };
-        let asked = asked_options(options);
-        let reply = self.session.turn(&Event::OpenBy {
-            predicate,
-            options: asked,
-        });
+        let no_result = options.no_result;
+        let options = asked_options(options);
+        let reply = self.session.turn(&Event::OpenBy { predicate, options });
         let status = self.opened(reply, out);
-        self.keep_by(options.no_result, status, out.slot);
+        self.keep_by(no_result, status, out.slot);
         status
+    }
+
+    // Writes what was opened, keeps its result to be given, and answers the status.
+    fn opened(&mut self, reply: Reply, out: &mut OpeningOut) -> u32
+        ensures status { result ≡ status_of (answer_of reply) }
+        ensures out { out.new ≡ opening_after (answer_of reply) out.old }
+        ensures after { holds self.new ≡ state_after_opening (answer_of reply) (holds self.old) }
+    {
+        match reply {
+            Reply::Opened { slot, at, result } => {
+                out.slot = slot;
+                out.at = at;
+                out.count = result.len();
+                self.entries = result.into_iter();
+                0
+            }
+            Reply::Refused(refusal) => self.refused(refusal),
+            _ => 0,
+        }
     }
 
     // Leaves an opened slot without its rebuilt result, where none is wanted.

@@ -1,68 +1,14 @@
 //! Writes values as literals of a formula that mean just these values.
-ghost use Rattle.std.specs.Prelude.{◌≡◌, ◌≤◌, ◌++◌, OnOk, length};
+ghost use Rattle.std.specs.Prelude.{◌≡◌, ◌++◌, OnOk};
 ghost use Rattle.lq_value.specs.Refusal.{FailsOnlyForMemory};
-ghost use Rattle.lq_value.specs.declared.op.Op.TheVariants.{Eq};
-ghost use Rattle.lq_embed.specs.QuotedText.{quoted_put, quoted_size};
 ghost use Rattle.lq_embed.specs.Quoting.{has_meaning, literal_for, quoted_for};
 
-use crate::out_text::put_nul;
 use itoa::{Buffer, Integer};
-use lq_value::{MAX_VALUE_TEXT, Op, Refusal, Value};
+use lq_value::{Op, Refusal, Value};
 
-/// Writes a text to the start of `out` as a literal that means just this text after `==`, `=` and
-/// `!=`, and answers the literal's size: between `"` marks, with `\` before each `*`, `?`, `[`, `\`
-/// and `"`. Where there is room after it, a NUL comes there; where `out` is smaller nothing is
-/// written. A text above 4,096 bytes has no such literal: the answer is 0. It takes no memory.
-pub fn quote_text(text: &[u8], out: &mut [u8]) -> usize
-    ensures size { result ≡ quoted_size text.now }
-    ensures text { out.new ≡ quoted_put text.now out.old }
-{
-    if text.len() > MAX_VALUE_TEXT {
-        return 0;
-    }
-    let size = quoted_size(text);
-    if size <= out.len() {
-        let (front, behind) = out.split_at_mut(size);
-        write_quoted(text, front);
-        put_nul(behind);
-    }
-    size
-}
-
-// The size of a text as a literal after `==`.
-fn quoted_size(text: &[u8]) -> usize
-    requires { length text.now ≤ 4096 }
-    ensures { result ≡ length (quoted_for Eq text.now) }
-{
-    let mut size = text.len() + 2;
-    for byte in text {
-        if has_meaning(Op::Eq, *byte) {
-            size += 1;
-        }
-    }
-    size
-}
-
-// Writes a text as a literal after `==` to all of `out`.
-fn write_quoted(text: &[u8], out: &mut [u8])
-    requires { length out.old ≡ length (quoted_for Eq text.now) }
-    ensures { out.new ≡ quoted_for Eq text.now }
-{
-    out[0] = b'"';
-    let mut at = 1;
-    for byte in text {
-        if has_meaning(Op::Eq, *byte) {
-            out[at] = b'\\';
-            at += 1;
-        }
-        out[at] = *byte;
-        at += 1;
-    }
-    out[at] = b'"';
-}
-
-// Whether a byte has a meaning of its own between the `"` marks of a literal.
-fn has_meaning(op: Op, byte: u8) -> bool
+/// Whether a byte has a meaning of its own between the `"` marks of a literal after an operator: it
+/// needs `\` before it to mean itself.
+pub fn has_meaning(op: Op, byte: u8) -> bool
     ensures { result ≡ has_meaning op byte }
 {
     match byte {

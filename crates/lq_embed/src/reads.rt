@@ -7,8 +7,8 @@ ghost use Rattle.lq_embed.specs.SessionState.{holds};
 
 use crate::embedded::Embedded;
 use crate::live_queries::taken;
+use crate::numbers::status;
 use crate::out_structs::MessageOut;
-use crate::statuses::status;
 use lq_desk::{Event, Read, Reply};
 use lq_value::Refusal;
 

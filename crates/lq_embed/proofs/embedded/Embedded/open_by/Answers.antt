@@ -26,7 +26,7 @@ returns c =
           ∙ ap (λ (formula : List ℕ). request_for (asks_open formula
           (asked_options c.args.options.now))) (sym text.0)
           ∙ ap (λ (asked : QueryOptions). request_for (asks_open c.in-Ok.query.now asked))
-          (sym c.asked_options-asked.ensures))
+          (sym c.asked_options-options.ensures))
           (opens-made (answer_of c.answer_request-reply.result)
           c.answer_request-reply.ensures.asks c.answer_request-reply.ensures.beside
           c.opened-status.ensures.status c.opened-status.ensures.out c.opened-status.ensures.after);

@@ -28,9 +28,9 @@ returns c = subst (λ (asked : QueryOptions). OpensBy (holds c.args.self.now)
     (left_by c.args.self.now.stack (only_part c.args.self.now.stack.items)) c.args.options.now
     (open_pushed c.args.self.now.stack.pushes asked
     (only_part c.args.self.now.stack.items)) c.opened-status.result c.args.out.now
-    c.opened-status.new.out) c.asked_options-asked.ensures (record {
+    c.opened-status.new.out) c.asked_options-options.ensures (record {
       opened = holds c.opened-status.new.self;
-      opens = opens-alone c.asked_options-asked.result
+      opens = opens-alone c.asked_options-options.result
           (only_part c.args.self.now.stack.items) c.in-Ok.predicate
           c.in-Ok.ensures.value
           (ap (λ (s : Stacked). with_pushed (holds c.args.self.now) s) c.in-Ok.ensures.ok)

@@ -1,7 +1,7 @@
 use Rattle.std.proofs.Common.{◌≡◌, ◌+◌, ◌≤◌, drop, length}
 use Rattle.lq_value.specs.declared.op.Op.TheVariants.{Eq}
 use Rattle.lq_embed.specs.Quoting.{escaped_for, quoted_for}
-use Rattle.lq_embed.proofs.quoting.quoted_size.Given as goal
+use Rattle.lq_c.proofs.formula_calls.quoted_size.Given as goal
 
 abbrev pub invariant-loop-byte : goal.invariant-loop-byte
 invariant-loop-byte l = record {

@@ -1,8 +1,8 @@
 use Rattle.std.proofs.Common.{◌≡◌, ◌+◌, drop, length, take}
 use Rattle.lq_value.specs.declared.op.Op.TheVariants.{Eq}
 use Rattle.lq_embed.specs.Quoting.{escaped_for, quoted_for}
-use Rattle.lq_embed.proofs.QuoteLemmas.{Written}
-use Rattle.lq_embed.proofs.quoting.write_quoted.Given as goal
+use Rattle.lq_c.proofs.QuoteLemmas.{Written}
+use Rattle.lq_c.proofs.formula_calls.write_quoted.Given as goal
 
 abbrev pub invariant-loop-byte : goal.invariant-loop-byte
 invariant-loop-byte l = record {
