@@ -37,7 +37,7 @@ fn words(alloc: Global) -> Result<[u64; 7], Refusal> {
     board.ask(&mut reader);
     let asks = board.asks(&mut keeper, 1);
     let met = board.meet(&mut keeper, &mut seat);
-    board.note(&mut keeper, &mut seat);
+    board.record_moment(&mut keeper, &mut seat);
     let met_slot = board.meet_slot(&mut keeper, &mut reader);
     board.join(&mut keeper, reader);
     let closed = board.close_with(keeper, seat);
@@ -58,7 +58,9 @@ fn counted(alloc: Global) -> Result<[u64; 2], Refusal> {
     let create = lawful_file(alloc, &volume, "a")?;
     let (mut board, mut keeper): (Board<u64>, Keeper<u64>) = Board::new(alloc, &volume)?;
     let mut head: Seat<u64> = board.lead(&mut keeper);
-    let mut one = board.slot_seat(&mut keeper, 1);
+    let mut one = board.slot_seat_by(&mut keeper, &mut head, 1);
+    let other = board.seat_by(&mut keeper, &mut head);
+    board.join(&mut keeper, other);
     board.enlist(&mut head, &mut one);
     let added = board.add_by(&mut keeper, &mut one, &create);
     board.dismiss(&mut head, &mut one);

@@ -143,6 +143,7 @@ impl<N: Named> Party<N> {
     }
 
     fn take_seat<R: Wait>(&mut self, rt: &R, server: &Server<N>) -> Answer {
+        let _ = &self.seat; // For the invariant: no seat leads at this server.
         let mut other = server.seat(rt)?;
         let number = server.meet(rt, &mut self.seat, &mut other);
         self.other = Some(other);
@@ -159,13 +160,13 @@ impl<N: Named> Party<N> {
 
     fn open<R: Wait>(&mut self, rt: &R, server: &Server<N>, opening: DrawnOpening) -> Answer {
         let alloc = self.acted.alloc;
-        let reader = match &mut self.reader {
+        let mut reader = match &mut self.reader {
             Some(reader) if self.is_by_reader => reader.open_another(rt, server, opening)?,
             _ => ReaderLog::open(rt, alloc, server, &mut self.seat, opening)?,
         };
-        let slot = reader.slot();
+        let slot = reader.ask(rt, server, &Act::Slot);
         self.reader = Some(reader);
-        Ok(Expected::Number(slot))
+        slot
     }
 
     fn finish<R: Wait>(&mut self, rt: &R, server: &Server<N>) -> Answer {

@@ -43,7 +43,8 @@ impl<N: Named> ReaderLog<N> {
         seat: &mut Seat,
         opening: DrawnOpening,
     ) -> Result<ReaderLog<N>, Refusal>
-        requires { (seat.old.board ≡ N.board) × (N.board.free ≡ true) }
+        requires board { (seat.old.board ≡ N.board) × (N.board.free ≡ true) }
+        requires signs { seat.old.author.signs ≡ true }
         ensures board { seat.new.board ≡ seat.old.board }
         ensures author { seat.new.author ≡ seat.old.author }
         ensures own { StaysOwn seat.old seat.new }
@@ -90,11 +91,6 @@ impl<N: Named> ReaderLog<N> {
         act: &Act,
     ) -> Result<Option<Expected>, Refusal> {
         acted.call(rt, server, self.reader.seat(), act)
-    }
-
-    /// The slot that it was opened in.
-    pub fn slot(&self) -> u64 {
-        self.reader.slot()
     }
 
     /// As `Server::meet`, of its own seat and another.

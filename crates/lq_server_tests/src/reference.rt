@@ -106,10 +106,8 @@ pub fn results_of(alloc: Global, query: &str, taken: &[Taken]) -> Result<Vec<Vec
 
 /// The entry of a node in a result.
 fn entry_of(entries: &[Entry], node: u64) -> Option<&Entry> {
-    let place = entries
-        .binary_search_by_key(&node, |other| other.node)
-        .ok()?;
-    entries.get(place)
+    let place = entries.binary_search_by_key(&node, |other| other.node);
+    entries.get(place.ok()?)
 }
 
 /// The node of the value that a change writes, and the attribute, if it is one.
@@ -125,14 +123,8 @@ fn value_of(change: &Change) -> Option<(u64, Option<&AttrName>)> {
 
 /// Whether a message tells of this attribute, or of the size and time.
 fn is_value(op: &Opcode, attribute: Option<&AttrName>) -> bool {
-    match (op, attribute) {
-        (Opcode::ValueChanged { attribute: None }, None) => true,
-        (
-            Opcode::ValueChanged {
-                attribute: Some(one),
-            },
-            Some(other),
-        ) => one == other,
+    match op {
+        Opcode::ValueChanged { attribute: told } => told.as_ref() == attribute,
         _ => false,
     }
 }
@@ -261,13 +253,11 @@ impl Log {
         let Some((node, attribute)) = value_of(&one.change) else {
             return Some(seen);
         };
-        let was_in = entry_of(results.get(before as usize)?, node).is_some();
-        let Some(entry) = entry_of(results.get(change as usize)?, node) else {
+        let old = entry_of(results.get(before as usize)?, node);
+        let new = entry_of(results.get(change as usize)?, node);
+        let (Some(_), Some(entry), true) = (old, new, self.flags.values) else {
             return Some(seen);
         };
-        if !self.flags.values || !was_in {
-            return Some(seen);
-        }
         let message = self.message(seen, change)?;
         let is_at = message.dir == entry.dir && message.name == entry.name && message.node == node;
         (is_at && is_value(&message.op, attribute)).then_some(seen.saturating_add(1))
@@ -293,9 +283,6 @@ impl Log {
         number: u64,
         shown: &Option<String>,
     ) -> Result<bool, Refusal> {
-        let Some(shown) = shown else {
-            return Ok(false);
-        };
-        Ok(text(self.alloc, &results.get(number as usize))? == *shown)
+        Ok(Some(text(self.alloc, &results.get(number as usize))?) == *shown)
     }
 }

@@ -7,28 +7,21 @@ use std::test::Fail;
 
 #[test]
 fn a_refused_growth_is_made_good(rt: HostRuntime) -> Result<(), Fail> {
-    assert!(rt; play(&rt, rt.alloc(), LIMIT, 2, 0, &EACH)?.retired.changes == 8);
+    let done = play(&rt, rt.alloc(), LIMIT, 2, 0, &EACH)?;
+    assert!(rt; done.retired.changes == 8);
     Ok(())
 }
 
 #[test]
 fn a_growth_refused_to_a_window_is_made_good(rt: HostRuntime) -> Result<(), Fail> {
-    assert!(rt;
-        play(&rt, rt.alloc(), LIMIT, 2, 0, &WINDOW_ALONE)?
-            .retired
-            .changes
-            == 6
-    );
+    let done = play(&rt, rt.alloc(), LIMIT, 2, 0, &WINDOW_ALONE)?;
+    assert!(rt; done.retired.changes == 6);
     Ok(())
 }
 
 #[test]
 fn an_opening_without_memory_is_not_counted(rt: HostRuntime) -> Result<(), Fail> {
-    assert!(rt;
-        play(&rt, rt.alloc(), 2, 2, 0, &TWO_OPENINGS)?
-            .retired
-            .changes
-            == 0
-    );
+    let done = play(&rt, rt.alloc(), 2, 2, 0, &TWO_OPENINGS)?;
+    assert!(rt; done.retired.changes == 0);
     Ok(())
 }

@@ -51,24 +51,14 @@ impl Done {
             return Ok(false);
         }
         for query in QUERIES {
-            if !acted.are_right(alloc, query)? {
-                return Ok(false);
+            let results = results_of(alloc, query, &acted.taken)?;
+            for log in &acted.logs {
+                if log.query == query && !log.is_right(&acted.taken, &results)? {
+                    return Ok(false);
+                }
             }
         }
         is_left(alloc, &self.retired.volume, &acted.taken)
-    }
-}
-
-impl Acted {
-    /// Whether each reader of this query that was kept read exactly the messages of the changes.
-    fn are_right(&self, alloc: Global, query: &str) -> Result<bool, Refusal> {
-        let results = results_of(alloc, query, &self.taken)?;
-        for log in &self.logs {
-            if log.query == query && !log.is_right(&self.taken, &results)? {
-                return Ok(false);
-            }
-        }
-        Ok(true)
     }
 }
 
@@ -125,7 +115,7 @@ pub fn play<R: Threads + Wait + Sync>(
     }
 }
 
-/// Plays the turns of a scenario.
+/// Plays the turns of a scenario: as many parties as there are threads, each with a seat.
 fn act<N: Named + Send + Sync, R: Threads + Wait + Sync>(
     rt: &R,
     alloc: Global,
@@ -136,7 +126,11 @@ fn act<N: Named + Send + Sync, R: Threads + Wait + Sync>(
 ) -> Result<Acted, Refusal>
     requires { N.board.free ≡ true }
 {
-    let mut parties = gather(rt, alloc, server, tries, seed, scenario)?;
+    let mut parties = Vec::with_capacity(alloc, 4).or_else(|_| Vec::with_capacity(alloc, 4))?;
+    for (place, tables) in scenario.threads.iter().enumerate() {
+        let state = (seed as u64).wrapping_mul(4) ^ place as u64;
+        parties.push(Party::new(rt, alloc, server, tables, tries, state)?)?;
+    }
     let turns = scenario.threads.first().map_or(0, |tables| tables.len());
     for _ in 0..turns {
         servers_may_be_shared::<N>();
@@ -151,23 +145,4 @@ fn act<N: Named + Send + Sync, R: Threads + Wait + Sync>(
         Some(party) => party.end(&mut parties),
         None => Err(Refusal::OutOfStep),
     }
-}
-
-/// As many parties as there are threads, each with a seat.
-fn gather<N: Named, R: Wait>(
-    rt: &R,
-    alloc: Global,
-    server: &Server<N>,
-    tries: usize,
-    seed: usize,
-    scenario: &Scenario,
-) -> Result<Vec<Party<N>>, Refusal>
-    requires { N.board.free ≡ true }
-{
-    let mut parties = Vec::with_capacity(alloc, 4).or_else(|_| Vec::with_capacity(alloc, 4))?;
-    for (place, tables) in scenario.threads.iter().enumerate() {
-        let state = (seed as u64).wrapping_mul(4) ^ place as u64;
-        parties.push(Party::new(rt, alloc, server, tables, tries, state)?)?;
-    }
-    Ok(parties)
 }

@@ -33,20 +33,22 @@ fn a_counted_server_counts_a_readers_seat(rt: HostRuntime) -> Result<(), Fail> {
     Ok(())
 }
 
-/// Whether 15 seats are given beside the leading one, no other, and one in place of the leading one.
-/// A dropped seat stays out.
+/// Whether 15 seats are given beside the leading one, no other, and one in place of one that came
+/// back. A dropped seat stays out.
 fn seats_beside_a_leading_one<N: Named, R: Wait>(rt: &R, base: Base) -> Result<bool, Refusal>
     requires { (N.board ≡ counted_board base.board) × (base.volume ≡ N.start) }
 {
-    let (server, head): (Server<N>, Seat) = Server::counted(base);
-    for _ in 0..15 {
-        server.seat(rt)?;
+    let (server, mut head): (Server<N>, Seat) = Server::counted(base);
+    let other = server.seat_by(rt, &mut head)?;
+    for _ in 0..14 {
+        server.seat_by(rt, &mut head)?;
     }
-    let refused = server.seat(rt).err();
-    server.give_back(rt, head);
-    server.seat(rt)?;
-    let again = server.seat(rt).err();
-    Ok(refused == Some(Refusal::NoSeat) && again == Some(Refusal::NoSeat))
+    let Err(Refusal::NoSeat) = server.seat_by(rt, &mut head) else {
+        return Ok(false);
+    };
+    server.give_back(rt, other);
+    server.seat_by(rt, &mut head)?;
+    Ok(server.seat_by(rt, &mut head).err() == Some(Refusal::NoSeat))
 }
 
 #[test]

@@ -1,5 +1,5 @@
 //! Reads that wait, and works in threads.
-ghost use Rattle.std.specs.Prelude.{◌≡◌};
+ghost use Rattle.std.specs.Prelude.{◌≡◌, true};
 
 use crate::more_threads::WAITED;
 use crate::reference::LIMIT;
@@ -21,7 +21,7 @@ struct Looks {
 impl Work for Looks {
     type Given = Result<(u64, u64), Refusal>;
 
-    ghost can = { λ _ _. Unit {0} };
+    ghost can = { λ _ board. board.free ≡ true };
 
     ghost gives = { λ _ _ _. Unit {0} };
 
@@ -40,11 +40,8 @@ fn look_thrice<N: Named + Send + Sync, R: Threads + Wait + Sync>(
     requires { (base.board ≡ N.board) × (base.volume ≡ N.start) }
 {
     let server: Server<N> = Server::new(base);
-    let mut works = Vec::with_capacity(alloc, 3)?;
-    for number in 1..4 {
-        works.push(Looks { number })?;
-    }
-    map_over(rt, &server, works)
+    let works = [1, 2, 3].map(|number| Looks { number });
+    map_over(rt, &server, Vec::from_array(alloc, works)?)
 }
 
 #[test]

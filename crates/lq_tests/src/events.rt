@@ -5,11 +5,10 @@ ghost use Rattle.std.specs.Prelude.{◌≤◌};
 
 use crate::act::Act;
 use crate::again::again;
-use crate::ask::{Ask, event};
-use lq_desk::{Desk, Read, Reply};
+use crate::ask::{Ask, event, is_told};
+use lq_desk::{Desk, Reply};
 use lq_desk_world::Act::{Close, Finish, HangUp, Notice, Put, Take};
 use lq_predicate::read;
-use lq_update::{Cause, Message, Opcode};
 use lq_value::{Entry, Refusal, View};
 use lq_volume::Volume;
 use std::alloc::Global;
@@ -123,51 +122,6 @@ const FETCHES: [(&str, bool, bool); 4] = [
     ("x=1*", true, false),
     ("x!=abc", true, false),
 ];
-
-/// Whether a message in the root is as wanted: its operation, its name, and whether more follow.
-fn is_message(message: &Message, wanted: &str) -> bool {
-    let wanted = match message.op {
-        Opcode::Created => wanted.strip_prefix("U+ "),
-        Opcode::Removed => wanted.strip_prefix("U- "),
-        _ => None,
-    };
-    let name = match wanted {
-        Some(name) if message.last => Some(name),
-        Some(name) => name.strip_suffix(".."),
-        None => None,
-    };
-    name == Some(message.name.as_str()) && message.dir == 1
-}
-
-/// Whether an event has this answer.
-fn is_told(reply: &Reply, wanted: &str, numbers: (u64, u64, u64)) -> bool {
-    let (told, one, two, three) = match reply {
-        Reply::Changed(applied) => ("Changed", applied.change, applied.node, 0),
-        Reply::Opened { slot, at, result } => ("Opened", *slot, *at, result.len() as u64),
-        Reply::Moved(true) => ("Moved", 0, 0, 0),
-        Reply::Moved(false) => ("Stayed", 0, 0, 0),
-        Reply::Took(Read::Update(message)) => {
-            if !is_message(message, wanted) {
-                return false;
-            }
-            (wanted, message.seq, message.change, message.node)
-        }
-        Reply::Took(Read::Fin(mark)) => match mark.cause {
-            Cause::Closed => ("Closed", mark.seq, mark.change, 0),
-            Cause::HungUp => ("HungUp", mark.seq, mark.change, 0),
-            Cause::Overrun => ("Overrun", mark.seq, mark.change, 0),
-        },
-        Reply::Took(Read::Empty) => ("Empty", 0, 0, 0),
-        Reply::Took(Read::Ended) => ("Ended", 0, 0, 0),
-        Reply::Asked => ("Asked", 0, 0, 0),
-        Reply::Noticed(true) => ("Noticed", 0, 0, 0),
-        Reply::Noticed(false) => ("Unasked", 0, 0, 0),
-        Reply::Shut(change) => ("Shut", *change, 0, 0),
-        Reply::Finished => ("Finished", 0, 0, 0),
-        Reply::Refused(refusal) => (refusal.name(), 0, 0, 0),
-    };
-    told == wanted && one == numbers.0 && two == numbers.1 && three == numbers.2
-}
 
 /// Whether a new desk, whose volume takes two changes, gives these answers to these events.
 fn are_told(alloc: Global, rows: &[Row]) -> Result<bool, Refusal> {

@@ -61,7 +61,7 @@ fn fetch_after(
     Ok(volume.fetch(predicate)?)
 }
 
-// The messages for the difference of two results.
+// The messages for the difference of two results: for what left, and for what came.
 fn told_between(
     alloc: Global,
     moved: bool,
@@ -72,9 +72,13 @@ fn told_between(
     ensures value { IfOk result (λ all.
         all.items ≡ messages_of moved (missing old.now new.now) (missing new.now old.now)) }
 {
-    let gone = missing(alloc, old, new)?;
-    let come = missing(alloc, new, old)?;
-    differences(alloc, moved, &gone, &come)
+    let mut all = Vec::new(alloc);
+    put_removed(alloc, &mut all, &missing(alloc, old, new)?)?;
+    put_created(alloc, &mut all, &missing(alloc, new, old)?)?;
+    if moved {
+        return with_moves(alloc, &all);
+    }
+    Ok(all)
 }
 
 // The entries of one list that aren't in another.
@@ -113,25 +117,6 @@ fn copy_of(alloc: Global, entry: &Entry) -> Result<Entry, Refusal>
         name: entry.name.copy(alloc)?,
         node: entry.node,
     })
-}
-
-// The messages for the entries that left and those that came.
-fn differences(
-    alloc: Global,
-    moved: bool,
-    gone: &[Entry],
-    come: &[Entry],
-) -> Result<Vec<(Opcode, Entry)>, Refusal>
-    ensures refused { FailsOnlyForMemory result }
-    ensures value { IfOk result (λ all. all.items ≡ messages_of moved gone.now come.now) }
-{
-    let mut all = Vec::new(alloc);
-    put_removed(alloc, &mut all, gone)?;
-    put_created(alloc, &mut all, come)?;
-    if moved {
-        return with_moves(alloc, &all);
-    }
-    Ok(all)
 }
 
 fn put_removed(alloc: Global, all: &mut Vec<(Opcode, Entry)>, gone: &[Entry]) -> Result<(), Refusal>

@@ -1,9 +1,12 @@
-//! Tests of scripts by one thread and by a server and threads, and of the program's words; and each
-//! public call of lq_script, from its home (`scripts`). Begin with `scripts`.
+//! Tests of scripts by one thread and by a server and threads, and of the program's words; of runs
+//! of lq_script_lines over devices and clients of their own (`lines`, `clients`); and each public
+//! call of lq_script, from its home (`scripts`). Begin with `scripts`.
 #![tactic(auto)]
 
 #[cfg(test)]
 mod batches;
+#[cfg(test)]
+mod clients;
 #[cfg(test)]
 mod device_calls;
 #[cfg(test)]
@@ -12,6 +15,8 @@ mod failing_devices;
 mod faults;
 #[cfg(test)]
 mod gates;
+#[cfg(test)]
+mod lines;
 #[cfg(test)]
 mod runs;
 #[cfg(test)]

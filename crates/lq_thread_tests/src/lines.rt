@@ -1,6 +1,6 @@
 //! Of lq_script_lines: runs over devices that give and take little at a time, and fail.
 ghost use Rattle.std.specs.Prelude.{ℕ, None};
-ghost use Rattle.lq_core_tests.specs.Echo.{echo_rules};
+ghost use Rattle.lq_thread_tests.specs.Echo.{echo_rules};
 
 use lq_script_lines::{Failed, Responder, RunFault, Sink, Source, run_lines};
 use lq_value::Refusal;

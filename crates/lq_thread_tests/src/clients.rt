@@ -1,6 +1,6 @@
 //! Of lq_script_lines: a client that sends a line only after the replies to all lines before it.
 ghost use Rattle.std.specs.Prelude.{false, true, Some};
-ghost use Rattle.lq_core_tests.specs.Echo.{HasReplies};
+ghost use Rattle.lq_thread_tests.specs.Echo.{HasReplies};
 
 use crate::lines::Echo;
 use lq_script_lines::{Client, Failed, Sink, run_lines};
