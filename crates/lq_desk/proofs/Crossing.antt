@@ -34,14 +34,13 @@ slot_send s p =
 
 -- a table of slots
 module _ (T : RattleType) (s : IsSend T) where
-  item_send : IsSend (option.the_row T)
-  item_send = search sendable depth 12
-
   table_send : IsSend (table.the_row T)
   table_send =
       view_send (in_table.the_row T) _ _ _ _
-      (declared_send (in_table.the_type T)
-      (Vec-send (option.the_row T) item_send, search (sendable, crosses) depth 30))
+      (declared_send (in_table.the_type T) (
+        Vec-send (option.the_row T) (search sendable depth 12),
+        search (sendable, crosses) depth 30,
+      ))
 
 -- the slots
 slots_send : IsSend slot.the_row → IsSend slots.the_row

@@ -119,8 +119,8 @@ more-told s us step live inside =
     rw live cc
 
 -- after one more change to the book of a fair subscription
-module _ (stay : UpdatesStay) (add : ChangesAddSteps) (b : Book) (c : Change_) (s : Subscribed) (f : IsFair b s)
-    (numbered : (state_of b).number ≡ number_of b) where
+module _ (stay : UpdatesStay) (add : ChangesAddSteps) (b : Book) (c : Change_) (s : Subscribed)
+    (f : IsFair b s) (numbered : (state_of b).number ≡ number_of b) where
   -- the book with that change
   abbrev after : Book
   after = grown b (c ∷ [])

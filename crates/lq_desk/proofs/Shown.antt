@@ -1,5 +1,6 @@
 -- What a desk keeps where a world stands does at each event what the world does.
 use Rattle.std.proofs.Common.{◌≡◌, ℕ, ◌+◌, ◌-◌, List, [], ◌∷◌, refl, ap, ◌∙◌, sym, arith, Some, None, Option, map, inl, inr}
+use Rattle.std.proofs.Math.Nat.{sub_self}
 use Rattle.std.specs.Option.{option_map}
 use Rattle.std.specs.List.{AllByRecursion}
 use Rattle.std.proofs.lemmas.List.{length-map, map-set}
@@ -10,10 +11,8 @@ use Rattle.lq_volume.specs.declared.change.Change.{Change as Change_}
 use Rattle.lq_volume.specs.Change.{refused as refused_by}
 use Rattle.lq_volume.specs.Laws.{ChangesCount}
 use Rattle.lq_volume.specs.Book.{Book, grown, number_of, state_of}
-use Rattle.lq_update.specs.declared.open_options.Flags.{Flags}
 use Rattle.lq_update.specs.declared.open_options.OpenOptions.{OpenOptions}
 use Rattle.lq_update.specs.Options.{options_of}
-use Rattle.lq_update.specs.Updates.{updates_of}
 use Rattle.lq_update.specs.Laws.{ChangesAddSteps, UpdatesStay}
 use Rattle.lq_desk_world.specs.World.{World, Subscribed, subscribed_at, after_change, taken_before_free}
 use Rattle.lq_desk_world.specs.declared.event.Event.{Event}
@@ -56,10 +55,6 @@ refusal-same : (w : World) (port backlog : ℕ)
 refusal-same w port backlog =
     rw (length-map w.slots (option_map (slot_for w.book)), free-same w.book w.slots)
 
--- from a number to the same one nothing is told
-nothing_told : (q : Query) (flags : Flags) (b : Book) (n : ℕ) → updates_of q flags b n n ≡ []
-nothing_told q flags b n = let none : n - n ≡ 0 = omega arith in rw none
-
 -- where each change counts one
 module _ (count : ChangesCount) where
   -- the number of the book's state is the book's
@@ -69,7 +64,7 @@ module _ (count : ChangesCount) where
   -- a slot as it is opened is what the new subscription leaves
   fresh-same : (w : World) (q : Query) (o : OpenOptions)
       → fresh_slot q (state_of w.book).number o ≡ slot_for w.book (opened_now w q o)
-  fresh-same w q o = rw (numbered w.book, nothing_told q o.flags w.book (number_of w.book))
+  fresh-same w q o = rw (numbered w.book, sub_self (number_of w.book))
 
   -- an opening is answered alike
   opening-same : (w : World) (q : Query) (o : OpenOptions) (r : Option Refusal)

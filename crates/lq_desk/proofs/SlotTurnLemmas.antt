@@ -38,8 +38,8 @@ read-events k slot = by (kept_at k slot) refl
     by None is =
         let still : (kept_outcome k (Notice slot)).1 ≡ k = rw is in
         ap (λ j. kept_outcome (kept_after j places) (Take slot)) still
-        ∙ (ap (λ n. kept_outcome (kept_after k (put_events slot n)) (Take slot)) (places-free k slot is)
-        ∙ rw is)
+        ∙ (ap (λ n. kept_outcome (kept_after k (put_events slot n)) (Take slot))
+        (places-free k slot is) ∙ rw is)
     by (Some s) is =
         let u = noticed k.volume.number s in
         let port = (noticed-keeps k.volume.number s).2 in

@@ -11,8 +11,8 @@ use Rattle.lq_desk.specs.Slot.{KeptSlot, PreparedSlot, can_move, is_ending, slot
 
 -- a set has the place of each slot that passes a test
 abbrev pub MarksPassing : {T : Type 0} → (T → Bool) → ℕ → List (Option T) → Type 0
-MarksPassing {T} test set slots = (i : ℕ) (x : T) → slice_get slots i ≡ Some (Some x) → test x ≡ true
-    → has set i ≡ true
+MarksPassing {T} test set slots = (i : ℕ) (x : T) → slice_get slots i ≡ Some (Some x)
+    → test x ≡ true → has set i ≡ true
 
 -- what each subscription asks is watched at its slot
 abbrev pub AreWatched : Watch → List (Option KeptSlot) → Type 0

@@ -45,7 +45,8 @@ impl Witness {
     /// The world after a turn whose event got this answer.
     #[inline(always)]
     pub fn turn(_before: &Witness, _event: &Event, _reply: &Reply) -> Witness
-        ensures { result.world ≡ world_after_turn _before.now.world _event.now (answer_of _reply.now) }
+        ensures { result.world
+            ≡ world_after_turn _before.now.world _event.now (answer_of _reply.now) }
     {
         Witness {}
     }

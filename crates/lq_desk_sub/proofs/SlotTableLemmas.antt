@@ -2,7 +2,7 @@
 use Rattle.std.proofs.Common.{◌≡◌, ℕ, zero, suc, ◌<◌, List, [], ◌∷◌, length, Bool, true, false, Option, Some, None, refl, sym, ap, ◌∙◌, arith, add-one}
 use Rattle.std.specs.Prelude.{slice_get, is_some}
 use Rattle.lq_desk_sub.specs.SlotSet.{has}
-use Rattle.lq_desk_sub.specs.SlotTable.{HasTaken, IsTable, first_free}
+use Rattle.lq_desk_sub.specs.SlotTable.{IsTable, first_free}
 use Rattle.lq_desk_sub.specs.Visits.{Visits}
 
 -- visits leave each slot free or taken

@@ -21,13 +21,6 @@ set-other (x ∷ xs) zero (suc j) y ne = refl
 set-other (x ∷ xs) (suc i) zero y ne = refl
 set-other (x ∷ xs) (suc i) (suc j) y ne = set-other xs i j y (λ same. ne (ap suc same))
 
--- what is there, written again, leaves the list
-pub set-same : {A : Type 0} (xs : List A) (i : ℕ) (x : A) → slice_get xs i ≡ Some x
-    → slice_set xs i x ≡ xs
-set-same [] i x at = refl
-set-same (y ∷ xs) zero x at = cc
-set-same (y ∷ xs) (suc i) x at = ap (λ ys. y ∷ ys) (set-same xs i x at)
-
 module _ {T S : Type 0} (allows : S → ℕ → T → Type 0) (did : S → ℕ → T → T → Type 0)
     (set : ℕ) (xs : List (Option T)) (s : S)
   where

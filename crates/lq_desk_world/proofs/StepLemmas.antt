@@ -1,15 +1,16 @@
 -- A step by its cases: it is refused, a change, an opening, or an act at a taken slot. What each
 -- leaves: a refused event the world, each step a fair world fair.
-use Rattle.std.proofs.Common.{◌≡◌, ◌≢◌, ℕ, ◌+◌, ◌-◌, [], ◌∷◌, refl, ap, ◌∙◌, sym, subst, arith, Some, None, Option, inl, inr, Bool, true, false, ◌≤◌, ◌<◌, take, drop, length}
+use Rattle.std.proofs.Common.{◌≡◌, ◌≢◌, ℕ, ◌+◌, ◌-◌, [], ◌∷◌, refl, ap, ◌∙◌, sym, subst, arith, Some, None, Option, inl, inr, Bool, true, false, ◌≤◌, ◌<◌, length}
 use Rattle.std.specs.Prelude.{slice_get, ◌⊎◌, ◌==◌, if◌then◌else◌, ◌&&◌, not, nat_le}
 use Rattle.std.specs.Option.{option_flatten, option_map}
+use Rattle.std.proofs.Math.Nat.{sub_self}
 use Rattle.std.proofs.lemmas.Bool.Decides.{nat_tests}
 use Rattle.lq_value.specs.declared.refusal.Refusal.{Refusal}
 use Rattle.lq_value.specs.declared.refusal.Refusal.TheVariants.{NoMemory, NotOpen, BadPort, BadBacklog, NoSlot, Exhausted}
 use Rattle.lq_predicate.specs.Query.{Query}
 use Rattle.lq_volume.specs.declared.change.Change.{Change as Change_}
 use Rattle.lq_volume.specs.Change.{refused as refused_by}
-use Rattle.lq_volume.specs.Book.{Book, state_of, grown, number_of, state_at}
+use Rattle.lq_volume.specs.Book.{Book, state_of, grown, number_of}
 use Rattle.lq_desk_world.specs.World.{World, Subscribed, is_over, subscribed_at, with_slot, is_live, can_put, first_in_port, taken_before_free, after_change}
 use Rattle.lq_desk_world.specs.declared.event.Event.{Event}
 use Rattle.lq_desk_world.specs.declared.event.Event.TheVariants.{Change, Open, OpenBy, Put, Take, HangUp, Notice, Close, Finish}
@@ -29,7 +30,7 @@ use Rattle.lq_desk_world.specs.Laws.{RefusalsLeaveWorlds, RunsKeepWorldsFair}
 use Rattle.lq_desk_world.proofs.ListLemmas.{each_bool, slice_set-same, all-get, all-set, all-map}
 use Rattle.std.proofs.lemmas.Bool.{and_parts, leb-false, leb-true}
 use Rattle.lq_value.specs.Refusal.{first_refusal}
-use Rattle.lq_update.specs.Updates.{updates_of, updates_from}
+use Rattle.lq_update.specs.Updates.{updates_of}
 use Rattle.lq_update.specs.Laws.{ChangesAddSteps, UpdatesStay}
 
 -- ---- slots
@@ -215,9 +216,7 @@ refusals-leave w e r = outcome-cases w (λ e a v. a ≡ Refused r → v ≡ w) (
 
 -- a subscription that is opened
 nothing_told : (q : Query) (flags : Flags) (b : Book) (n : ℕ) → updates_of q flags b n n ≡ []
-nothing_told q flags b n =
-    ap (λ k. updates_from q flags (state_at b n) (take k (drop (n - b.start.number) b.changes)) 1)
-    (let e : n - n ≡ 0 = omega arith in e)
+nothing_told q flags b n = rw (sub_self n) refl
 
 -- what is so where no row of the table of an opening holds
 no_row : (a b c d : Bool) → first_refusal

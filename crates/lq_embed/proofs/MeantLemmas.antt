@@ -1,11 +1,10 @@
 -- The literal of a text reads as just that text.
-use Rattle.std.proofs.Common.{◌≡◌, ◌≤◌, ◌<◌, ◌⊎◌, ◌+◌, ◌/◌, ◌%◌, ◌&&◌, ◌||◌, ◌==◌, ℕ, Bool, true, false, cond, List, [], ◌∷◌, ◌++◌, Some, Ok, refl, inl, inr, ◌∙◌, sym, arith, ap, subst, IsUtf8, chars, append_assoc}
-use Rattle.std.specs.Prelude.{if◌then◌else◌}
-use Rattle.std.proofs.Math.Dec.{ltb, lit<}
+use Rattle.std.proofs.Common.{◌≡◌, ◌≤◌, ◌<◌, ◌⊎◌, ◌&&◌, ◌||◌, ◌==◌, ℕ, suc, Bool, true, false, List, [], ◌∷◌, ◌++◌, length, get_or, Some, Ok, refl, inl, inr, ◌∙◌, sym, arith, ap, subst, IsUtf8, chars, append-nil}
+use Rattle.std.proofs.Math.Dec.{lit<}
 use Rattle.std.proofs.Math.Utf8.{encode, low_scalar, scalar, scalars}
 use Rattle.std.specs.Str.{encode_utf8_all}
 use Rattle.std.proofs.lemmas.Bool.{and_from, and_parts, cases_lt, cond_both, false≢true, ne_eqb, or_from, or_parts}
-use Rattle.std.proofs.lemmas.Str.{chars-encodes, encode_ascii, encodes-chars, scalars-chars}
+use Rattle.std.proofs.lemmas.Str.{chars-encodes, encode_ascii, encodes-chars, inside_one, scalars-chars}
 use Rattle.lq_value.specs.Compare.{takes_pattern}
 use Rattle.lq_value.specs.Laws.{SourcesAreRead}
 use Rattle.lq_value.specs.Pattern.{plain_elements}
@@ -18,7 +17,7 @@ use Rattle.lq_value.specs.declared.op.Op.TheVariants.{Eq, Ne, Lt, Le, Gt, Ge}
 use Rattle.lq_predicate_formula.specs.Literals.{literal_of, pattern_literal, unescaped}
 use Rattle.lq_predicate_formula.specs.Tokens.{AreWithout, escaped, plain}
 use Rattle.lq_embed.specs.Quoting.{escaped_for, has_meaning}
-use Rattle.lq_embed.specs.QuotedReading.{MeansText, TextsAreMeant, text_literal}
+use Rattle.lq_embed.specs.QuotedReading.{TextsAreMeant, text_literal}
 
 -- ---- bytes without a meaning
 
@@ -82,67 +81,29 @@ stays_inside o (b ∷ bs) =
 
 -- ---- characters
 
--- each byte is 128 or more
-abbrev AreHigh : List ℕ → Type 0
-AreHigh [] = Unit {0}
-AreHigh (b ∷ bs) = (128 ≤ b) × AreHigh bs
+-- no byte of a character without a meaning has one
+byte_clear : (o : Op) (c k : ℕ) → has_meaning o c ≡ false → k < length (encode c)
+    → has_meaning o (get_or (encode c) k 0) ≡ false
+byte_clear o c k e lt = by (cases_lt (get_or (encode c) k 0) 128)
+  where
+    by : (get_or (encode c) k 0 < 128) ⊎ (128 ≤ get_or (encode c) k 0)
+        → has_meaning o (get_or (encode c) k 0) ≡ false
+    by (inl low) = ap (has_meaning o)
+        (sym (inside_one c [] (encode c) k (sym (append-nil (encode c))) lt low)) ∙ e
+    by (inr high) = high_clear o _ high
 
--- a first byte, which is the character or 128 or more, and bytes of 128 or more after it
-record Encoded (c : ℕ) (bs : List ℕ) : Type 0 where
-  pub first : ℕ
-  pub tail : List ℕ
-  pub split : bs ≡ first ∷ tail
-  pub high : AreHigh tail
-  pub first_is : (first ≡ c) ⊎ (128 ≤ first)
-
--- such bytes
-encoded_by : (c first : ℕ) (tail : List ℕ) → AreHigh tail → (first ≡ c) ⊎ (128 ≤ first)
-    → Encoded c (first ∷ tail)
-encoded_by c first tail high is =
-    record { first = first; tail = tail; split = refl; high = high; first_is = is }
-
--- each form of an encoded character
-forms : (x y z : Bool) (c p q r u v w m n o : ℕ)
-    → Encoded c (cond x (c ∷ [])
-    (cond y ((192 + p) ∷ (128 + q) ∷ [])
-    (cond z ((224 + r) ∷ (128 + u) ∷ (128 + v) ∷ [])
-    ((240 + w) ∷ (128 + m) ∷ (128 + n) ∷ (128 + o) ∷ []))))
-forms true y z c p q r u v w m n o = encoded_by c c [] tt (inl refl)
-forms false true z c p q r u v w m n o =
-    encoded_by c (192 + p) ((128 + q) ∷ []) (omega arith) (inr (omega arith))
-forms false false true c p q r u v w m n o =
-    encoded_by c (224 + r) ((128 + u) ∷ (128 + v) ∷ []) (omega arith) (inr (omega arith))
-forms false false false c p q r u v w m n o =
-    encoded_by c (240 + w) ((128 + m) ∷ (128 + n) ∷ (128 + o) ∷ []) (omega arith)
-    (inr (omega arith))
-
--- an encoded character has such bytes
-encoded : (c : ℕ) → Encoded c (encode c)
-unfolding encode
-encoded c = forms (ltb c 128) (ltb c 2048) (ltb c 65536) c (c / 64) (c % 64) (c / 4096)
-    (c / 64 % 64) (c % 64) (c / 262144) (c / 4096 % 64) (c / 64 % 64) (c % 64)
-
--- bytes of 128 or more stay
-high_stay : (o : Op) (bs cs : List ℕ) → AreHigh bs
+-- bytes without a meaning stay
+bytes_stay : (o : Op) (bs cs : List ℕ)
+    → ((k : ℕ) → k < length bs → has_meaning o (get_or bs k 0) ≡ false)
     → escaped_for o (bs ++ cs) ≡ bs ++ escaped_for o cs
-high_stay o [] cs h = refl
-high_stay o (b ∷ bs) cs h =
-    rw (high_clear o b h.0) (ap (λ l. b ∷ l) (high_stay o bs cs h.1))
-
--- the first byte of a character without a meaning has none
-first_clear : (o : Op) (c first : ℕ) → has_meaning o c ≡ false → (first ≡ c) ⊎ (128 ≤ first)
-    → has_meaning o first ≡ false
-first_clear o c first e (inl same) = ap (has_meaning o) same ∙ e
-first_clear o c first e (inr high) = high_clear o first high
+bytes_stay o [] cs h = refl
+bytes_stay o (b ∷ bs) cs h = rw (h 0 (omega arith))
+    (ap (λ l. b ∷ l) (bytes_stay o bs cs (λ k lt. h (suc k) (omega (arith, lt)))))
 
 -- a character without a meaning stays
 clear_stays : (o : Op) (c : ℕ) (bs : List ℕ) → has_meaning o c ≡ false
     → escaped_for o (encode c ++ bs) ≡ encode c ++ escaped_for o bs
-clear_stays o c bs e =
-    let k = encoded c in
-    subst (λ l. escaped_for o (l ++ bs) ≡ l ++ escaped_for o bs) (sym k.split)
-    (rw (first_clear o c k.first e k.first_is)
-    (ap (λ l. k.first ∷ l) (high_stay o k.tail bs k.high)))
+clear_stays o c bs e = bytes_stay o (encode c) bs (λ k lt. byte_clear o c k e lt)
 
 -- one with a meaning has a `\` before it
 meaning_escaped : (o : Op) (c : ℕ) (bs : List ℕ) → has_meaning o c ≡ true

@@ -1,5 +1,5 @@
 -- The parameters of a formula: words among its tokens that stand for values.
-use Rattle.std.specs.Prelude.{◌≡◌, ◌+◌, ◌==◌, ◌&&◌, nat_le, ℕ, ℤ, pos, List, [], ◌∷◌, ◌++◌, length, Option, Some, None, option_map, option_to_list, if◌then◌else◌}
+use Rattle.std.specs.Prelude.{◌+◌, ◌==◌, ◌&&◌, nat_le, ℕ, ℤ, pos, List, [], ◌∷◌, ◌++◌, length, Option, Some, None, option_map, option_to_list, if◌then◌else◌}
 use Rattle.lq_value.specs.Number.{decimal_number}
 use Rattle.lq_value.specs.declared.op.Op.{Op}
 use Rattle.lq_predicate_formula.specs.Tokens.{Placed, Token, op, word, lone, cut}

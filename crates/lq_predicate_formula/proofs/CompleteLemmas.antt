@@ -42,7 +42,8 @@ module _ (n : ℕ) (P : Reading) (takes : Takes n P) where
   -- the machine runs over `&&` and a part, as often as they follow, and has the parts in its frame
   ands_run : (ts : List Token) (qs : List Query) → MoreParts P ands ts qs
       → (below : List Frame) (os xs : List Query) (rest : List Token)
-      → run_tokens (behind below os xs n) (ts ++ rest) ≡ run_tokens (behind below os (xs ++ qs) n) rest
+      → run_tokens (behind below os xs n) (ts ++ rest)
+      ≡ run_tokens (behind below os (xs ++ qs) n) rest
   ands_run ts [] h below os xs rest =
       ap (λ l. run_tokens (behind below os xs n) (l ++ rest)) h
       ∙ ap (λ l. run_tokens (behind below os l n) rest) (sym (append-nil xs))
@@ -83,8 +84,8 @@ module _ (n : ℕ) (P : Reading) (takes : Takes n P) where
             ∙ ap (run_tokens (at operand below (frame os []) n)) (append_assoc h.0 h.1 rest)
             ∙ and_runs h.0 r h.3 below os (h.1 ++ rest)
             ∙ ap (λ l. run_tokens (behind below os (h.3.0 ∷ h.3.1) n) (l ++ rest)) k.2
-            ∙ ap (λ p. run_tokens (at operand below (frame (os ++ p ∷ []) []) n) ((k.0 ++ k.1) ++ rest))
-            (sym h.3.2) ∙ ends.goes;
+            ∙ ap (λ p. run_tokens (at operand below (frame (os ++ p ∷ []) []) n)
+            ((k.0 ++ k.1) ++ rest)) (sym h.3.2) ∙ ends.goes;
         says = ends.says ∙ append_assoc os (r ∷ []) (q ∷ qs);
       }
 
@@ -108,9 +109,11 @@ not_runs (suc n) a q h below f rest = elim h [
         let ends = ors_run n (IsNot n) (not_runs n) p.0 p.2.0 p.2.1 p.2.3 (f ∷ below) []
         (closes ∷ rest) in
         ap (λ l. run_tokens (at operand below f (suc n)) (l ++ rest)) p.1
-        ∙ ap (run_tokens (at operand (f ∷ below) empty_frame n)) (append_assoc p.0 (closes ∷ []) rest)
+        ∙ ap (run_tokens (at operand (f ∷ below) empty_frame n))
+        (append_assoc p.0 (closes ∷ []) rest)
         ∙ ends.goes
-        ∙ ap (λ r. run_tokens (completed r below f (suc n)) rest) (ap either_of ends.says ∙ sym p.2.2)
+        ∙ ap (λ r. run_tokens (completed r below f (suc n)) rest)
+        (ap either_of ends.says ∙ sym p.2.2)
     | inr b ↦
         let same : n + suc f.bangs ≡ suc n + f.bangs = omega arith in
         ap (λ l. run_tokens (at operand below f (suc n)) (l ++ rest)) b.2
@@ -125,8 +128,8 @@ pub formula_runs : (n : ℕ) (ts : List Token) (q : Query) → IsFormula n ts q
     → run_tokens (start n) ts ≡ Some q
 formula_runs n ts q h =
     let ends = ors_run n (IsNot n) (not_runs n) ts h.0 h.1 h.3 [] [] [] in
-    ap (run_tokens (start n)) (sym (append-nil ts)) ∙ ends.goes ∙ ap (λ ps. Some (either_of ps)) ends.says
-    ∙ ap Some (sym h.2)
+    ap (run_tokens (start n)) (sym (append-nil ts)) ∙ ends.goes
+    ∙ ap (λ ps. Some (either_of ps)) ends.says ∙ ap Some (sym h.2)
 
 -- tokens read as one query at most
 pub reads_one : (n : ℕ) (ts : List Token) (q r : Query)

@@ -41,9 +41,9 @@ read_suits o raw literal e =
 
 -- ---- where each literal that is read from a word of the tokens is one of W
 
--- what is read of texts of kind T suits its operator, and is as W says
-abbrev pub Readers : (List ℕ → Type 0) → (Op → Literal → Type 0) → Type 0
-Readers T W = (o : Op) (raw : List ℕ) (literal : Literal) → T raw
+-- each literal that is read from a text of kind T is one of W with its operator
+abbrev pub LiteralsAre : (List ℕ → Type 0) → (Op → Literal → Type 0) → Type 0
+LiteralsAre T W = (o : Op) (raw : List ℕ) (literal : Literal) → T raw
     → literal_of o raw ≡ Some literal → W o literal
 
 -- what P reads of such words is proper
@@ -96,13 +96,13 @@ module _ (T : List ℕ → Type 0) (W : Op → Literal → Type 0) where
       (joined_proper both_of both_good P good ands) ors
 
   -- a comparison is proper: its name is one, and its literal suits
-  comparison_proper : Readers T W → Proper T W IsComparison
+  comparison_proper : LiteralsAre T W → Proper T W IsComparison
   comparison_proper f a q w h =
       let k = subst (WordsAre T) h.5 w in
       subst (IsProperBy W) (sym h.8) (named h.0 h.3 h.6, f h.1 h.2 h.4 k.1.1.0 h.7)
 
   -- an operand is proper: a comparison, one after `!`, or one between parentheses
-  not_proper : Readers T W → (n : ℕ) → Proper T W (IsNot n)
+  not_proper : LiteralsAre T W → (n : ℕ) → Proper T W (IsNot n)
   not_proper f zero a q w h = comparison_proper f a q w h
   not_proper f (suc n) a q w h = elim h [
     | inl c ↦ comparison_proper f a q w c
@@ -115,6 +115,6 @@ module _ (T : List ℕ → Type 0) (W : Op → Literal → Type 0) where
   ]
 
   -- what a formula is read as is proper
-  pub formula_proper_by : Readers T W → (n : ℕ) (ts : List Token) (q : Query) → WordsAre T ts
+  pub formula_proper_by : LiteralsAre T W → (n : ℕ) (ts : List Token) (q : Query) → WordsAre T ts
       → IsFormula n ts q → IsProperBy W q
   formula_proper_by f n ts q w h = or_proper (IsNot n) (not_proper f n) ts q w h

@@ -216,7 +216,8 @@ sound (t ∷ ts) x q e =
     ends_from q ts (move x t h.0 h.1) (sound ts h.0 q h.2)
 
 -- what the machine reads is a formula
-pub run_reads : (n : ℕ) (ts : List Token) (q : Query) → run_tokens (start n) ts ≡ Some q → IsFormula n ts q
+pub run_reads : (n : ℕ) (ts : List Token) (q : Query) → run_tokens (start n) ts ≡ Some q
+    → IsFormula n ts q
 run_reads n ts q e =
     let w = whole [] n q ts (sound ts (start n) q e) in
     let all : ts ≡ w.0 = w.3 ∙ ap (λ c. w.0 ++ c) w.5.0 ∙ append-nil w.0 in

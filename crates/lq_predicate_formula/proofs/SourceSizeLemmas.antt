@@ -50,8 +50,8 @@ item_split i is = ap length (items_step i is)
     ∙ length-append (encode_utf8_all (item_then i [])) (encode_utf8_all (items_then is []))
 
 -- the pieces, where it is known what is first
-step_by : {A : Type 0} {first : SignList → First A} (w : AreWalked first) (ss : SignList) (r : First A)
-    → first ss ≡ r → pieces_of first ss ≡ after_first ss r (pieces_of first)
+step_by : {A : Type 0} {first : SignList → First A} (w : AreWalked first) (ss : SignList)
+    (r : First A) → first ss ≡ r → pieces_of first ss ≡ after_first ss r (pieces_of first)
 step_by {first = first} w ss r e = w.step ss ∙ ap (λ x. after_first ss x (pieces_of first)) e
 
 -- ---- the items of a set

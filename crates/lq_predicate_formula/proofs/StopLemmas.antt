@@ -91,7 +91,8 @@ not_begun ts t s e f b =
 pub reads_at_end : (all : List Token) (s : MachineState) (q : Query)
     → steps (start nesting) all ≡ Some s → finished_query s ≡ Some q → IsFormula nesting all q
 reads_at_end all s q g f = run_reads nesting all q
-    (ap (run_tokens (start nesting)) (sym (append-nil all)) ∙ steps_run all (start nesting) s [] g ∙ f)
+    (ap (run_tokens (start nesting)) (sym (append-nil all))
+    ∙ steps_run all (start nesting) s [] g ∙ f)
 
 -- where all tokens are taken and no query is whole, they are no formula
 pub ends_none : (all : List Token) (s : MachineState) → steps (start nesting) all ≡ Some s

@@ -1,6 +1,6 @@
 -- The reading of a text as a function: the query with `Reads`, else the offset with `IsFaulty`.
--- Each text has just one, and the law `one_reading` says that this is it. Nothing else is to be known
--- of the function: it is what the machine makes of the tokens.
+-- Each text has just one, and the law `one_reading` says that this is it. Nothing else is to be
+-- known of the function: it is what the machine makes of the tokens.
 use Rattle.std.specs.Prelude.{ℕ, List, Result}
 use Rattle.lq_predicate_formula.specs.Lexing.{tokens_of}
 use Rattle.lq_predicate_formula.specs.MachineReading.{machine_reading}

@@ -3,10 +3,7 @@ use denote.RattleType.{RattleType}
 use denote.Param.Send.{IsSend, sendable, view_send}
 use denote.Param.SendFields.{declared_send}
 use Rattle.std.proofs.Crossing.{crosses, Vec-send}
-use Rattle.std.specs.contracts.alloc.Global as global
-use Rattle.std.specs.contracts.impls.GlobalAllocator.TheImpl.{ghosts as ghosts_of_global}
 use Rattle.std.specs.contracts.option.Option as option
-use Rattle.std.specs.contracts.vec.Vec as vec
 use Rattle.lq_desk_sub.specs.contracts.slot_table.SlotTable as table
 use Rattle.lq_desk_sub.specs.contracts.slot_table.SlotTable.TheInside as in_table
 use Rattle.lq_desk.specs.contracts.desk.Desk as desk
@@ -16,16 +13,13 @@ use Rattle.lq_script_desk.specs.contracts.session.Session as session
 
 -- a table of results
 module _ (T : RattleType) (s : IsSend T) where
-  place_send : IsSend (option.the_row T)
-  place_send = search sendable depth 12
-
-  places_send : IsSend (vec.the_row (option.the_row T) global.the_row ghosts_of_global)
-  places_send = Vec-send (option.the_row T) place_send
-
   table_send : IsSend (table.the_row T)
   table_send =
       view_send (in_table.the_row T) _ _ _ _
-      (declared_send (in_table.the_type T) (places_send, search (sendable, crosses) depth 30))
+      (declared_send (in_table.the_type T) (
+        Vec-send (option.the_row T) (search sendable depth 12),
+        search (sendable, crosses) depth 30,
+      ))
 
 -- a session
 pub session_send : IsSend desk.the_row → IsSend rebuild.the_row → IsSend scratch.the_row

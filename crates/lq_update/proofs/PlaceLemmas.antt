@@ -102,11 +102,6 @@ at-place (e ∷ es) n (suc i) d h g =
     let rest = at-place es n i d h.1 (record { within = within; has_node = λ c. g.has_node c }) in
     grind (arith, nat_tests, above-get e.node es i d h.0 within, g.has_node d)
 
--- a triple's place is its node's
-pub triple-place : (es : List Entry) (e : Entry) (i : ℕ) → IsTripleAt es e i → IsEntryAt es e.node i
-triple-place es e i g =
-    record { within = g.within; has_node = λ d. ap (λ (f : Entry). f.node) (g.same d) }
-
 -- taking a triple out of entries above its node leaves them all
 pub taken_out-above : (e : Entry) (es : List Entry) → Above e.node es → taken_out e es ≡ es
 taken_out-above e [] h = refl

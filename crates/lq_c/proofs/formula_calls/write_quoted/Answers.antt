@@ -1,6 +1,4 @@
-use Rattle.std.proofs.Common.{◌≡◌, ◌∙◌, ◌+◌, ◌++◌, ◌∷◌, [], arith, ap, sym, refl, length, take, set, length-set}
 use Rattle.lq_value.specs.declared.op.Op.TheVariants.{Eq}
-use Rattle.lq_embed.specs.Quoting.{escaped_for, quoted_for}
 use Rattle.lq_c.proofs.QuoteLemmas.{written_first, written_last, written_room}
 use Rattle.lq_c.proofs.formula_calls.write_quoted.Goals as goal
 

@@ -1,8 +1,8 @@
 use Rattle.std.proofs.Common.{◌∙◌, Some, Option, ap, sym, arith}
-use Rattle.std.specs.Prelude.{slice_get}
-use Rattle.std.proofs.lemmas.List.{length-set}
+use Rattle.std.specs.Prelude.{slice_get, slice_set}
+use Rattle.std.proofs.lemmas.List.{length-set, set-get_or}
 use Rattle.std.proofs.lemmas.Option.{slice_get-get_or}
-use Rattle.lq_desk_sub.proofs.VisitLemmas.{set-same, visited-free, visited-more}
+use Rattle.lq_desk_sub.proofs.VisitLemmas.{visited-free, visited-more}
 use Rattle.lq_desk_sub.proofs.visit.visit_in.Goals as goal
 
 pub loop-slot-preserved-in-Some-index_mut : goal.loop-slot-preserved-in-Some-index_mut
@@ -30,10 +30,8 @@ loop-slot-preserved g c =
     ∙ (slice_get-get_or xs c.index.result c.index_mut.result.now
     (omega (arith, l.invariant.wide, c.index.ensures.within))
     ∙ ap (λ (o : Option _). Some o) (sym c.index_mut.ensures.value)) in
-    rw (
-      c.index.ensures.value,
-      set-same xs c.in-Some.slot.index c.index_mut.result.now there,
-    ) record {
+    rw (ap (slice_set xs c.index.result) c.index_mut.ensures.value
+    ∙ set-get_or xs c.index.result c.index_mut.result.now) record {
       wide = l.invariant.wide;
       all = visited-free (g.V.Visit.allows c.args.visitor.now) (g.V.Visit.did c.args.visitor.now)
           c.args.set.word c.args.slots.now.items c.args.state.now l.rest.word

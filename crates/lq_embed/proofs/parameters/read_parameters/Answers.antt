@@ -1,4 +1,4 @@
-use Rattle.std.proofs.Common.{◌∙◌, ◌++◌, ap, inl, refl, sym, append-nil}
+use Rattle.std.proofs.Common.{◌∙◌, ◌++◌, ap, inl, sym, append-nil}
 use Rattle.std.specs.Prelude.{option_to_list}
 use Rattle.lq_embed.proofs.ParameterLemmas.{ends_here, goes_on, stops_at}
 use Rattle.lq_embed.proofs.parameters.read_parameters.Goals as goal

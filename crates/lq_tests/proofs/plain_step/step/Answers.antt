@@ -17,8 +17,9 @@ length-numbered seq number [] = refl
 length-numbered seq number (x ∷ xs) = ap suc (length-numbered (seq + 1) number xs)
 
 -- what is told is the difference of the two results
-told-diff : (c : In_ok-differences) → c.in_ok-differences.differences.items ≡ diff c.args.predicate.now c.args.moved
-    c.args.before.now (after c.args.before.now c.args.change.now)
+told-diff : (c : In_ok-differences) → c.in_ok-differences.differences.items
+    ≡ diff c.args.predicate.now c.args.moved c.args.before.now
+    (after c.args.before.now c.args.change.now)
 told-diff c =
     c.in_ok-differences.ensures.value ∙ rw (
       c.deref.ensures.value,
@@ -35,7 +36,8 @@ plain q moved s c seq = ap (numbered seq (s.number + 1)) (append-nil (diff q mov
 pub number_all-requires-clause-few : goal.number_all-requires-clause-few
 number_all-requires-clause-few c =
     let few = c.steps_are_few.ensures c.args.predicate.now (no_values c.args.moved)
-    c.args.before.now c.args.change.now c.args.first_seq c.changes-number.ensures.volume c.requires.lawful in
+    c.args.before.now c.args.change.now c.args.first_seq c.changes-number.ensures.volume
+    c.requires.lawful in
     rw (told-diff c) (rw length-numbered at (rw (plain c.args.predicate.now c.args.moved
     c.args.before.now c.args.change.now c.args.first_seq) at few))
 
@@ -51,7 +53,8 @@ returns-clause-messages c = c.in_ok-number_all.ensures.messages
 pub returns-clause-few : goal.returns-clause-few
 returns-clause-few c =
     let few = c.steps_are_few.ensures c.args.predicate.now (no_values c.args.moved)
-    c.args.before.now c.args.change.now c.args.first_seq c.changes-number.ensures.volume c.requires.lawful in
+    c.args.before.now c.args.change.now c.args.first_seq c.changes-number.ensures.volume
+    c.requires.lawful in
     let all : length c.in_ok-number_all.field-0.items ≤ 3 = rw (
       c.in_ok-number_all.ensures.messages,
       told-diff (goal.at.returns-clause-few c).In_ok-differences,

@@ -30,7 +30,8 @@ left-some (reply.Refused refusal) k other = refl
 
 pub returns-in_default : goal.returns-in_default
 returns-in_default c = rw (← c.self.view_is)
-    (refused-past (act_of c.args.number c.args.act) _ c.args.slot c.self.invariant.wide c.in_default.ensures)
+    (refused-past (act_of c.args.number c.args.act) _ c.args.slot c.self.invariant.wide
+    c.in_default.ensures)
 
 pub returns-in_default-get_mut : goal.returns-in_default-get_mut
 returns-in_default-get_mut c = refused-at (act_of c.args.number c.args.act) c.self.inside.table _

@@ -19,7 +19,8 @@ did c = rw (c.fill.ensures, ← c.notice.ensures.slot)
 
 pub returns-in_default : goal.returns-in_default
 returns-in_default c = rw (← c.self.view_is)
-    (refused-past (close_turn c.args.number) _ c.args.slot c.self.invariant.wide c.in_default.ensures)
+    (refused-past (close_turn c.args.number) _ c.args.slot c.self.invariant.wide
+    c.in_default.ensures)
 
 pub returns-in_default-get_mut : goal.returns-in_default-get_mut
 returns-in_default-get_mut c = refused-at (close_turn c.args.number) c.self.inside.table _

@@ -17,8 +17,9 @@ use Rattle.lq_desk.proofs.SlotsLemmas.{kept-there, kept_slot}
 use Rattle.lq_desk.proofs.desk_slots.Slots.prepare.Goals as goal
 
 -- what is kept of each slot stays
-alike : (s : State) (c : Change) (p : ℕ → Bool) (xs ys : List (Option PreparedSlot)) (a b : Preparation)
-    → Visits MayPrepare (Prepares s c) p xs ys a b → map kept_slot ys ≡ map kept_slot xs
+alike : (s : State) (c : Change) (p : ℕ → Bool) (xs ys : List (Option PreparedSlot))
+    (a b : Preparation) → Visits MayPrepare (Prepares s c) p xs ys a b
+    → map kept_slot ys ≡ map kept_slot xs
 alike s c p xs ys a b v =
     visits-alike MayPrepare (Prepares s c) p xs ys a b v slot_of (λ i x y d. d.kept)
 

@@ -11,7 +11,8 @@ use Rattle.lq_desk.proofs.desk_slots.Slots.read.Goals as goal
 use Rattle.lq_desk.proofs.desk_slots.Slots.read.Goals.{else-may_work, then-may_work}
 
 -- what was done at the slot
-did : (c : goal.After-put) → (answer_of_read c.read-read.result, Some (slot_of c.read-read.new.self))
+did : (c : goal.After-put)
+    → (answer_of_read c.read-read.result, Some (slot_of c.read-read.new.self))
     ≡ read_turn c.args.number (slot_of c.in-Some-get_mut.there.now)
 did c =
     let i = c.in-Some.index.index in
@@ -32,7 +33,8 @@ did c =
 
 pub returns-in_default : goal.returns-in_default
 returns-in_default c = rw (← c.self.view_is)
-    (refused-past (read_turn c.args.number) _ c.args.slot c.self.invariant.wide c.in_default.ensures)
+    (refused-past (read_turn c.args.number) _ c.args.slot c.self.invariant.wide
+    c.in_default.ensures)
 
 pub returns-in_default-get_mut : goal.returns-in_default-get_mut
 returns-in_default-get_mut c = refused-at (read_turn c.args.number) c.self.inside.table _

@@ -40,10 +40,10 @@ invariant_of-self c = IsKept-at _ c.match-event.slot.0 _ _ _
     (act-keeps c.changes-number.result c.match-event.slot.1) c.self.invariant c.act.ensures
 
 -- an event that is an act at a slot, with what that act answers and leaves
-acted : (k l : DeskState) (e : Event) (s : ℕ × Act) (slot : ℕ) (act : Act) (a : Answer)
-    → kept_outcome k e ≡ kept_act k slot act → s ≡ (slot, act) → (a, l) ≡ kept_act k s.0 s.1
-    → KeptStep k e a l
-acted k l e s slot act a is same does =
+acted : (k l : DeskState) (event : ℕ → Event) (act : Act) {s : ℕ × Act} {slot : ℕ} {a : Answer}
+    → kept_outcome k (event slot) ≡ kept_act k slot act → s ≡ (slot, act)
+    → (a, l) ≡ kept_act k s.0 s.1 → KeptStep k (event slot) a l
+acted k l event act is same does =
     let there = rw same at does in
     inl (rw is (ap (λ p. p.0) there), rw is (ap (λ p. p.1) there))
 
@@ -54,16 +54,10 @@ returns c =
     let does = at-view (λ n. act_of n s.1) _ _ _ s.0 _ _ c.self.view_is
     c.changes-number.ensures.number c.act.ensures in
     elim c.match-event.branch [
-      | in-Put w ↦ rw w.in-Put.is (acted k _ (event.Put w.in-Put.slot) s w.in-Put.slot act.Put _ refl
-          w.slot-is does)
-      | in-Take w ↦ rw w.in-Take.is (acted k _ (event.Take w.in-Take.slot) s w.in-Take.slot act.Take _ refl
-          w.slot-is does)
-      | in-HangUp w ↦ rw w.in-HangUp.is (acted k _ (event.HangUp w.in-HangUp.slot) s w.in-HangUp.slot act.HangUp _ refl
-          w.slot-is does)
-      | in-Notice w ↦ rw w.in-Notice.is (acted k _ (event.Notice w.in-Notice.slot) s w.in-Notice.slot act.Notice _ refl
-          w.slot-is does)
-      | in-Close w ↦ rw w.in-Close.is (acted k _ (event.Close w.in-Close.slot) s w.in-Close.slot act.Close _ refl
-          w.slot-is does)
-      | in-Finish w ↦ rw w.in-Finish.is (acted k _ (event.Finish w.in-Finish.slot) s w.in-Finish.slot act.Finish _ refl
-          w.slot-is does)
+      | in-Put w ↦ rw w.in-Put.is (acted k _ event.Put act.Put refl w.slot-is does)
+      | in-Take w ↦ rw w.in-Take.is (acted k _ event.Take act.Take refl w.slot-is does)
+      | in-HangUp w ↦ rw w.in-HangUp.is (acted k _ event.HangUp act.HangUp refl w.slot-is does)
+      | in-Notice w ↦ rw w.in-Notice.is (acted k _ event.Notice act.Notice refl w.slot-is does)
+      | in-Close w ↦ rw w.in-Close.is (acted k _ event.Close act.Close refl w.slot-is does)
+      | in-Finish w ↦ rw w.in-Finish.is (acted k _ event.Finish act.Finish refl w.slot-is does)
     ]
