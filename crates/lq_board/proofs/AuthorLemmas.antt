@@ -1,5 +1,5 @@
 -- Who made each change, where one change more is made, or one seat more goes out.
-use Rattle.std.proofs.Common.{◌≡◌, ◌≢◌, ℕ, zero, suc, ◌+◌, ◌≤◌, Bool, true, true≢false, List, [], ◌∷◌, ◌++◌, length, refl, sym, ap, ◌∙◌, arith, length-append}
+use Rattle.std.proofs.Common.{◌≡◌, ◌≢◌, ℕ, zero, suc, ◌+◌, ◌-◌, ◌≤◌, Bool, true, true≢false, List, [], ◌∷◌, ◌++◌, length, refl, sym, ap, ◌∙◌, arith, length-append}
 use Rattle.lq_volume.specs.declared.change.Change.{Change}
 use Rattle.lq_volume.specs.Book.{Book, grown}
 use Rattle.lq_board.specs.Known.{Author, Register}
@@ -61,21 +61,24 @@ owns_later {r = r} {roll = roll} {a = a} f h n o =
       leads = o.leads;
     }
 
--- the book and an author, where a seat of this slot came home
-pub fits_home : {book : Book} {r : Register} (roll : Roll) (slot : ℕ) → BookFits book r roll
-    → BookFits book (come_home r slot) roll
-fits_home roll zero b =
+-- the register, where this many seats of no slot are out
+abbrev pub outs : ℕ → Register → Register
+outs n r = record r { out = n }
+
+-- the book and an author are as before
+pub fits_out : {book : Book} {r : Register} (roll : Roll) (n : ℕ) → BookFits book r roll
+    → BookFits book (outs n r) roll
+fits_out roll n b =
     record {
       full = b.full;
       signed = record { each = b.signed.each; seats = b.signed.seats };
       enlisted = b.enlisted;
       gathered = b.gathered;
     }
-fits_home roll (suc slot) b = b
 
-pub owns_home : {r : Register} {roll : Roll} {by : ℕ} {a : Author} (slot : ℕ)
-    → Owns r roll by a → Owns (come_home r slot) roll by a
-owns_home zero o =
+pub owns_out : {r : Register} {roll : Roll} {by : ℕ} {a : Author} (n : ℕ) → Owns r roll by a
+    → Owns (outs n r) roll by a
+owns_out n o =
     let is = o.author in
     record {
       author =
@@ -84,7 +87,22 @@ owns_home zero o =
       signs = o.signs;
       leads = o.leads;
     }
+
+-- the same, where a seat of this slot came home
+pub fits_home : {book : Book} {r : Register} (roll : Roll) (slot : ℕ) → BookFits book r roll
+    → BookFits book (come_home r slot) roll
+fits_home {r = r} roll zero b = fits_out roll (r.out - 1) b
+fits_home roll (suc slot) b = b
+
+pub owns_home : {r : Register} {roll : Roll} {by : ℕ} {a : Author} (slot : ℕ)
+    → Owns r roll by a → Owns (come_home r slot) roll by a
+owns_home {r = r} zero o = owns_out (r.out - 1) o
 owns_home (suc slot) o = o
+
+-- no more seats are out then
+pub out_home : (r : Register) (slot n : ℕ) → r.out ≤ n → (come_home r slot).out ≤ n
+out_home r zero n most = omega (arith, most)
+out_home r (suc slot) n most = most
 
 -- the book, where an author that may make changes makes one more
 pub fits_more : (book : Book) (r : Register) (roll : Roll) (by : ℕ) (a : Author) (x : Change)

@@ -1,10 +1,8 @@
--- Read in this order: BookLemmas (the book), RollLemmas (who made which change), SlotLemmas (the
--- words), ViewLemmas (who sees what), AuthorLemmas (the authors); TokenLemmas (what is known of a
--- token, and a seat that comes back); PlayLemmas, SplitLemmas and PairLemmas (each step keeps the
--- rule).
-pub mod BookLemmas
+-- Read in this order: RollLemmas (who made which change), WordLemmas (the words), ViewLemmas (who
+-- sees what), AuthorLemmas (the authors); TokenLemmas (what is known of a token, and a seat that
+-- comes back); PlayLemmas, SplitLemmas and PairLemmas (each step keeps the rule).
 pub mod RollLemmas
-pub mod SlotLemmas
+pub mod WordLemmas
 pub mod ViewLemmas
 pub mod AuthorLemmas
 pub mod TokenLemmas

@@ -39,13 +39,14 @@ module _ {M : Type 0} where
           fits = fits_join (ViewFits now s.words) s.views id other (Pair a b)
               (fits_still k now s.words (λ by. (by ≢ id) × (by ≢ other))
               (λ by away is. (is, refl))
-              (λ by w away f. (f.0, owns_else id two.1 away.1 f.1, f.2))) (
+              (λ by w away f. (f.0, owns_else id two.1 away.1 f.1, f.2, f.3))) (
                 (
                   one.0,
                   owns_moved b.author.number id ne one.1,
                   λ (lt : 0 < 0). absurd (omega arith),
+                  one.3,
                 ),
-                (two.0, owns_here id two.1, two.2),
+                (two.0, owns_here id two.1, two.2, two.3),
                 ne,
               )
               tt;
@@ -132,6 +133,7 @@ module _ {M : Type 0} where
                     (λ i. numbers_apart one apart f.1 (i ∙ sym l.number))
                     (others w.author.number (numbers_apart two apart f.1)) f.1,
                 f.2,
+                f.3,
               ))) (
                 (
                   fit.0.0,
@@ -147,6 +149,7 @@ module _ {M : Type 0} where
                     };
                   },
                   λ (lt : 0 < 0). absurd (omega arith),
+                  fit.0.3,
                 ),
                 (
                   fit.1.0,
@@ -157,6 +160,7 @@ module _ {M : Type 0} where
                     leads = λ is'. absurd (fit.2 (l.number ∙ sym (two.leads is').number));
                   },
                   fit.1.2,
+                  fit.1.3,
                 ),
                 fit.2,
               );
@@ -230,8 +234,8 @@ module _ {M : Type 0} where
           fits = fits_split (ViewFits now s.words) s.views id (first_seat (Pair a b))
               (last (Pair a b))
               (fits_still k now s.words (λ by. by ≢ id) (λ by apart is. (is, refl))
-              (λ by w apart f. (f.0, owns_else n two apart f.1, f.2)))
-              (fit.0.0, owns_moved b.author.number n fit.2 fit.0.1, fit.0.2)
-              (fit.1.0, owns_here n two, fit.1.2);
+              (λ by w apart f. (f.0, owns_else n two apart f.1, f.2, f.3)))
+              (fit.0.0, owns_moved b.author.number n fit.2 fit.0.1, fit.0.2, fit.0.3)
+              (fit.1.0, owns_here n two, fit.1.2, fit.1.3);
         },
       ))

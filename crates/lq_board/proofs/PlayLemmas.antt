@@ -1,5 +1,5 @@
 -- Each step on a word keeps the rule.
-use Rattle.std.proofs.Common.{◌≡◌, ◌≢◌, ℕ, zero, suc, ◌+◌, ◌<◌, ◌^◌, ◌%◌, List, [], ◌∷◌, length, refl, sym, ap, ◌∙◌, subst, arith, length-append, get_or-set_same, get_or-set_other, Option, Some, true, true≢false}
+use Rattle.std.proofs.Common.{◌≡◌, ◌≢◌, ℕ, zero, suc, ◌+◌, ◌<◌, ◌^◌, ◌%◌, List, [], ◌∷◌, length, refl, sym, ap, ◌∙◌, subst, arith, length-append, get_or-set_same, get_or-set_other, Option, Some, true, true≢false, append-nil}
 use Rattle.std.specs.Prelude.{slice_index, slice_set, replicate}
 use Rattle.std.proofs.lemmas.List.{set-get_or, get_or-replicate}
 use mathlib.Core.Option.{none, some, some-injective, some-ne-none}
@@ -19,9 +19,8 @@ use Rattle.lq_board.specs.View.{keeping, keeping_of, newborn}
 use Rattle.lq_board.specs.Rule.{ViewFits, Owns, BoardState, BoardRule, IsKept}
 use Rattle.lq_board.specs.Step.{AddsChange, Sees, Checks, ComesHome, Counts, AsksAgain}
 use Rattle.lq_board.proofs.RollLemmas.{others_all}
-use Rattle.lq_board.proofs.AuthorLemmas.{fits_more, owns_more, owns_added, fits_home, owns_home}
-use Rattle.lq_board.proofs.BookLemmas.{extends_self, extends_more, full_more, room_of}
-use Rattle.lq_board.proofs.SlotLemmas.{counted_same, agrees_unused, agrees_slot, agrees_word}
+use Rattle.lq_board.proofs.AuthorLemmas.{fits_more, owns_more, owns_added, fits_home, owns_home, out_home}
+use Rattle.lq_board.proofs.WordLemmas.{extends_more, full_more, room_of, counted_same, agrees_unused, agrees_slot, agrees_word}
 use Rattle.lq_board.proofs.ViewLemmas.{numbers_apart, fits_set, fits_still, rule_of, came_self, sits_at, sits_same, slots_apart}
 
 module _ {M : Type 0} where
@@ -103,7 +102,8 @@ module _ {M : Type 0} where
       (λ n. (n + 1) % 2 ^ 64) (AddsChange p.1 (step slots 0 1 0 none) p.0))
       (λ i. (sym is i, sym says i)) (λ s kept len at small.
       let k = rule_of s kept id v at in
-      let o = ((k.fits id (Keeper v) at).2 pos).1 in
+      let seat = (k.fits id (Keeper v) at).2 pos in
+      let o = seat.1 in
       let n : ℕ = (slice_index s.words 0 + 1) % 2 ^ 64 in
       let words : List ℕ = slice_set s.words 0 n in
       let book : Book = grown v.book (x ∷ []) in
@@ -128,7 +128,7 @@ module _ {M : Type 0} where
             number = get_or-set_same s.words 0 n 0 (omega (arith, k.agrees.wide)) ∙ next;
             agrees =
                 agrees_word s.words v.slots 0 n (λ (lt : 0 < 0). absurd (omega arith)) k.agrees;
-            came = (extends_self book, k.came.1);
+            came = (([], rw append-nil), k.came.1);
             books = fits_more v.book v.register b.roll id v.back.author x full may o k.books;
             fits = fits_set (ViewFits b words) s.views id (Keeper w)
                 (fits_still k b words (λ by. by ≢ id) (λ by apart is. absurd (apart is))
@@ -139,13 +139,15 @@ module _ {M : Type 0} where
                       (get_or-set_other s.words 0 u.slot n 0 (λ e. omega (arith, e, pos))
                       ∙ (f.2 pos).word)
                       (f.2 pos),
+                  f.3,
                 ))) (
                   refl,
                   refl,
                   λ _. (
-                    extends_self book,
+                    ([], rw append-nil),
                     owns_more v.book v.register b.roll id v.back.author o k.books,
                     λ (lt : 0 < 0). absurd (omega arith),
+                    seat.3,
                   ),
                 );
           },
@@ -175,7 +177,7 @@ module _ {M : Type 0} where
       let book : Book = kept.0.view.book in
       let now : TokenView M = Seat (record w { book = book }) in (
         now,
-        viewed s kept id now (extends_self book, mine.1, mine.2),
+        viewed s kept id now (([], rw append-nil), mine.1, mine.2, mine.3),
         (refl, mine.0, k.number, k.books.full, whole k mine.1),
       ))
 
@@ -187,7 +189,13 @@ module _ {M : Type 0} where
       let k = rule_of s kept id v at in (
         Keeper v,
         viewed s kept id (Keeper v) (kept.1.fits id (Keeper v) at),
-        (refl, k.came, k.number, λ pos. whole k ((k.fits id (Keeper v) at).2 pos).1),
+        (
+          refl,
+          k.came,
+          k.number,
+          λ pos. whole k ((k.fits id (Keeper v) at).2 pos).1,
+          λ pos. ((k.fits id (Keeper v) at).2 pos).3,
+        ),
       ))
 
   -- the seat that came back last came home
@@ -210,7 +218,12 @@ module _ {M : Type 0} where
             books = fits_home kept.0.roll slot k.books;
             fits = fits_set (ViewFits b s.words) s.views id (Keeper w)
                 (fits_still k b s.words (λ by. by ≢ id) (λ by apart is. absurd (apart is))
-                (λ by u apart f. (f.0, owns_home slot f.1, f.2)))
+                (λ by u apart f. (
+                  f.0,
+                  owns_home slot f.1,
+                  f.2,
+                  λ leads. out_home v.register slot _ (f.3 leads),
+                )))
                 (refl, refl, λ (lt : 0 < 0). absurd (omega arith));
           },
         ),
@@ -243,6 +256,7 @@ module _ {M : Type 0} where
                   λ pos. sits_same
                       (counted_same v.slots i n u.slot (omega (arith, k.agrees.places, within)))
                       refl (f.2 pos),
+                  f.3,
                 )))
                 (refl, refl, λ (lt : 0 < 0). absurd (omega arith));
           },
@@ -288,8 +302,9 @@ module _ {M : Type 0} where
                       let ne = slots_apart (numbers_apart mine.1 apart f.1) (f.2 pos) t in
                       sits_at (get_or-set_other s.words w.slot u.slot n 0 ne ∙ (f.2 pos).word)
                       (f.2 pos),
+                  f.3,
                 )))
-                (mine.0, mine.1, λ _. sits_at (word ∙ next) t);
+                (mine.0, mine.1, λ _. sits_at (word ∙ next) t, mine.3);
           },
         ),
         (refl, t.word),

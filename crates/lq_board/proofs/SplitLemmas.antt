@@ -1,18 +1,17 @@
 -- Each split of the keeper keeps the rule.
-use Rattle.std.proofs.Common.{◌≡◌, ◌≢◌, ℕ, zero, suc, ◌+◌, ◌<◌, true, false, true≢false, List, [], ◌∷◌, ◌++◌, length, refl, sym, ap, ◌∙◌, subst, arith, Option}
+use Rattle.std.proofs.Common.{◌≡◌, ◌≢◌, ℕ, zero, suc, ◌+◌, ◌<◌, true, false, true≢false, List, [], ◌∷◌, ◌++◌, length, refl, sym, ap, ◌∙◌, subst, arith, Option, append-nil}
 use Rattle.std.specs.Prelude.{slice_set}
 use mathlib.Core.Option.{some}
 use lib.ListN.{get_elem?}
 use Rattle.atomic_table.specs.Table.{State, Me, Splits}
 use Rattle.lq_board.specs.Known.{KnownSlot, Author, Register, Sitting, Keeping, TokenView, Keeper, Seat}
-use Rattle.lq_board.specs.Author.{no_register, leader_register, new_author}
+use Rattle.lq_board.specs.Author.{no_register, leader_register, new_author, with_out}
 use Rattle.lq_board.specs.Slot.{slot_at, go_out, come_back}
-use Rattle.lq_board.specs.View.{keeping, keeper, keeping_of, sitting_of, taken, with_new_number, with_new_seat, copy_of, led, lead_of, with_slot_seat, seated, parted, again_of}
-use Rattle.lq_board.specs.Rule.{Agrees, Sits, ViewFits, BookFits, Roll, Owns, BoardState, IsKept}
-use Rattle.lq_board.proofs.AuthorLemmas.{numbered, fits_later, owns_new, owns_later}
-use Rattle.lq_board.proofs.BookLemmas.{extends_self}
-use Rattle.lq_board.proofs.SlotLemmas.{slot_here, out_else, agrees_out}
-use Rattle.lq_board.proofs.ViewLemmas.{owner_set, owner_here, owner_else, moved, owns_here, owns_else, fits_split, fits_still, rule_of, splits_as, came_self, sits_same}
+use Rattle.lq_board.specs.View.{keeping, keeper, keeping_of, sitting_of, taken, with_new_number, with_new_seat, copy_of, led, lead_of, with_slot_seat, seated, parted, again_of, parted_with_seat, again_with_seat}
+use Rattle.lq_board.specs.Rule.{Agrees, Sits, CountsOut, ViewFits, BookFits, Roll, Owns, BoardState, IsKept}
+use Rattle.lq_board.proofs.AuthorLemmas.{numbered, fits_later, owns_new, owns_later, fits_out, owns_out}
+use Rattle.lq_board.proofs.WordLemmas.{slot_here, out_else, agrees_out}
+use Rattle.lq_board.proofs.ViewLemmas.{owner_set, owner_here, owner_else, moved, numbers_apart, owns_here, owns_else, fits_split, fits_still, rule_of, splits_as, came_self, sits_same}
 
 module _ {M : Type 0} where
   -- what the keeper knows of the slot of a seat that can go out
@@ -72,13 +71,15 @@ module _ {M : Type 0} where
       → new.slot < 65 → IsFree v.slots new.slot new.asks → BookFits v.book r roll
       → ((by : ℕ) (a : Author) → by ≢ id → Owns v.register kept.0.roll by a
       → Owns r roll by a)
-      → Owns r roll (length s.views) new.author
+      → ((by : ℕ) (u : Sitting M) → by ≢ id → Owns v.register kept.0.roll by u.author
+      → CountsOut v.register u → CountsOut r u)
+      → Owns r roll (length s.views) new.author → CountsOut r new
       → IsKept (record s {
         views =
             slice_set s.views id (keeper v.book (go_out v.slots new.slot new.name) r)
             ++ Seat (record new { book = v.book }) ∷ [];
       })
-  goes_out s kept id v at r roll new within free books still mine =
+  goes_out s kept id v at r roll new within free books still few mine mine_few =
       let k = rule_of s kept id v at in
       let holder : ℕ → ℕ = kept.0.holder in
       let w : Keeping M = keeping v.book (go_out v.slots new.slot new.name) r in
@@ -109,12 +110,14 @@ module _ {M : Type 0} where
                     ∙ (free (omega (arith, i, pos))).0) in
                     sits_same (rw (out_else v.slots new.slot u.slot new.name ne) (refl, refl))
                     (owner_else holder new.slot new.author.number u.slot ne) t,
+                few by u apart f.1 f.3,
               )))
               (refl, refl, λ (lt : 0 < 0). absurd (omega arith)) (
-                extends_self v.book,
+                ([], rw append-nil),
                 mine,
                 sits_out v.slots holder s.words new.slot new.asks new.name new.author.number within
                     free k.agrees,
+                mine_few,
               );
         },
       )
@@ -122,31 +125,35 @@ module _ {M : Type 0} where
   -- a new seat goes out
   enters : (f h : ℕ → ℕ) (id : ℕ) (v : Keeping M) (new : Sitting M) → new.slot < 65
       → IsFree v.slots new.slot new.asks
+      → ((u : Sitting M) (roll : Roll) (by : ℕ) → Owns v.register roll by u.author
+      → CountsOut v.register u → CountsOut (numbered f h v.register) u)
       → Splits IsKept id (Keeper v)
       (keeper v.book (go_out v.slots new.slot new.name) (numbered f h v.register))
       (Seat (record new { book = v.book; author = new_author v.register }))
-  enters f h id v new within free s kept at =
+  enters f h id v new within free few s kept at =
       let books = (rule_of s kept id v at).books in
       let n : ℕ = length s.views in
       goes_out s kept id v at (numbered f h v.register) (moved kept.0.roll (v.register.seats + 1) n)
       (record new { author = new_author v.register }) within free
       (fits_later f h v.book v.register kept.0.roll books) (λ by a apart o. owns_later f h n o)
-      (owns_new f h n v.book v.register kept.0.roll books)
+      (λ by u apart o. few u kept.0.roll by o)
+      (owns_new f h n v.book v.register kept.0.roll books) (λ is. absurd (true≢false (sym is)))
 
-  -- a new seat of no slot, which goes out or stays within a call
+  -- a new seat of no slot, which goes out where no seat leads, or stays within a call
   pub copies : {me : Me ℕ (TokenView M)} (id : ℕ) (v : Keeping M) → me ≡ (Keeper v, [])
-      → Splits IsKept id me.0 (with_new_seat me.0) (copy_of me.0)
-  copies id v is =
+      → v.register.free ≡ true → Splits IsKept id me.0 (with_new_seat me.0) (copy_of me.0)
+  copies id v is free =
       splits_as id with_new_seat copy_of is
       (enters (λ n. n) (λ n. n + 1) id v (sitting_of (copy_of (Keeper v))) (omega arith)
-      (λ (lt : 0 < 0). absurd (omega arith)))
+      (λ (lt : 0 < 0). absurd (omega arith))
+      (λ u roll by o few leads. absurd (true≢false (sym free ∙ (o.leads leads).counted))))
 
   pub stays : {me : Me ℕ (TokenView M)} (id : ℕ) (v : Keeping M) → me ≡ (Keeper v, [])
       → Splits IsKept id me.0 (with_new_number me.0) (copy_of me.0)
   stays id v is =
       splits_as id with_new_number copy_of is
       (enters (λ n. n) (λ n. n) id v (sitting_of (copy_of (Keeper v))) (omega arith)
-      (λ (lt : 0 < 0). absurd (omega arith)))
+      (λ (lt : 0 < 0). absurd (omega arith)) (λ u roll by o few. few))
 
   -- a slot's new seat
   pub sits_down : {me : Me ℕ (TokenView M)} (id k : ℕ) (name : Option M) (v : Keeping M)
@@ -156,7 +163,7 @@ module _ {M : Type 0} where
   sits_down id (suc k) name v is pos within free =
       splits_as id (with_slot_seat (suc k) name) (seated (suc k) name) is
       (enters (λ n. n + 1) (λ n. n) id v (sitting_of (seated (suc k) name (Keeper v))) within
-      (λ _. (free, refl)))
+      (λ _. (free, refl)) (λ u roll by o few. few))
 
   -- the leading seat
   pub leading : {me : Me ℕ (TokenView M)} (id : ℕ) (v : Keeping M) → me ≡ (Keeper v, [])
@@ -182,22 +189,46 @@ module _ {M : Type 0} where
       let least = o.author.least in
       let most = o.author.most in
       absurd (omega (arith, least, most, first)))
+      (λ by u apart o.
+      let least = o.author.least in
+      let most = o.author.most in
+      absurd (omega (arith, least, most, first)))
       record {
         author = record { least = omega arith; most = omega arith; changes = refl; free = refl };
         only = refl;
         signs = λ counted. refl;
         leads = λ is. record { number = refl; counted = refl; enlisted = refl; gathered = refl };
-      })
+      }
+      (λ is. omega arith))
 
   -- the latest seat that came back
   pub again : {now : Me ℕ (TokenView M)} {more : List (ℕ × ℕ)} (id : ℕ) (name : Option M)
-      (seats openings : ℕ → ℕ) (v : Keeping M) → now ≡ (Keeper v, more) → IsBack v
-      → Splits IsKept id now.0 (parted name now.0) (again_of name seats openings now.0)
-  again id name seats openings v is back =
-      splits_as id (parted name) (again_of name seats openings) is (λ s kept at.
+      (openings : ℕ → ℕ) (v : Keeping M) → now ≡ (Keeper v, more) → IsBack v
+      → Splits IsKept id now.0 (parted name now.0) (again_of name openings now.0)
+  again id name openings v is back =
+      splits_as id (parted name) (again_of name openings) is (λ s kept at.
       let k = rule_of s kept id v at in
       let n : ℕ = length s.views in
-      let o = ((k.fits id (Keeper v) at).2 back.0).1 in
+      let seat = (k.fits id (Keeper v) at).2 back.0 in
       goes_out s kept id v at v.register (moved kept.0.roll v.back.author.number n)
-      (sitting_of (again_of name seats openings (Keeper v))) back.1 back.2 k.books
-      (λ by a apart other. owns_else n o apart other) (owns_here n o))
+      (sitting_of (again_of name openings (Keeper v))) back.1 back.2 k.books
+      (λ by a apart other. owns_else n seat.1 apart other) (λ by u apart other few. few)
+      (owns_here n seat.1) seat.3)
+
+  -- the same, where it leads and one seat more is made for it, which is out
+  pub again_for : {now : Me ℕ (TokenView M)} {more : List (ℕ × ℕ)} (id : ℕ) (v : Keeping M)
+      → now ≡ (Keeper v, more) → IsBack v → v.back.author.leads ≡ true
+      → Splits IsKept id now.0 (parted_with_seat now.0) (again_with_seat now.0)
+  again_for id v is back leads =
+      splits_as id parted_with_seat again_with_seat is (λ s kept at.
+      let k = rule_of s kept id v at in
+      let n : ℕ = length s.views in
+      let out : ℕ = v.register.out + 1 in
+      let seat = (k.fits id (Keeper v) at).2 back.0 in
+      let roll : Roll = moved kept.0.roll v.back.author.number n in
+      goes_out s kept id v at (with_out v.register) roll
+      (sitting_of (again_with_seat (Keeper v))) back.1 back.2 (fits_out roll out k.books)
+      (λ by a apart other. owns_out out (owns_else n seat.1 apart other))
+      (λ by u apart other few is'. absurd (numbers_apart seat.1 apart other
+      ((other.leads is').number ∙ sym (seat.1.leads leads).number)))
+      (owns_out out (owns_here n seat.1)) (λ is'. let few = seat.3 leads in omega (arith, few)))

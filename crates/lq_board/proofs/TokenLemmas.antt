@@ -12,7 +12,7 @@ use Rattle.lq_board.specs.Rule.{IsKept, ViewFits, BoardState}
 use Rattle.lq_board.proofs.ViewLemmas.{rule_of, moved, numbers_apart, owns_here, owns_else, fits_join, fits_still, joins_as, sits_same, slots_apart}
 use Rattle.atomic_table.specs.Seated.{TableId}
 use Rattle.atomic_table.proofs.Lists.{set_else}
-use Rattle.lq_board.proofs.SlotLemmas.{back_else, agrees_back}
+use Rattle.lq_board.proofs.WordLemmas.{back_else, agrees_back}
 
 -- one board has one table
 pub same_table : {a b : BoardName} → a ≡ b → a.table ≡ b.table
@@ -88,6 +88,7 @@ module _ {M : Type 0} where
                     sits_same
                     (rw (back_else v.slots w.slot u.slot w.asks w.name ne) (refl, refl)) refl
                     (f.2 pos),
+                f.3,
               ))) (
                 refl,
                 refl,
@@ -95,6 +96,7 @@ module _ {M : Type 0} where
                   seat.0,
                   owns_here id seat.1,
                   λ (lt : 0 < 0). absurd (omega arith),
+                  seat.3,
                 ),
               )
               tt;

@@ -1,5 +1,5 @@
 -- The views of the tokens, where one of them changes.
-use Rattle.std.proofs.Common.{◌≡◌, ◌≢◌, ◌⊎◌, ℕ, zero, suc, ◌<◌, Bool, eqb, eq-eqb, ne_eqb, cond, List, [], ◌∷◌, ◌++◌, length, refl, sym, ap, ◌∙◌, subst, inl, inr, ⊎_elim, arith, length-set, Option}
+use Rattle.std.proofs.Common.{◌≡◌, ◌≢◌, ◌⊎◌, ℕ, zero, suc, ◌<◌, Bool, eqb, eq-eqb, ne_eqb, cond, List, [], ◌∷◌, ◌++◌, length, refl, sym, ap, ◌∙◌, subst, inl, inr, ⊎_elim, arith, length-set, Option, append-nil}
 use Rattle.std.specs.Prelude.{slice_index, slice_set}
 use mathlib.Core.Option.{some, some-injective, some-ne-none}
 use lib.ListN.{get_elem?}
@@ -11,7 +11,6 @@ use Rattle.lq_board.specs.Author.{no_author}
 use Rattle.lq_board.specs.Slot.{unused, slot_at}
 use Rattle.lq_board.specs.View.{slotless_sitting, of_no_slot}
 use Rattle.lq_board.specs.Rule.{CameBack, Sits, SeatFits, ViewFits, Roll, Owns, BoardState, BoardRule, IsKept}
-use Rattle.lq_board.proofs.BookLemmas.{extends_self}
 
 -- the last of a list, and where it stands
 at_end : {A : Type 0} (l : List A) (a b : A) (j : ℕ) → get_elem? (l ++ a ∷ []) j ≡ some b
@@ -158,7 +157,7 @@ module _ {M : Type 0} where
 
   -- a seat of no slot came back that knew all
   pub came_self : (book : Book) → CameBack {M = M} book (slotless_sitting book no_author) unused
-  came_self book = (extends_self book, λ (lt : 0 < 0). absurd (omega arith))
+  came_self book = (([], rw append-nil), λ (lt : 0 < 0). absurd (omega arith))
 
   -- a seat's slot, where its word is known
   pub sits_at : {slots : List (KnownSlot M)} {holder : ℕ → ℕ} {words words' : List ℕ}

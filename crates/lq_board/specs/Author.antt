@@ -57,6 +57,10 @@ with_number r = record r { seats = r.seats + 1 }
 abbrev pub with_seat : Register → Register
 with_seat r = record r { seats = r.seats + 1; out = r.out + 1 }
 
+-- one seat of no slot more is out
+abbrev pub with_out : Register → Register
+with_out r = record r { out = r.out + 1 }
+
 -- one seat more, which went out to a slot
 abbrev pub with_opening : Register → Register
 with_opening r = record r { seats = r.seats + 1; openings = r.openings + 1 }

@@ -1,5 +1,5 @@
 -- The rule of a board's words.
-use Rattle.std.specs.Prelude.{◌≡◌, ◌≢◌, ℕ, ◌<◌, ◌≤◌, Bool, true, false, List, length, slice_index, Option}
+use Rattle.std.specs.Prelude.{◌≡◌, ◌≢◌, ℕ, ◌+◌, ◌<◌, ◌≤◌, Bool, true, false, List, length, slice_index, Option}
 use mathlib.Core.Option.{some}
 use lib.ListN.{get_elem?}
 use Rattle.atomic_table.specs.Table.{State}
@@ -76,12 +76,18 @@ module _ {M : Type 0} where
     pub word : slice_index words slot ≡ asks
     pub only : number ≡ holder slot
 
-  -- a seat's book is a prefix of the keeper's, its author is this token, and it is out of its slot
+  -- where a seat leads, at most one seat of no slot is out beside those that calls made for it
+  abbrev pub CountsOut : Register → Sitting M → Type 0
+  CountsOut r w = w.author.leads ≡ true → r.out ≤ w.seats + 1
+
+  -- a seat's book is a prefix of the keeper's, its author is this token, it is out of its slot, and
+  -- it counts those that are out where it leads
   abbrev pub SeatFits : BoardState M → List ℕ → ℕ → Sitting M → Type 0
   SeatFits b words by w =
       Extends b.view.book w.book
       × Owns b.view.register b.roll by w.author
       × (0 < w.slot → Sits b.view.slots b.holder words w.slot w.asks w.name w.author.number)
+      × CountsOut b.view.register w
 
   -- There is one keeper, which has the token of the latest seat that came back. The seats of a pair
   -- are two authors, the first of no slot.

@@ -9,7 +9,7 @@ use Rattle.lq_board.specs.Roll.{IsMerged, without_number}
 use Rattle.lq_board.specs.Author.{AreDisjoint, IsWhole, with_author, with_change, come_home}
 use Rattle.lq_board.specs.Slot.{slot_at, counted}
 use Rattle.lq_board.specs.View.{keeper, keeping_of, sitting_of, first_sitting, second_of, of_roll, of_signs}
-use Rattle.lq_board.specs.Rule.{CameBack}
+use Rattle.lq_board.specs.Rule.{CameBack, CountsOut}
 
 module _ {M : Type 0} where
   -- a change by the latest seat that came back was added to the book
@@ -45,6 +45,7 @@ module _ {M : Type 0} where
       × CameBack was.book was.back was.was
       × (found ≡ length was.book.changes)
       × (0 < was.back.author.number → IsWhole was.back.author found)
+      × (0 < was.back.author.number → CountsOut was.register was.back)
 
   -- the same, and the seat came home: it doesn't go out again
   abbrev pub ComesHome : Step ℕ → Me ℕ (TokenView M) → ℕ → Me ℕ (TokenView M) → Type 0

@@ -1,11 +1,11 @@
 -- What a token knows, before and after a step.
-use Rattle.std.specs.Prelude.{◌≡◌, ℕ, ◌<◌, Bool, List, [], ◌∷◌, ◌++◌, length, Option, None, IsSome}
+use Rattle.std.specs.Prelude.{◌≡◌, ℕ, ◌+◌, ◌<◌, Bool, List, [], ◌∷◌, ◌++◌, length, Option, None, IsSome}
 use Rattle.atomic_table.specs.Table.{Me}
 use Rattle.lq_volume.specs.State.{State}
 use Rattle.lq_volume.specs.Book.{Book}
 use Rattle.lq_board.specs.Known.{KnownSlot, Author, Register, Moment, Sitting, Keeping, TokenView, Keeper, Seat, Pair}
 use Rattle.lq_board.specs.Book.{no_book, IsFullBook}
-use Rattle.lq_board.specs.Author.{no_author, no_register, leader, leader_register, with_seat, with_number, with_opening, new_author, with_signs, with_roll}
+use Rattle.lq_board.specs.Author.{no_author, no_register, leader, leader_register, with_seat, with_number, with_out, with_opening, new_author, with_signs, with_roll}
 use Rattle.lq_board.specs.Slot.{unused, unused_slots, slot_at, gone_out, go_out, come_back}
 
 module _ {M : Type 0} where
@@ -124,24 +124,30 @@ module _ {M : Type 0} where
       })
 
   -- the keeper and the seat after the latest seat that came back is split off again, under this
-  -- name, and with these counts of the seats and of the openings made for it
+  -- name, and with this count of the openings made for it
   abbrev pub parted : Option M → TokenView M → TokenView M
   parted name v =
       keeper (keeping_of v).book (go_out (keeping_of v).slots (keeping_of v).back.slot name)
       (keeping_of v).register
 
-  abbrev pub sits_again : Sitting M → Book → Option M → (ℕ → ℕ) → (ℕ → ℕ) → Sitting M
-  sits_again w book name seats openings =
-      record w {
-        book = book;
-        name = name;
-        seats = seats w.seats;
-        openings = openings w.openings;
-      }
+  abbrev pub sits_again : Sitting M → Book → Option M → (ℕ → ℕ) → Sitting M
+  sits_again w book name openings =
+      record w { book = book; name = name; openings = openings w.openings }
 
-  abbrev pub again_of : Option M → (ℕ → ℕ) → (ℕ → ℕ) → TokenView M → TokenView M
-  again_of name seats openings v =
-      Seat (sits_again (keeping_of v).back (keeping_of v).book name seats openings)
+  abbrev pub again_of : Option M → (ℕ → ℕ) → TokenView M → TokenView M
+  again_of name openings v =
+      Seat (sits_again (keeping_of v).back (keeping_of v).book name openings)
+
+  -- the same for a seat that keeps its name, and for which one seat more is made, which is out
+  abbrev pub parted_with_seat : TokenView M → TokenView M
+  parted_with_seat v =
+      let k = keeping_of v in
+      keeper k.book (go_out k.slots k.back.slot k.back.name) (with_out k.register)
+
+  abbrev pub again_with_seat : TokenView M → TokenView M
+  again_with_seat v =
+      let k = keeping_of v in
+      Seat (record k.back { book = k.book; seats = k.back.seats + 1 })
 
   -- the keeper after a seat comes back
   abbrev pub taken : TokenView M → TokenView M → TokenView M

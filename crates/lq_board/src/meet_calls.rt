@@ -1,5 +1,5 @@
 //! Calls in which a seat meets the keeper, or another seat.
-ghost use Rattle.std.specs.Prelude.{◌≡◌, ◌≢◌, ◌+◌, ◌<◌, [], ◌∷◌, ◌++◌, length, Some, true, false};
+ghost use Rattle.std.specs.Prelude.{◌≡◌, ◌≢◌, ◌+◌, ◌<◌, ◌≤◌, [], ◌∷◌, ◌++◌, length, Some, true, false};
 ghost use Rattle.lq_volume.specs.Book.{grown, state_of, Extends};
 ghost use Rattle.lq_volume.specs.Change.{after, IsLawful};
 ghost use Rattle.lq_board.specs.Author.{AreDisjoint, with_number, with_seat, with_author, with_signs, with_roll};
@@ -59,7 +59,8 @@ impl<M> Board<M> {
 
     /// The number of changes in the keeper's book, which a seat of no slot then knows.
     ///
-    /// It takes no memory.
+    /// Where it leads, at most one seat of no slot is out beside those that calls made for it. It
+    /// takes no memory.
     pub fn meet(&self, keeper: &mut Keeper<M>, seat: &mut Seat<M>) -> u64
         requires board { (keeper.old.board ≡ self.now) × (seat.old.board ≡ self.now) }
         requires slot { seat.old.slot ≡ 0 }
@@ -67,6 +68,8 @@ impl<M> Board<M> {
         ensures later { Extends seat.new.book seat.old.book }
         ensures full { IsFullBook seat.new.book }
         ensures seat { seat.new ≡ record seat.old { book = keeper.old.book } }
+        ensures few { seat.old.author.leads ≡ true
+            → keeper.old.register.out ≤ seat.old.seats + 1 }
         ensures keeper { keeper.new ≡ keeper.old }
     {
         let token = seat.token.take().unwrap();
@@ -113,9 +116,11 @@ impl<M> Board<M> {
         } }
     {
         let token = by.token.take().unwrap();
-        let (_, again) = self.met::<Brand>(keeper, token);
-        by.token = Some(again);
-        self.slotless_seat(keeper)
+        by.token = Some(self.met_for_seat(keeper, token));
+        Seat {
+            token: Some(self.table.shared.split_seat::<Inner>(&mut keeper.token)),
+            slot: 0,
+        }
     }
 
     /// The seat of a slot, as `slot_seat` gives it, made for a seat that may open, which counts it.

@@ -1,24 +1,27 @@
 //! Steps on a board's words that a call chooses, each a split or a join of tokens: the calls of
 //! `board` and `meet_calls` are made of them.
-ghost use Rattle.std.specs.Prelude.{◌≡◌, ◌<◌, [], ◌∷◌, length, true, false, Some};
+ghost use Rattle.std.specs.Prelude.{◌≡◌, ◌⊎◌, ◌+◌, ◌<◌, [], ◌∷◌, length, true, false, Some};
 ghost use Rattle.lq_volume.specs.Book.{grown, state_of};
 ghost use Rattle.lq_volume.specs.Change.{after, IsLawful};
-ghost use Rattle.lq_board.specs.Author.{with_seat, with_opening, new_author, with_author, with_change};
+ghost use Rattle.lq_board.specs.Author.{with_seat, with_out, with_opening, new_author, with_author, with_change};
 ghost use Rattle.lq_board.specs.Book.{IsFullBook};
 ghost use Rattle.lq_board.specs.Slot.{slot_at, gone_out};
 ghost use Rattle.lq_board.specs.View.{sitting_of, slotless_sitting, sits_again, IsSeat};
 ghost use Rattle.lq_board.specs.Meeting.{GoesOutAgain};
+ghost use Rattle.lq_board.specs.Rule.{CountsOut};
 ghost use Rattle.lq_board.specs.Token.{new_seat_of};
 
 use crate::board::Board;
 use crate::tokens::{Keeper, Seat, Token};
-use crate::word_steps::{Add, Again, Back, Check, Chosen, Open, Slotless};
+use crate::word_steps::{Add, Again, AgainFor, Back, Check, Chosen, Open, Slotless};
 use lq_volume::{Change, accepted_changes_keep_trees};
 
 impl<M> Board<M> {
-    // Splits a new seat of no slot off the keeper, which goes out.
+    // Splits a new seat of no slot off the keeper, which goes out. No seat leads: the board or the
+    // keeper says so.
     pub(crate) fn slotless_seat(&self, keeper: &mut Keeper<M>) -> Seat<M>
         requires board { keeper.old.board ≡ self.now }
+        requires uncounted { (self.now.free ≡ true) ⊎ (keeper.old.register.free ≡ true) }
         ensures seat { result ≡ new_seat_of keeper.old }
         ensures signs { result.author.signs ≡ keeper.old.board.free }
         ensures full { IsFullBook result.book }
@@ -71,9 +74,9 @@ impl<M> Board<M> {
         requires slot { (sitting_of token.me.0).slot < 65 }
         ensures number { result.0 ≡ length keeper.old.book.changes }
         ensures again { let w = sitting_of token.me.0 in GoesOutAgain keeper.old keeper.new w
-            (sits_again w keeper.old.book W.name W.seats W.openings)
-            result.1.table_id result.1.me }
+            (sits_again w keeper.old.book W.name W.openings) result.1.table_id result.1.me }
         ensures register { keeper.new.register ≡ keeper.old.register }
+        ensures few { CountsOut keeper.old.register (sitting_of token.me.0) }
     {
         self.table
             .shared
@@ -83,9 +86,29 @@ impl<M> Board<M> {
         (number, again)
     }
 
+    // As `met` for the leading seat, which keeps its name. One seat more is made for it, and is out,
+    // before it is split off.
+    pub(crate) fn met_for_seat(&self, keeper: &mut Keeper<M>, token: Token<M>) -> Token<M>
+        requires board { (keeper.old.board ≡ self.now) × (token.table_id ≡ self.now.table) }
+        requires view { IsSeat token.me (sitting_of token.me.0) }
+        requires number { 0 < (sitting_of token.me.0).author.number }
+        requires slot { (sitting_of token.me.0).slot < 65 }
+        requires leads { (sitting_of token.me.0).author.leads ≡ true }
+        ensures again { let w = sitting_of token.me.0 in GoesOutAgain keeper.old keeper.new w
+            (record w { book = keeper.old.book; seats = w.seats + 1 }) result.table_id result.me }
+        ensures register { keeper.new.register ≡ with_out keeper.old.register }
+    {
+        self.table
+            .shared
+            .join_seat::<Back>(&mut keeper.token, token);
+        // For the proof: this read tells what holds for the seat.
+        self.table.shared.load::<Check>(&mut keeper.token, 0);
+        self.table.shared.split_seat::<AgainFor>(&mut keeper.token)
+    }
+
     // As `met`, with a change by the seat in between. `change` is for the proof: the call takes W's
     // change from it.
-    #[tactic(auto, using(crate::proofs::BookLemmas::state_of_grown))]
+    #[tactic(auto, using(crate::proofs::WordLemmas::state_of_grown))]
     pub(crate) fn added<W: Chosen<M>>(
         &self,
         keeper: &mut Keeper<M>,
@@ -101,8 +124,9 @@ impl<M> Board<M> {
         requires lawful { IsLawful (state_of keeper.old.book) change.now }
         ensures number { result.0 ≡ length keeper.new.book.changes }
         ensures again { let w = sitting_of token.me.0 in GoesOutAgain keeper.old keeper.new w
-            (record (sits_again w (grown keeper.old.book (change.now ∷ [])) W.name W.seats
-            W.openings) { author = with_change w.author result.0 })
+            (record (sits_again w (grown keeper.old.book (change.now ∷ [])) W.name W.openings) {
+              author = with_change w.author result.0;
+            })
             result.1.table_id result.1.me }
         ensures state { state_of keeper.new.book ≡ after (state_of keeper.old.book) change.now }
         ensures register { keeper.new.register

@@ -4,8 +4,8 @@ use atomic_table::{Join, Play, Split};
 use lq_volume::Change;
 use std::marker::{Brand, PhantomData};
 
-/// What a call chooses for its step: a slot, a name and a change, and what becomes of the counts
-/// of seats and of openings made for a seat.
+/// What a call chooses for its step: a slot, a name and a change, and what becomes of the count of
+/// openings made for a seat.
 pub trait Chosen<M> {
     ghost use Rattle.std.specs.Prelude.{ℕ, Option};
     ghost use Rattle.lq_volume.specs.declared.change.Change.{Change};
@@ -15,8 +15,6 @@ pub trait Chosen<M> {
     ghost name: { Option M };
 
     ghost change: { Option Change };
-
-    ghost seats: { ℕ → ℕ };
 
     ghost openings: { ℕ → ℕ };
 }
@@ -29,8 +27,6 @@ impl<M> Chosen<M> for Brand {
     ghost name = { None };
 
     ghost change = { None };
-
-    ghost seats = { λ n. n };
 
     ghost openings = { λ n. n };
 }
@@ -147,7 +143,18 @@ impl<M, W: Chosen<M>> Split<TokenView<M>> for Again<W> {
 
     ghost left = { parted W.name };
 
-    ghost right = { again_of W.name W.seats W.openings };
+    ghost right = { again_of W.name W.openings };
+}
+
+// As `Again`, for a seat for which one seat of no slot more is made, which is out.
+pub(crate) struct AgainFor;
+
+impl<M> Split<TokenView<M>> for AgainFor {
+    ghost use Rattle.lq_board.specs.View.{parted_with_seat, again_with_seat};
+
+    ghost left = { parted_with_seat };
+
+    ghost right = { again_with_seat };
 }
 
 // Joins a seat to the keeper.

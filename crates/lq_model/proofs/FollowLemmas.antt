@@ -1,9 +1,8 @@
 -- A query that was followed: what its reader received, and the volume. Two seats: what their book
 -- is.
-use Rattle.std.proofs.Common.{◌≡◌, ⊎_elim, inl, inr, ℕ, ◌-◌, ◌<◌, ◌≤◌, Bool, cond, eq-eqb, false, true≢false, List, [], ◌∷◌, ◌++◌, length, map, take, slice_get, Option, Some, None, Result, Err, refl, sym, ap, ◌∙◌, subst, arith, length-append}
+use Rattle.std.proofs.Common.{◌≡◌, ⊎_elim, inl, inr, ℕ, ◌<◌, ◌≤◌, Bool, cond, eq-eqb, false, List, [], ◌∷◌, ◌++◌, length, map, take, Option, Some, Result, Err, refl, sym, ap, ◌∙◌, subst, arith, length-append, append-nil}
 use Rattle.std.proofs.lemmas.Bool.Decides.{nat_tests}
-use Rattle.std.proofs.lemmas.List.{take-map, take_at}
-use Rattle.std.specs.Prelude.{IsSome, IsSomeAnd}
+use Rattle.std.specs.Prelude.{IsSomeAnd}
 use Rattle.lq_value.specs.declared.refusal.Refusal.{Refusal}
 use Rattle.lq_value.specs.declared.refusal.Refusal.TheVariants.{NoMemory}
 use Rattle.lq_predicate.specs.Query.{Query}
@@ -32,14 +31,9 @@ use Rattle.lq_server.specs.Opened.{IsNewReader}
 use Rattle.lq_server.specs.Syncing.{IsSynced}
 use Rattle.lq_server.specs.Headline.{ReaderIsTold}
 use Rattle.lq_server.specs.Retired.{IsRetired}
-use Rattle.lq_server.specs.Counted.{AreMixed, AreRising, HasMadeJust, TwoSeatsMakeTheBook, changes_at}
+use Rattle.lq_server.specs.Counted.{AreMixed, AreMixedEarlier, AreRising, HasMadeJust, TwoSeatsMakeTheBook, changes_at}
 use Rattle.lq_model.specs.Followed.{HasHungUp, IsFollowed, AreBothMade, AreGathered, AreRefusedAmid, HasApplied, HasMade, IsRefusedAt}
-use Rattle.lq_model.proofs.MadeLemmas.{AreWithin, all_after, changes_at-later, mixed-map, mixed-swap, mixed_first, mixed_somes, take_less, within_book}
-
--- a book that goes on from another has no fewer changes
-pub extends_length : (b c : Book) → Extends c b → length b.changes ≤ length c.changes
-extends_length b c e =
-    omega (arith, ap (λ (x : Book). length x.changes) e.1, length-append b.changes e.0)
+use Rattle.lq_model.proofs.MadeLemmas.{changes_at-later, take_less}
 
 -- nobody is left of a list of one
 pub alone : (k : ℕ) → without_number k (k ∷ []) ≡ []
@@ -48,11 +42,6 @@ alone k = ap (λ (b : Bool). cond b [] (k ∷ [])) (eq-eqb k k refl)
 -- nobody is left of a list of two
 pub none_left : (k l : ℕ) → without_number l (without_number k (l ∷ k ∷ [])) ≡ []
 none_left k l = grind (arith, nat_tests)
-
--- a mark is there, where the test says so
-some_there : (o : Option Mark) → IsSome o → (k : Mark) × (o ≡ Some k)
-some_there (Some k) h = (k, refl)
-some_there None h = absurd (true≢false (sym h))
 
 -- a seat met another, and knows a book that extends its own
 pub record Meets (was now : SeatToken Identity) : Type 0 where
@@ -93,7 +82,7 @@ followed stay on states start q board begun port backlog first old new x one z c
     ) in
     let b : Book = known_book new.reading in
     let book : Book = new.seat.book in
-    let k = some_there (mark_read old.reading) out.marked in
+    let k : (k : Mark) × (mark_read old.reading ≡ Some k) = grind (arith, out.marked) in
     let mark : Mark = k.0 in
     let read : mark_read new.reading ≡ Some mark =
     ap (λ (ps : List Delivery). mark_in ps) s.taken ∙ k.1 in
@@ -101,7 +90,7 @@ followed stay on states start q board begun port backlog first old new x one z c
     subst (λ (c : Book). Extends book c) (sym s.known_stays) s.knows in
     let whole = told.mark mark read in
     let zero : b.start.number ≡ 0 = told.book.first in
-    let long = extends_length b book knows in
+    let long : length b.changes ≤ length book.changes = grind (arith, length-append, knows) in
     let here = whole.within in
     let after = whole.opened in
     let is : query_of f ≡ q = query.0 ∙ o.opened.query in
@@ -172,6 +161,23 @@ made_just old new changes book fresh m later =
           (changes_at-later new.book book m.numbers changes later m.made);
     }
 
+-- what the law says of the book that is left
+gathered : TwoSeatsMakeTheBook → (start : State) (old one other two : SeatToken Identity)
+    (first second : List Change) (r : Retired) → old.author.changes ≡ []
+    → other.author.changes ≡ [] → HasMade old one first → HasMade other two second
+    → (g : AreGathered start one two r)
+    → let book = g.retired.book in
+    AreMixed first second book.changes
+    × AreMixed one.author.changes two.author.changes g.all
+    × AreMixedEarlier book one first second
+    × AreMixedEarlier book two second first
+gathered law start old one other two first second r fresh new f s g =
+    let book : Book = g.retired.book in
+    law book one two first second g.gathered g.all
+    (made_just old one first book fresh f g.retired.later)
+    (made_just other two second book new s g.second)
+    g.early g.late (g.whole ∙ ap numbers g.retired.number)
+
 -- what is left where both seats made all
 pub both_made : TwoSeatsMakeTheBook → (start : State) (old one other two : SeatToken Identity)
     (first second : List Change) (r : Retired) → old.author.changes ≡ []
@@ -195,79 +201,34 @@ both_made law start old one other two first second r fresh new f s g =
         number = g.retired.number;
         limit = g.retired.limit;
       };
-      mixed = (law book one two first second g.gathered g.all
-          (made_just old one first book fresh f g.retired.later)
-          (made_just other two second book new s g.second)
-          g.early g.late (g.whole ∙ ap numbers g.retired.number)).0;
+      mixed = (gathered law start old one other two first second r fresh new f s g).0;
     }
 
--- A change was refused after just those before it, mixed with the first of the others: one seat
--- stopped at it, and all numbers are those of this seat and of another, mixed.
-amid : (start : State) (book : Book) (old one other two : SeatToken Identity)
+-- A change was refused after just those before it, mixed with the first of the others: a seat
+-- stopped at it, and the book that it then knew is its changes, mixed with the first of another's.
+amid : (start : State) (old one other two : SeatToken Identity) (book : Book)
     (changes others : List Change) (e : Refusal) (r : Result (Unit {0}) Refusal)
-    → old.author.changes ≡ [] → other.author.changes ≡ [] → old.book.start ≡ start
-    → HasApplied old one changes (Err e) → HasApplied other two others r
-    → Extends book one.book → Extends book two.book
-    → AreMixed one.author.changes two.author.changes (numbers (length book.changes))
+    → old.author.changes ≡ [] → old.book.start ≡ start
+    → (a : HasApplied old one changes (Err e)) (b : HasApplied other two others r)
+    → Extends book one.book
+    → AreMixedEarlier book one (take a.accepted changes) (take b.accepted others)
     → AreRefusedAmid start changes others e
-amid start book old one other two changes others e r fresh new begins a b later after mix =
-    let xs : List ℕ = one.author.changes in
-    let ys : List ℕ = two.author.changes in
-    let ns : List ℕ = numbers (length book.changes) in
-    let k : ℕ = length one.book.changes in
-    let most = extends_length one.book book later in
-    let within =
-    subst (AreWithin k) (own_numbers old one (take a.accepted changes) fresh a.made)
-    (within_book one.book a.made.numbers (take a.accepted changes) a.made.made) in
-    let mine = made_just old one (take a.accepted changes) book fresh a.made later in
-    let theirs = made_just other two (take b.accepted others) book new b.made after in
-    let front = mixed_first k (length book.changes) 0 k xs ys (omega arith) most mix
-    within in
-    let less = take_less front.others b.accepted others in
-    let at : ℕ → Option Change = λ (n : ℕ). slice_get book.changes (n - 1) in
-    let they : map at (take front.others ys) ≡ map (λ c. Some c) (take less.0 others) =
-    sym (take-map at front.others ys)
-    ∙ ap (take front.others) theirs.made
-    ∙ take-map (λ (c : Change). Some c) front.others (take b.accepted others)
-    ∙ ap (map (λ (c : Change). Some c)) less.1 in
-    let known : take k book.changes ≡ one.book.changes =
-    ap (λ (c : Book). take k c.changes) later.1 ∙ take_at one.book.changes later.0 k refl in
-    let all : map at (take k ns) ≡ map (λ c. Some c) one.book.changes =
-    sym (take-map at k ns) ∙ ap (take k) (all_after [] book.changes)
-    ∙ take-map (λ (c : Change). Some c) k book.changes
-    ∙ ap (map (λ (c : Change). Some c)) known in
-    let mixed : AreMixed (take a.accepted changes) (take less.0 others) one.book.changes =
-    mixed_somes one.book.changes (take a.accepted changes) (take less.0 others)
-    (subst (λ (l : List (Option Change)). AreMixed l (map (λ c. Some c) (take less.0 others))
-    (map (λ c. Some c) one.book.changes)) mine.made
-    (subst (λ (l : List (Option Change)). AreMixed (map at xs) l
-    (map (λ c. Some c) one.book.changes)) they
-    (subst (λ (l : List (Option Change)). AreMixed (map at xs) (map at (take front.others ys)) l)
-    all (mixed-map at (take k ns) xs (take front.others ys) front.mixed)))) in
+amid start old one other two book changes others e r fresh begins a b later mixed =
+    let known : Book = one.book in
+    let self : Extends known known = ([], rw append-nil) in
+    let m = mixed known later (made_just old one (take a.accepted changes) known fresh a.made self) in
+    let less = take_less m.others b.accepted others in
     ⊎_elim (λ (h : e ≡ NoMemory). inl h)
-    (λ (h : IsRefusedAt one.book changes a.accepted e). inr (record {
+    (λ (h : IsRefusedAt known changes a.accepted e). inr (record {
       place = a.accepted;
       number = less.0;
-      book = one.book;
+      book = known;
       begins = a.start ∙ begins;
-      mixed = mixed;
+      mixed = subst (λ (l : List Change). AreMixed (take a.accepted changes) l known.changes)
+          less.1 m.mixed;
       refused = h;
     }))
     a.err
-
--- the numbers of both seats are all numbers, mixed
-numbers_mixed : TwoSeatsMakeTheBook → (start : State) (old one other two : SeatToken Identity)
-    (first second : List Change) (z : Retired) → old.author.changes ≡ []
-    → other.author.changes ≡ [] → HasMade old one first → HasMade other two second
-    → (g : AreGathered start one two z)
-    → AreMixed one.author.changes two.author.changes (numbers (length g.retired.book.changes))
-numbers_mixed law start old one other two first second z fresh new f s g =
-    let book : Book = g.retired.book in
-    let all : g.all ≡ numbers (length book.changes) = g.whole ∙ ap numbers g.retired.number in
-    subst (λ (ns : List ℕ). AreMixed one.author.changes two.author.changes ns) all
-    (law book one two first second g.gathered g.all
-    (made_just old one first book fresh f g.retired.later)
-    (made_just other two second book new s g.second) g.early g.late all).1
 
 -- a change of the first seat was refused amid those of both
 pub first_amid : TwoSeatsMakeTheBook → (start : State) (old one other two : SeatToken Identity)
@@ -276,10 +237,9 @@ pub first_amid : TwoSeatsMakeTheBook → (start : State) (old one other two : Se
     → HasApplied old one first (Err e) → HasApplied other two second r
     → AreGathered start one two z → AreRefusedAmid start first second e
 first_amid law start old one other two first second e r z fresh new begins a b g =
-    amid start g.retired.book old one other two first second e r fresh new begins a b
-    g.retired.later g.second
-    (numbers_mixed law start old one other two (take a.accepted first) (take b.accepted second) z
-    fresh new a.made b.made g)
+    amid start old one other two g.retired.book first second e r fresh begins a b g.retired.later
+    (gathered law start old one other two (take a.accepted first) (take b.accepted second) z fresh
+    new a.made b.made g).2
 
 -- a change of the second seat was
 pub second_amid : TwoSeatsMakeTheBook → (start : State) (old one other two : SeatToken Identity)
@@ -288,9 +248,6 @@ pub second_amid : TwoSeatsMakeTheBook → (start : State) (old one other two : S
     → HasApplied old one first r → HasApplied other two second (Err e)
     → AreGathered start one two z → AreRefusedAmid start second first e
 second_amid law start old one other two first second e r z fresh new begins a b g =
-    let book : Book = g.retired.book in
-    amid start book other two old one second first e r new fresh begins b a g.second
-    g.retired.later
-    (mixed-swap (numbers (length book.changes)) one.author.changes two.author.changes
-    (numbers_mixed law start old one other two (take a.accepted first) (take b.accepted second) z
-    fresh new a.made b.made g))
+    amid start other two old one g.retired.book second first e r new begins b a g.second
+    (gathered law start old one other two (take a.accepted first) (take b.accepted second) z fresh
+    new a.made b.made g).3

@@ -1,7 +1,7 @@
 -- What is left after a query was followed, or after two threads made changes, or why it isn't.
 use Rattle.std.specs.Prelude.{◌≡◌, ◌⊎◌, ℕ, ◌+◌, ◌≤◌, List, [], ◌++◌, true, false, length, map, take, slice_get, Some, IsSome, Result, OnOk, IfErr}
 use Rattle.lq_value.specs.declared.refusal.Refusal.{Refusal}
-use Rattle.lq_value.specs.declared.refusal.Refusal.TheVariants.{NoMemory, NoSeat, Exhausted}
+use Rattle.lq_value.specs.declared.refusal.Refusal.TheVariants.{NoMemory, Exhausted}
 use Rattle.lq_predicate.specs.Query.{Query}
 use Rattle.lq_volume.specs.State.{State}
 use Rattle.lq_volume.specs.declared.change.Change.{Change}
@@ -144,10 +144,10 @@ pub record IsRefusedAmid (start : State) (changes others : List Change) (e : Ref
 abbrev pub AreRefusedAmid : State → List Change → List Change → Refusal → Type 0
 AreRefusedAmid start changes others e = (e ≡ NoMemory) ⊎ IsRefusedAmid start changes others e
 
--- no seat is free, or memory is wanting, or one change of either list is refused so
+-- memory is wanting, or one change of either list is refused so
 abbrev pub IsPairRefused : State → List Change → List Change → Refusal → Type 0
 IsPairRefused start first second e =
-    (e ≡ NoSeat) ⊎ (AreRefusedAmid start first second e ⊎ AreRefusedAmid start second first e)
+    AreRefusedAmid start first second e ⊎ AreRefusedAmid start second first e
 
 -- Two seats were dismissed, no others made a change, and this is left: a book that extends what
 -- both knew, whose changes have just the numbers of theirs.

@@ -384,10 +384,6 @@ pub err_free : (r : Result Response_ Refusal) (a b : OwnToken) (x : Asked) → M
 err_free (Ok y) a b x h leaves free = tt
 err_free (Err e) a b x h leaves free = refused_free a b x e h leaves free
 
--- a look changes no book
-pub look_leaves : (l : Look) → LeavesBook (Ok (request.Look l))
-look_leaves l s = refl
-
 -- ---- reads
 
 reads_replied : (s : Session) (slots : List ℕ) (replies : List Response)

@@ -1,8 +1,8 @@
 -- The changes that a seat made, in the books that it knows.
-use Rattle.std.proofs.Common.{◌≡◌, ℕ, zero, suc, ◌-◌, ◌<◌, ◌≤◌, List, [], ◌∷◌, ◌++◌, length, map, slice_get, Some, Result, Ok, Err, IfOk, OnErr, refl, sym, ap, ◌∙◌, subst, arith, append_assoc, append-nil}
-use Rattle.std.proofs.lemmas.List.{map-append, take-append-le}
+use Rattle.std.proofs.Common.{◌≡◌, ℕ, ◌-◌, ◌≤◌, List, [], ◌∷◌, ◌++◌, length, map, slice_get, Some, Result, Ok, Err, OnErr, refl, sym, ap, ◌∙◌, subst, arith, append_assoc, append-nil, length-append}
+use Rattle.std.proofs.lemmas.List.{get_or_append_left, map-append, take-append-le}
+use Rattle.std.proofs.lemmas.Option.{get_or_from_slice_get, slice_get-get_or, slice_get_within}
 use Rattle.std.specs.List.{AllByRecursion}
-use Rattle.lq_value.specs.declared.refusal.Refusal.{Refusal}
 use Rattle.lq_volume.specs.State.{State}
 use Rattle.lq_volume.specs.declared.change.Change.{Change}
 use Rattle.lq_volume.specs.declared.change.Applied.{Applied}
@@ -10,36 +10,24 @@ use Rattle.lq_volume.specs.Change.{node_of}
 use Rattle.lq_volume.specs.Book.{Book, Extends, after_all, grown}
 use Rattle.lq_board.specs.Known.{Author}
 use Rattle.lq_server.specs.Made.{IsChangeOf, MakesMore, state_before}
-use Rattle.lq_script_desk.specs.declared.response.Response.{Response}
-use Rattle.lq_script_desk.specs.Answer.{response_of}
-use Rattle.lq_script.specs.Changes.{change_told}
 use Rattle.lq_script.specs.Progress.{OwnToken}
-
--- what stands at a place of a list is within it
-get_within : (xs : List Change) (i : ℕ) (c : Change) → slice_get xs i ≡ Some c → i < length xs
-get_within [] i c h = cc
-get_within (x ∷ xs) zero c h = omega arith
-get_within (x ∷ xs) (suc i) c h = let lt = get_within xs i c h in omega arith
-
--- and stands there when more is added at its end
-slice_get-before : (xs ys : List Change) (i : ℕ) (c : Change) → slice_get xs i ≡ Some c
-    → slice_get (xs ++ ys) i ≡ Some c
-slice_get-before [] ys i c h = cc
-slice_get-before (x ∷ xs) ys zero c h = h
-slice_get-before (x ∷ xs) ys (suc i) c h = slice_get-before xs ys i c h
 
 -- a change of a book is one of each book that extends it
 change_later : (b c : Book) (a : Applied) → Extends c b → IsChangeOf b a → IsChangeOf c a
 change_later b c a e h =
-    let within : a.change - 1 ≤ length b.changes =
-    let lt = get_within b.changes (a.change - 1) h.change h.place in omega arith in
+    let i = a.change - 1 in
+    let lt = slice_get_within b.changes i h.change h.place in
+    let within : i ≤ length b.changes = omega (arith, lt) in
     record {
       change = h.change;
-      place = subst (λ (d : Book). slice_get d.changes (a.change - 1) ≡ Some h.change) (sym e.1)
-          (slice_get-before b.changes e.0 (a.change - 1) h.change h.place);
+      place = subst (λ (d : Book). slice_get d.changes i ≡ Some h.change) (sym e.1)
+          (slice_get-get_or (b.changes ++ e.0) i h.change
+          (omega (arith, lt, length-append b.changes e.0))
+          ∙ ap Some (get_or_append_left b.changes e.0 h.change i lt
+          ∙ get_or_from_slice_get b.changes i h.change h.change h.place));
       node = h.node ∙ ap (λ (s : State). node_of s h.change)
           (ap (λ (cs : List Change). after_all b.start cs)
-          (sym (take-append-le (a.change - 1) b.changes e.0 within))
+          (sym (take-append-le i b.changes e.0 within))
           ∙ ap (λ (d : Book). state_before d a.change) (sym e.1));
     }
 
@@ -101,13 +89,6 @@ made_same a = made_none a a refl (
   ap (λ (cs : List Change). record { start = a.book.start; changes = cs })
       (sym (append-nil a.book.changes)),
 )
-
--- where no change was made, none is told by a reply that tells none
-pub ok_made : (r : Result Response Refusal) (a b : OwnToken) → MakesMore a b []
-    → IfOk r (λ x. change_told (response_of x) ≡ [])
-    → IfOk r (λ x. MakesMore a b (change_told (response_of x)))
-ok_made (Ok x) a b made none = subst (MakesMore a b) (sym none) made
-ok_made (Err e) a b made none = tt
 
 -- what holds anyway holds of an error
 pub on_err_any : {T E P : Type 0} (r : Result T E) → P → OnErr r P

@@ -1,5 +1,5 @@
 -- What several lines of a run have done, and a whole run.
-use Rattle.std.proofs.Common.{◌≡◌, inl, inr, ℕ, zero, suc, ◌+◌, ◌≤◌, List, [], ◌∷◌, ◌++◌, length, map, Option, Some, None, Result, Ok, Err, OnOk, OnErr, IfErr, is_err, is_ok, if◌then◌else◌, true, false, refl, sym, ap, ◌∙◌, subst, arith, append_assoc, append-nil, length-append}
+use Rattle.std.proofs.Common.{◌≡◌, inl, inr, ℕ, zero, suc, ◌+◌, ◌≤◌, List, [], ◌∷◌, ◌++◌, length, map, Option, Some, None, Result, Ok, Err, IfErr, is_err, is_ok, if◌then◌else◌, true, false, refl, sym, ap, ◌∙◌, subst, arith, append_assoc, append-nil, length-append}
 use Rattle.std.proofs.KnownBytes.{Appends-nil, Appends-trans, Consumes-nil}
 use Rattle.std.specs.Io.KnownBytes.{Appends, Consumes, Keeps}
 use Rattle.lq_volume.specs.State.{State, empty_state}
@@ -7,10 +7,7 @@ use Rattle.lq_volume.specs.declared.change.Applied.{Applied}
 use Rattle.lq_volume.specs.declared.change.Change.{Change as Change_}
 use Rattle.lq_volume.specs.Book.{Book, Extends, IsBook}
 use Rattle.lq_board.specs.Known.{Author}
-use Rattle.lq_board.specs.Author.{IsWhole}
-use Rattle.lq_board.specs.Token.{BoardName}
 use Rattle.lq_board.specs.Roll.{numbers, numbers_after}
-use Rattle.lq_server.specs.Counted.{leading_seat}
 use Rattle.lq_server.specs.Made.{MakesMore}
 use Rattle.lq_server.specs.Retired.{IsRetired}
 use Rattle.lq_desk_world.specs.Events.{Answer, Changed, Opened, Moved, Took, Empty, Ended, Asked as Asked_, Noticed, Shut, Finished, Refused}
@@ -385,29 +382,11 @@ pub carries_kept : (a b : SeatStanding) → b.seat ≡ a.seat → b.written ≡ 
     → b.waits ≡ a.waits → Carries [] (Err Memory) a b
 carries_kept a b seat written waits = carries_quiet [] a b (seat_made a b seat) written waits
 
--- what an error says, where a test found one
-pub when_err : {T E P : Type 0} (r : Result T E) → is_err r ≡ true → OnErr r P → P
-when_err (Ok x) h p = absurd (let no : false ≡ true = h in cc)
-when_err (Err e) h p = p
-
--- what a success says, where a test found none
-pub when_ok : {T E P : Type 0} (r : Result T E) → is_err r ≡ false → OnOk r P → P
-when_ok (Ok x) h p = p
-when_ok (Err e) h p = absurd (let no : true ≡ false = h in cc)
-
 -- a push that found memory put the value
 pub pushed : {E : Type 0} {new : List ℕ} (old : List ℕ) (x : ℕ) (r : Result (Unit {0}) E)
     → new ≡ (if is_ok r then old ++ x ∷ [] else old) → is_err r ≡ false → new ≡ old ++ x ∷ []
 pushed old x (Ok u) is h = is
 pushed old x (Err e) is h = absurd (let no : true ≡ false = h in cc)
-
--- the leading seat of a new server has gathered all changes: none
-pub head_none : (s : OwnToken) (board : BoardName) (start : State) (n : ℕ)
-    → s ≡ leading_seat board start → IsWhole s.author n → [] ≡ numbers n
-head_none s board start n is whole =
-    sym (ap (λ (t : OwnToken). t.author.gathered) is)
-    ∙ whole (ap (λ (t : OwnToken). t.author.leads) is)
-    (ap (λ (t : OwnToken). t.author.enlisted) is)
 
 -- ---- what was read
 
@@ -740,35 +719,6 @@ never_answers book is = record {
   replied = tt;
   book = is;
 }
-
--- a server that was retired before any seat was enlisted made no change
-pub retired_never : (start volume : State) (known : Book) (changes : ℕ) (e : RunFault)
-    (reader : ReaderLog) (written written' : Option (List ℕ))
-    → start ≡ empty_state 1000000000000 → e ≡ Memory → Keeps written written'
-    → reader.left' ≡ reader.left → (by : IsRetired start known volume changes)
-    → [] ≡ numbers changes → TellsRetired start volume changes (Err e) reader written written'
-retired_never start volume known changes e reader written written' root is keeps same by none =
-    subst (λ (f : RunFault). TellsRetired start volume changes (Err f) reader written written')
-    (sym is) (record {
-      known = known;
-      retired = by;
-      tells = record {
-        replies = [];
-        untold = [];
-        rest = [];
-        asked = [];
-        all = record { in_order = none ∙ ap numbers by.number; each = tt };
-        took = keeps_takes written written' [] keeps;
-        leaves = (omega arith, refl);
-        read = read_nothing reader same;
-        answered = never_answers by.book
-            (ap (λ (v : State). record { start = v; changes = [] }) (sym root ∙ sym by.begins)
-            ∙ ap (λ (cs : List Change_). record { start = by.book.start; changes = cs })
-            (sym (none_more by.book.changes
-            (sym by.number
-            ∙ sym (numbers_length changes) ∙ ap (λ (ns : List ℕ). length ns) (sym none)))));
-      };
-    })
 
 -- a server that was never made
 pub tells_none : (e : RunFault) (reader : ReaderLog) (written written' : Option (List ℕ))

@@ -7,7 +7,7 @@ ghost use Rattle.lq_script.specs.Changes.{change_told};
 ghost use Rattle.lq_script.specs.Progress.{AppendsReads};
 
 use crate::gate::Gate;
-use crate::readers::Readers;
+use crate::reader_table::ReaderTable;
 use crate::tasks::Task;
 use crate::workers::Workers;
 use lq_desk_sub::SlotIndex;
@@ -19,9 +19,9 @@ use std::mem;
 use std::sync::Wait;
 use std::thread::Threads;
 
-/// The reads of one slot in a batch, and the answers to those that were carried out.
+/// The task of one slot in a batch: its reads, and the answers to those that were carried out.
 #[derive(Drop)]
-pub struct SlotReads<'a, N: Named, G> {
+pub struct ReadTask<'a, N: Named, G> {
     server: &'a Server<N>,
     gate: &'a G,
     reader: OwnReader<N>,
@@ -31,7 +31,7 @@ pub struct SlotReads<'a, N: Named, G> {
     answered: usize,
 }
 
-impl<'a, N: Named, G: Gate> Task for SlotReads<'a, N, G> {
+impl<'a, N: Named, G: Gate> Task for ReadTask<'a, N, G> {
     fn slot(&self) -> SlotIndex {
         self.slot
     }
@@ -50,7 +50,7 @@ impl<'a, N: Named, G: Gate> Task for SlotReads<'a, N, G> {
     }
 }
 
-impl<'a, N: Named, G> SlotReads<'a, N, G> {
+impl<'a, N: Named, G> ReadTask<'a, N, G> {
     // The reply to the next of its reads. Refused: `NoMemory` where that read was not carried out.
     fn next(&mut self) -> Result<Response, Refusal>
         ensures none { IfOk result (λ r. change_told (response_of r) ≡ []) }
@@ -83,8 +83,8 @@ pub fn read_beside<
     alloc: Global,
     server: &'s Server<N>,
     gate: &'s G,
-    workers: &mut Workers<'s, E, R, SlotReads<'s, N, G>>,
-    readers: &mut Readers<N>,
+    workers: &mut Workers<'s, E, R, ReadTask<'s, N, G>>,
+    readers: &mut ReaderTable<N>,
     slots: &[u64],
     out: &mut Vec<u8>,
 ) -> Result<(), Refusal>
@@ -103,7 +103,7 @@ pub fn read_beside<
 }
 
 // Puts the readers of a batch back in their places.
-fn put_back<N: Named, G>(batch: Vec<SlotReads<'_, N, G>>, readers: &mut Readers<N>) {
+fn put_back<N: Named, G>(batch: Vec<ReadTask<'_, N, G>>, readers: &mut ReaderTable<N>) {
     for reads in batch {
         readers.put(reads.reader);
     }
@@ -116,7 +116,7 @@ fn sends<T: Send>()
 
 // Appends the reply to each read to `out`.
 fn put_replies<N: Named, G>(
-    batch: &mut [SlotReads<'_, N, G>],
+    batch: &mut [ReadTask<'_, N, G>],
     slots: &[u64],
     out: &mut Vec<u8>,
 ) -> Result<(), Refusal>
@@ -131,7 +131,7 @@ fn put_replies<N: Named, G>(
 }
 
 // The reply to the next read of a slot. Refused: `NoMemory` where that read was not carried out.
-fn read_in<N: Named, G>(batch: &mut [SlotReads<'_, N, G>], slot: u64) -> Result<Response, Refusal>
+fn read_in<N: Named, G>(batch: &mut [ReadTask<'_, N, G>], slot: u64) -> Result<Response, Refusal>
     ensures none { IfOk result (λ r. change_told (response_of r) ≡ []) }
 {
     match reads_at(batch, slot) {
@@ -142,9 +142,9 @@ fn read_in<N: Named, G>(batch: &mut [SlotReads<'_, N, G>], slot: u64) -> Result<
 
 // The reads of a slot.
 fn reads_at<'t, 'a, N: Named, G>(
-    batch: &'t mut [SlotReads<'a, N, G>],
+    batch: &'t mut [ReadTask<'a, N, G>],
     slot: u64,
-) -> Option<&'t mut SlotReads<'a, N, G>> {
+) -> Option<&'t mut ReadTask<'a, N, G>> {
     for reads in batch {
         if reads.slot.number() == slot {
             return Some(reads);
@@ -158,9 +158,9 @@ fn batch_of<'a, N: Named, G: Gate>(
     alloc: Global,
     server: &'a Server<N>,
     gate: &'a G,
-    readers: &mut Readers<N>,
+    readers: &mut ReaderTable<N>,
     slots: &[u64],
-) -> Result<Vec<SlotReads<'a, N, G>>, Refusal> {
+) -> Result<Vec<ReadTask<'a, N, G>>, Refusal> {
     let mut batch = Vec::new(alloc);
     for number in slots {
         let Some(slot) = SlotIndex::of(*number) else {
@@ -170,7 +170,7 @@ fn batch_of<'a, N: Named, G: Gate>(
             continue;
         };
         let reads = count_of(slots, *number);
-        batch.push(SlotReads {
+        batch.push(ReadTask {
             server,
             gate,
             reader,

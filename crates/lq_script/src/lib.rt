@@ -18,7 +18,7 @@ mod canonical_text;
 mod commands;
 mod gate;
 mod input_lines;
-mod readers;
+mod reader_table;
 mod runner;
 mod server_session;
 mod slot_calls;

@@ -192,10 +192,10 @@ impl<
         }
         let appended = self.session.read(&self.slots, &mut self.output.replies);
         self.slots.clear();
-        if appended.is_err() {
-            return Err(RunFault::Memory);
+        match appended {
+            Ok(()) => self.output.write_replies(),
+            Err(_) => Err(RunFault::Memory),
         }
-        self.output.write_replies()
     }
 }
 

@@ -1,5 +1,6 @@
-//! The replies to lines, by a server's public calls. Contracts say which changes they report; the
-//! reply to a change, or to a look at the volume, is that of the script's world (`Answers`).
+//! The replies to lines, by a server's public calls. Contracts say which changes they report. If a
+//! seat made all changes that it knows, its reply to a change, or to a look at the volume, is the
+//! one that the script's world has (`Answers`).
 ghost use Rattle.std.specs.Prelude.{◌≡◌, [], ◌∷◌, length, IfOk, IfErr, OnOk, OnErr, Ok};
 ghost use Rattle.lq_server.specs.Made.{MakesMore};
 ghost use Rattle.lq_script_desk.specs.Answer.{response_of};
@@ -9,9 +10,9 @@ ghost use Rattle.lq_script.specs.Answers.{Answers, AnswersRefusal};
 ghost use Rattle.lq_script.specs.Changes.{change_told};
 ghost use Rattle.lq_script.specs.Progress.{AppendsReads};
 
-use crate::batch::{SlotReads, read_beside};
+use crate::batch::{ReadTask, read_beside};
 use crate::gate::Gate;
-use crate::readers::Readers;
+use crate::reader_table::ReaderTable;
 use crate::workers::Workers;
 use lq_script_desk::{Reply, Response};
 use lq_script_request::{Event, Look, Request};
@@ -30,8 +31,8 @@ pub struct ServerSession<'s, E: 's, N: Named, R, G> {
     pub(crate) server: &'s Server<N>,
     gate: &'s G,
     pub(crate) seat: OwnSeat<N>,
-    pub(crate) readers: Readers<N>,
-    pub(crate) workers: Workers<'s, E, R, SlotReads<'s, N, G>>,
+    pub(crate) readers: ReaderTable<N>,
+    pub(crate) workers: Workers<'s, E, R, ReadTask<'s, N, G>>,
 }
 
 impl<
@@ -48,8 +49,8 @@ impl<
         seat: OwnSeat<N>,
         server: &'s Server<N>,
         gate: &'s G,
-        readers: Readers<N>,
-        workers: Workers<'s, E, R, SlotReads<'s, N, G>>,
+        readers: ReaderTable<N>,
+        workers: Workers<'s, E, R, ReadTask<'s, N, G>>,
     ) -> ServerSession<'s, E, N, R, G>
         ensures seat { result.seat ≡ seat }
     {

@@ -5,7 +5,7 @@ ghost use Rattle.lq_script_desk.specs.Answer.{response_of};
 ghost use Rattle.lq_script.specs.Changes.{change_told};
 
 use crate::gate::Gate;
-use crate::readers::slot_of;
+use crate::reader_table::slot_of;
 use crate::server_session::ServerSession;
 use lq_predicate::Predicate;
 use lq_script_desk::{Reply, Response};

@@ -9,7 +9,7 @@ ghost use Rattle.lq_script.specs.Progress.{TellsMade, TellsRetired};
 
 use crate::gate::Gate;
 use crate::input_lines::Lines;
-use crate::readers::Readers;
+use crate::reader_table::ReaderTable;
 use crate::runner::Runner;
 use crate::server_session::ServerSession;
 use crate::tasks::Task;
@@ -86,10 +86,9 @@ fn serve<N: Named + Send + Sync, T: Threads + Wait + Sync, R: Source, W: Sink, G
         (W.failed writer.new ≡ true) ⊎ (W.stalled writer.new ≡ true)) }
 {
     let (server, mut head): (Server<N>, Seat) = Server::counted(base);
+    // No seat was made for the leading seat before, so this one isn't refused.
     let Ok(seat) = OwnSeat::new(rt, &server, &mut head) else {
-        let ran = Err(out_of_memory(writer));
-        let left = server.retire(rt, head);
-        return RetiredRun { ran, retired: left };
+        unreachable!()
     };
     let (ran, seat) = serve_over(rt, alloc, &server, seat, reader, writer, gate);
     let retired = seat.retire(rt, server, head);
@@ -229,8 +228,8 @@ fn readers_and_workers<'s, E: 's, N: Named, R: Wait, T: Task + Drop>(
     rt: &'s R,
     alloc: Global,
     scope: &'s Scope<'s, E>,
-) -> Result<(Readers<N>, Workers<'s, E, R, T>), Refusal> {
-    let readers = Readers::new(alloc)?;
+) -> Result<(ReaderTable<N>, Workers<'s, E, R, T>), Refusal> {
+    let readers = ReaderTable::new(alloc)?;
     Ok((readers, Workers::new(rt, alloc, scope)?))
 }
 

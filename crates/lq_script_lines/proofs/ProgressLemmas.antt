@@ -28,16 +28,6 @@ within_run given more u below bytes = (
   omega (arith, length-append given more, bytes),
 )
 
--- nothing has come
-pub come_none : {intake : Intake} → intake.line.items ≡ [] → intake.long ≡ false
-    → intake.lines ≡ 0 → intake.bytes ≡ 0 → HasCome [] intake
-come_none line long lines bytes = record {
-  lines = lines;
-  bytes = bytes;
-  kept = rw (long, line) (refl, omega arith);
-  within = (omega arith, omega arith);
-}
-
 module _ {given : List ℕ} {intake : Intake} (h : HasCome given intake) where
   -- bytes among which is no LF are kept
   pub come_run : {intake' : Intake} (more : List ℕ) → IsUnbroken more
@@ -238,11 +228,7 @@ given_rest given xs i = rw (append_assoc, take-append-drop)
 
 -- of a run of bytes that stand in a piece at a place
 module _ (xs run : List ℕ) (i : ℕ) (is : run ≡ take (length run) (drop i xs)) where
-  -- what has come of the piece after it
-  pub run_taken : take i xs ++ run ≡ take (i + length run) xs
-  run_taken = sym (rw (take-add i (length run) xs, ← is) refl)
-
-  -- and after the LF that follows it
+  -- what has come of the piece after it and the LF that follows it
   pub line_taken : i + length run < length xs → get_or xs (i + length run) 0 ≡ 10
       → take i xs ++ (run ++ 10 ∷ []) ≡ take (i + length run + 1) xs
   line_taken within next = sym (rw (

@@ -48,8 +48,8 @@ pub record LinesGrow : Type 0 where
   pub added : (given run : List ℕ) → IsUnbroken run
       → unended_line (given ++ run) ≡ unended_line given ++ run
 
--- The lines of an input are those that LF ended and, unless it is empty, the line in progress, which
--- has no LF.
+-- The lines of an input are those that LF ended and, unless it is empty, the line in progress,
+-- which has no LF.
 pub record LinesEnd : Type 0 where
   pub unbroken : (given : List ℕ) → IsUnbroken (unended_line given)
   pub all : (given : List ℕ) → unended_line given ≡ [] → lines_of given ≡ ended_lines given

@@ -52,7 +52,7 @@ impl Intake {
     /// How many bytes may come: 0 after 10,000,000 lines or 1,073,741,824 bytes.
     pub fn room(&self) -> usize
         ensures some { 0 < result
-            → (self.now.lines < MAX_LINES) × (self.now.bytes + result ≤ MAX_BYTES) }
+            → (self.now.lines < MAX_LINES) × (self.now.bytes + result ≡ MAX_BYTES) }
 
         // Without room one byte more is too much.
         ensures none { result ≡ 0 → (given : List ℕ) → HasCome given self.now

@@ -1,15 +1,17 @@
 -- The calls by which the changes of a book were made, and the seats.
-use Rattle.std.proofs.Common.{◌≡◌, ◌⊎◌, ⊎_elim, inl, inr, ℕ, zero, suc, ◌+◌, ◌-◌, ◌<◌, ◌≤◌, Bool, true, false, cond, eqb, eqb-true, eq-eqb, ne_eqb, Contains, List, [], ◌∷◌, ◌++◌, length, length-append, append_assoc, map, slice_get, Option, Some, refl, sym, ap, ap₂, subst, ◌∙◌, arith}
+use Rattle.std.proofs.Common.{◌≡◌, ◌⊎◌, ⊎_elim, inl, inr, ℕ, zero, suc, ◌+◌, ◌-◌, ◌<◌, ◌≤◌, Bool, true, false, cond, eqb, eqb-true, eq-eqb, ne_eqb, Contains, List, [], ◌∷◌, ◌++◌, length, length-append, append_assoc, map, slice_get, take, Option, Some, refl, sym, ap, ap₂, subst, ◌∙◌, arith}
 use Rattle.std.proofs.lemmas.Bool.Decides.{nat_tests}
 use Rattle.std.proofs.lemmas.Grind.{common_steps}
 use Rattle.std.proofs.lemmas.List.Elements.{All-contains}
-use Rattle.std.proofs.lemmas.Option.{gets}
+use Rattle.std.proofs.lemmas.List.{take-map, take_at}
+use Rattle.std.proofs.lemmas.Option.{gets, slice_get_within}
 use Rattle.lq_volume.specs.State.{State}
 use Rattle.lq_volume.specs.declared.change.Change.{Change}
 use Rattle.lq_volume.specs.Book.{Book}
 use Rattle.lq_board.specs.Roll.{numbers, numbers_after, times}
-use Rattle.lq_server.specs.Counted.{Call, IsCallIn, CallsMakeTheBook, numbers_answered, changes_at, AreRising, AreMixed, TwoSeatsMakeTheBook}
-use Rattle.lq_server.proofs.MadeLemmas.{slice_get-after}
+use Rattle.lq_board.specs.Token.{SeatToken}
+use Rattle.lq_server_slots.specs.declared.identity.Identity.{Identity}
+use Rattle.lq_server.specs.Counted.{Call, IsCallIn, CallsMakeTheBook, numbers_answered, changes_at, AreRising, AreMixed, AreMixedEarlier, HasMadeJust, TwoSeatsMakeTheBook}
 
 -- the change of a call is in each book that extends the one that its seat then knew, under its
 -- number
@@ -269,10 +271,8 @@ last_changes : (s : State) (front xs : List Change)
 last_changes s front [] = refl
 last_changes s front (x ∷ xs) =
     let next : List Change = front ++ x ∷ [] in
-    let at : length front ≡ length front + 1 - 1 = omega arith in
     ap₂ (λ (o : Option Change) (os : List (Option Change)). o ∷ os)
-    (subst (λ (i : ℕ). slice_get (front ++ x ∷ xs) i ≡ Some x) at
-    (slice_get-after front xs x))
+    (grind (arith, common_steps, gets))
     (subst
     (λ (l : List Change).
     changes_at (book_of s l) (numbers_after (length front + 1) (length xs))
@@ -283,6 +283,120 @@ last_changes s front (x ∷ xs) =
     changes_at (book_of s (next ++ xs)) (numbers_after k (length xs))
     ≡ map (λ c. Some c) xs)
     (length-append front (x ∷ [])) (last_changes s next xs)))
+
+-- ---- a book before it
+
+-- the lists may be taken the other way round
+mixed-swap : {T : Type 0} → (zs xs ys : List T) → AreMixed xs ys zs → AreMixed ys xs zs
+mixed-swap [] xs ys m = (m.1, m.0)
+mixed-swap (z ∷ zs) xs ys m =
+    elim m [
+      | inl h ↦ inr (h.0, h.1, mixed-swap zs h.0 ys h.2)
+      | inr h ↦ inl (h.0, h.1, mixed-swap zs xs h.0 h.2)
+    ]
+
+-- a number of the first list under which the book has a change, and the rest of both
+pub record IsFirstMade (book : Book) (x : ℕ) (ns : List ℕ) (changes : List Change) : Type 0 where
+  pub rest : List Change
+  pub within : x - 1 < length book.changes
+  pub made : changes_at book ns ≡ map (λ c. Some c) rest
+
+first_made : (book : Book) (x : ℕ) (ns : List ℕ) (changes : List Change)
+    → changes_at book (x ∷ ns) ≡ map (λ c. Some c) changes → IsFirstMade book x ns changes
+first_made book x ns [] h = cc
+first_made book x ns (c ∷ changes) h =
+    let here : slice_get book.changes (x - 1) ≡ Some c = cc in
+    record {
+      rest = changes;
+      within = slice_get_within book.changes (x - 1) c here;
+      made = cc;
+    }
+
+-- none of some numbers, mixed with others to those after l, is that of a change of a book of no
+-- more than l
+none_within : (n l : ℕ) (book : Book) (xs ys : List ℕ) (changes : List Change)
+    → length book.changes ≤ l → AreMixed xs ys (numbers_after l n)
+    → changes_at book xs ≡ map (λ c. Some c) changes → xs ≡ []
+none_within n l book [] ys changes le mix made = refl
+none_within zero l book (x ∷ xs) ys changes le mix made = mix.0
+none_within (suc n) l book (x ∷ xs) ys changes le mix made =
+    elim mix [
+      | inl h ↦
+          let low = (first_made book x xs changes made).within in
+          let same : x ≡ l + 1 = cc in
+          absurd (omega arith)
+      | inr h ↦ none_within n (l + 1) book (x ∷ xs) h.0 changes (omega arith) h.2 made
+    ]
+
+-- Where one of two lists that are mixed to the numbers after m has none above the first k of them,
+-- all of it and the first of the other are mixed to those.
+pub record NumbersMixed (xs ys zs : List ℕ) (k : ℕ) : Type 0 where
+  pub others : ℕ
+  pub mixed : AreMixed xs (take others ys) (take k zs)
+
+mixed_first : (k n m : ℕ) (book : Book) (xs ys : List ℕ) (changes : List Change)
+    → length book.changes ≡ m + k → k ≤ n → AreMixed xs ys (numbers_after m n)
+    → changes_at book xs ≡ map (λ c. Some c) changes → NumbersMixed xs ys (numbers_after m n) k
+mixed_first zero n m book xs ys changes is le mix made =
+    record { others = 0; mixed = (none_within n m book xs ys changes (omega arith) mix made, refl) }
+mixed_first (suc k) zero m book xs ys changes is le mix made = absurd (omega arith)
+mixed_first (suc k) (suc n) m book xs ys changes is le mix made =
+    elim mix [
+      | inl h ↦
+          let on =
+          first_made book (m + 1) h.0 changes
+          (subst (λ (l : List ℕ). changes_at book l ≡ map (λ c. Some c) changes) h.1 made) in
+          let r = mixed_first k n (m + 1) book h.0 ys on.rest (omega arith) (omega arith) h.2 on.made in
+          record { others = r.others; mixed = inl (h.0, h.1, r.mixed) }
+      | inr h ↦
+          let r = mixed_first k n (m + 1) book xs h.0 changes (omega arith) (omega arith) h.2 made in
+          record {
+            others = suc r.others;
+            mixed = inr (take r.others h.0, ap (take (suc r.others)) h.1, r.mixed);
+          }
+    ]
+
+-- changes are mixed, where their numbers in a book are, and those are all numbers of an earlier one
+changes_mixed : (book : Book) (xs ys zs : List ℕ) (first second whole : List Change)
+    → changes_at book xs ≡ map (λ c. Some c) first → changes_at book ys ≡ map (λ c. Some c) second
+    → changes_at book zs ≡ map (λ c. Some c) whole → AreMixed xs ys zs
+    → AreMixed first second whole
+changes_mixed book xs ys zs first second whole f s w mix =
+    mixed_somes whole first second
+    (subst
+    (λ (l : List (Option Change)). AreMixed l (map (λ c. Some c) second) (map (λ c. Some c) whole)) f
+    (subst (λ (l : List (Option Change)). AreMixed (changes_at book xs) l (map (λ c. Some c) whole))
+    s
+    (subst (λ (l : List (Option Change)). AreMixed (changes_at book xs) (changes_at book ys) l) w
+    (mixed-map (λ (m : ℕ). slice_get book.changes (m - 1)) zs xs ys mix))))
+
+-- the book that a seat knew when it had made all of its changes
+mixed_earlier : (book : Book) (one two : SeatToken Identity) (first second : List Change)
+    → HasMadeJust book one first → HasMadeJust book two second
+    → AreMixed one.author.changes two.author.changes (numbers (length book.changes))
+    → AreMixedEarlier book one first second
+mixed_earlier book one two first second f s mix earlier later e =
+    let xs : List ℕ = one.author.changes in
+    let ys : List ℕ = two.author.changes in
+    let n : ℕ = length book.changes in
+    let k : ℕ = length earlier.changes in
+    let long : n ≡ k + length later.0 =
+    ap (λ (b : Book). length b.changes) later.1 ∙ length-append earlier.changes later.0 in
+    let r = mixed_first k n 0 earlier xs ys first (omega arith) (omega arith) mix e.made in
+    let known : take k book.changes ≡ earlier.changes =
+    ap (λ (c : Book). take k c.changes) later.1 ∙ take_at earlier.changes later.0 k refl in
+    let at : ℕ → Option Change = λ (m : ℕ). slice_get book.changes (m - 1) in
+    record {
+      others = r.others;
+      mixed = changes_mixed book xs (take r.others ys) (take k (numbers n)) first
+          (take r.others second) earlier.changes f.made
+          (sym (take-map at r.others ys) ∙ ap (take r.others) s.made
+          ∙ take-map (λ (c : Change). Some c) r.others second)
+          (sym (take-map at k (numbers n))
+          ∙ ap (take k) (last_changes book.start [] book.changes)
+          ∙ take-map (λ (c : Change). Some c) k book.changes
+          ∙ ap (map (λ (c : Change). Some c)) known) r.mixed;
+    }
 
 -- the law of two seats
 pub two_make_the_book : TwoSeatsMakeTheBook
@@ -300,18 +414,10 @@ two_make_the_book book one two first second gathered all f s early late whole =
           let b = late.each x in
           let c = ap (times x) whole in
           omega (arith, a, b, c);
-    }) in
-    let at : AreMixed (changes_at book xs) (changes_at book ys) (changes_at book (numbers n)) =
-    mixed-map (λ (m : ℕ). slice_get book.changes (m - 1)) (numbers n) xs ys mixed in (
-      mixed_somes book.changes first second
-          (subst
-          (λ (l : List (Option Change)). AreMixed l (map (λ c. Some c) second)
-          (map (λ c. Some c) book.changes)) f.made
-          (subst
-          (λ (l : List (Option Change)). AreMixed (changes_at book xs) l
-          (map (λ c. Some c) book.changes)) s.made
-          (subst
-          (λ (l : List (Option Change)). AreMixed (changes_at book xs) (changes_at book ys) l)
-          (last_changes book.start [] book.changes) at))),
+    }) in (
+      changes_mixed book xs ys (numbers n) first second book.changes f.made s.made
+          (last_changes book.start [] book.changes) mixed,
       subst (λ (l : List ℕ). AreMixed xs ys l) (sym whole) mixed,
+      mixed_earlier book one two first second f s mixed,
+      mixed_earlier book two one second first s f (mixed-swap (numbers n) xs ys mixed),
     )

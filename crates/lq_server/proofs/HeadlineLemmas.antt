@@ -1,6 +1,6 @@
 -- The headline of a reader, and of the answers of its reads.
-use Rattle.std.proofs.Common.{◌≡◌, ◌⊎◌, ⊎_elim, ℕ, ◌+◌, ◌≤◌, true≢false, List, [], ◌∷◌, ◌++◌, length, Option, Some, None, refl, sym, ap, ◌∙◌, subst, arith, add-zero, append_assoc, append-nil, length-append}
-use Rattle.std.specs.Prelude.{IsSome}
+use Rattle.std.proofs.Common.{◌≡◌, ◌⊎◌, ⊎_elim, ℕ, ◌+◌, ◌≤◌, true≢false, List, [], ◌∷◌, ◌++◌, length, Some, None, refl, sym, ap, ◌∙◌, subst, arith, add-zero, append_assoc, append-nil, length-append}
+use Rattle.std.specs.Prelude.{IsSome, option_to_list}
 use Rattle.std.specs.List.{AllByRecursion}
 use Rattle.std.proofs.lemmas.Grind.{common_steps}
 use mathlib.Core.List.{IsPrefix}
@@ -23,8 +23,6 @@ use Rattle.lq_server_slots.specs.Updates.{updates}
 use Rattle.lq_server_slots.specs.Rule.{query_of}
 use Rattle.lq_server_slots.specs.Reading.{ReadingHold, Gives, IsTold, known_book, received, mark_read}
 use Rattle.lq_server.specs.Headline.{updates_upto, result_after, AreNumbered, IsMarkAfter, EndsWhole, IsAnswered, AreAnswers, update_in, updates_read, ReadsHaveMark, AnswersAreTold}
-use Rattle.lq_server.proofs.ParcelLemmas.{extends_trans}
-use Rattle.lq_server.proofs.OwnLemmas.{received_front}
 
 -- ---- the numbers of an update list
 
@@ -59,10 +57,6 @@ updates_from-numbered q flags s (c ∷ cs) seq =
 
 -- ---- one reader
 
--- a mark is there, where the test says so
-some_there : (o : Option Mark) → IsSome o → (k : Mark) × (o ≡ Some k)
-some_there o h = grind arith
-
 -- the book that is known has the opening's changes at least
 pub opened_told : (r : ReadingHold) → IsTold r → r.port.floor.opened ≤ length (known_book r).changes
 opened_told r told = grind (arith, common_steps)
@@ -71,7 +65,8 @@ opened_told r told = grind (arith, common_steps)
 pub prefix_told : (r : ReadingHold) → IsTold r
     → IsPrefix (received r) (updates_upto r.port.floor (known_book r) (length (known_book r).changes))
 unfolding updates
-prefix_told r told = received_front r told
+prefix_told r told =
+    (option_to_list r.hand ++ told.legal_list.front.0, grind (arith, append_assoc))
 
 -- its messages come each once, by their numbers
 pub once_told : (r : ReadingHold) → IsTold r → AreNumbered 1 (received r)
@@ -108,7 +103,7 @@ no_length (x ∷ xs) e = absurd (omega arith)
 pub only_ended : (r next : ReadingHold) (a : Read) → EndsWhole r → EndsWhole next
     → IsSome (mark_read r) → Gives r next a → a ≡ Ended
 only_ended r next a whole after some g =
-    let k = some_there (mark_read r) some in
+    let k : (k : Mark) × (mark_read r ≡ Some k) = grind arith in
     let step = after_mark r next a g some in
     let one = (whole k.0 k.1).seq in
     let two = (after k.0 (step.0 ∙ k.1)).seq in
@@ -132,8 +127,7 @@ answers-grow old new (a ∷ answers) h =
     ∙ ap (λ (l : List Message). l ++ update_in a) h.2.received in (
       rest.0 ∙ ap (λ (l : List Message). l ++ updates_read answers) one
           ∙ append_assoc (received old) (update_in a) (updates_read answers),
-      extends_trans (known_book old) (known_book next) (known_book new)
-          (extends_trans (known_book old) (known_book mid) (known_book next) h.2.known h.3.known) rest.1,
+      (h.2.known.0 ++ h.3.known.0 ++ rest.1.0, grind (arith, append_assoc)),
       rest.2 ∙ h.3.port.2 ∙ h.2.port.2,
     )
 

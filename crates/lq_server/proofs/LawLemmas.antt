@@ -1,5 +1,5 @@
 -- What follows of the answers of a reader's calls.
-use Rattle.std.proofs.Common.{◌≡◌, ◌≢◌, false, true≢false, ⊎_elim, arith, Some, Ok, Err, refl, sym, ap, ◌∙◌}
+use Rattle.std.proofs.Common.{◌≡◌, ◌≢◌, false, [], true≢false, ⊎_elim, arith, Some, Ok, Err, refl, sym, ap, ◌∙◌, append-nil}
 use Rattle.lq_value.specs.declared.refusal.Refusal.{Refusal}
 use Rattle.lq_update.specs.declared.mark.Mark.{Mark}
 use Rattle.lq_update.specs.declared.mark.Cause.{Cause}
@@ -8,13 +8,12 @@ use Rattle.lq_desk_sub.specs.declared.read.Read.{Read}
 use Rattle.lq_server_slots.specs.declared.identity.FirstClose.TheVariants.{Never}
 use Rattle.lq_server_slots.specs.Rule.{mark_in}
 use Rattle.lq_server_slots.specs.Opening.{name_or}
-use Rattle.lq_server_slots.specs.Reading.{ReadingHold, known_book}
+use Rattle.lq_server_slots.specs.Reading.{ReadingHold}
 use Rattle.lq_server.specs.Closed.{IsCloseAnswer}
 use Rattle.lq_server.specs.Headline.{GoesOn, IsAnswered}
 use Rattle.lq_server_slots.specs.Hold.{ReaderHold}
 use Rattle.lq_server.specs.Laws.{HasOverrun}
 use Rattle.lq_server.specs.Syncing.{IsWaitingRead}
-use Rattle.lq_server.proofs.ParcelLemmas.{extends_self}
 
 -- an answer of `read_waiting`, by whether the mark was read before
 pub waiting_answer : (old new : ReaderHold) (a : Read) → IsWaitingRead old new (Ok a)
@@ -25,7 +24,7 @@ waiting_answer old new a w =
       old.reading,
       record {
         port = (refl, refl, refl);
-        known = extends_self (known_book old.reading);
+        known = ([], rw append-nil);
         received = refl;
         mark = refl;
       },
@@ -36,7 +35,7 @@ waiting_answer old new a w =
       h.1.0.reading,
       record {
         port = s.port;
-        known = rw s.known_stays (extends_self (known_book old.reading));
+        known = ([], rw (s.known_stays, append-nil));
         received = s.received_stays;
         mark = ap mark_in s.taken;
       },

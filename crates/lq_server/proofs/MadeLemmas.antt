@@ -1,22 +1,18 @@
 -- The changes that a seat made, in the book that it then knows.
-use Rattle.std.proofs.Common.{◌≡◌, ℕ, ◌-◌, List, [], ◌∷◌, ◌++◌, length, slice_get, Some, Result, Ok, Err, IfOk, OnErr, refl, sym, ap, ◌∙◌, subst, arith, length-append, append-nil}
+use Rattle.std.proofs.Common.{◌≡◌, ℕ, List, [], ◌∷◌, Result, Ok, Err, IfOk, OnErr, sym, ap, ◌∙◌, arith, append-nil}
+use Rattle.std.proofs.lemmas.Grind.{common_steps}
+use Rattle.std.proofs.lemmas.Option.{gets}
 use Rattle.lq_value.specs.declared.refusal.Refusal.{Refusal}
 use Rattle.lq_volume.specs.declared.change.Change.{Change}
 use Rattle.lq_volume.specs.declared.change.Applied.{Applied}
 use Rattle.lq_volume.specs.Change.{node_of}
-use Rattle.lq_volume.specs.Book.{Book, Extends}
+use Rattle.lq_volume.specs.Book.{Extends}
 use Rattle.lq_board.specs.Known.{Author}
 use Rattle.lq_board.specs.Author.{with_change}
 use Rattle.lq_board.specs.Token.{SeatToken}
 use Rattle.lq_server_slots.specs.declared.identity.Identity.{Identity}
-use Rattle.lq_server_slots.specs.Slots.{before_of}
 use Rattle.lq_server_slots.specs.Applied.{IsAdded}
 use Rattle.lq_server.specs.Made.{MakesMore, state_before}
-
--- what comes after a list stands at its length
-pub slice_get-after : (xs ys : List Change) (c : Change) → slice_get (xs ++ c ∷ ys) (length xs) ≡ Some c
-slice_get-after [] ys c = refl
-slice_get-after (x ∷ xs) ys c = slice_get-after xs ys c
 
 -- an author with other changes
 abbrev with_changes : Author → List ℕ → Author
@@ -48,24 +44,13 @@ made_one : (a b : SeatToken Identity) (t : Applied) (c : Change)
     → b.author ≡ with_change a.author t.change → IsAdded a.book b.book t c
     → MakesMore a b (t ∷ [])
 made_one a b t c author d =
-    let before = (before_of b.book).changes in
-    let whole : b.book.changes ≡ before ++ c ∷ [] = ap (λ (x : Book). x.changes) d.place in
-    let long : t.change - 1 ≡ length before =
-    omega (
-      arith,
-      d.number,
-      ap (λ (xs : List Change). length xs) whole,
-      length-append before (c ∷ []),
-    ) in
     record {
       author = author;
       later = d.later;
       each = (
         record {
           change = c;
-          place = subst (λ (xs : List Change). slice_get xs (t.change - 1) ≡ Some c) (sym whole)
-              (subst (λ (n : ℕ). slice_get (before ++ c ∷ []) n ≡ Some c) (sym long)
-              (slice_get-after before [] c));
+          place = grind (arith, common_steps, gets);
           node = d.node ∙ ap (λ (n : ℕ). node_of (state_before b.book n) c) (sym d.number);
         },
         tt,

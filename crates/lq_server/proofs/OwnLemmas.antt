@@ -1,7 +1,7 @@
 -- Readers whose seat is their own, and what calls leave of them.
-use Rattle.std.proofs.Common.{◌≡◌, ℕ, ◌<◌, ◌≤◌, Bool, false, arith, [], ◌∷◌, ◌++◌, length, Option, Some, None, refl, ◌∙◌, subst, append_assoc}
-use Rattle.std.specs.Prelude.{◌==◌, Result, ok_or, option_to_list}
-use mathlib.Core.List.{List, IsPrefix}
+use Rattle.std.proofs.Common.{◌≡◌, ℕ, ◌<◌, ◌≤◌, Bool, false, arith, [], ◌∷◌, length, Option, Some, None, refl, ◌∙◌, subst}
+use Rattle.std.specs.Prelude.{◌==◌, Result, ok_or}
+use mathlib.Core.List.{List}
 use Rattle.lq_value.specs.declared.refusal.Refusal.{Refusal}
 use Rattle.lq_value.specs.declared.refusal.Refusal.TheVariants.{NotOpen}
 use Rattle.lq_value.specs.Refusal.{IsRefusedBy, first_refusal}
@@ -13,8 +13,7 @@ use Rattle.lq_board.specs.Slot.{slot_at}
 use Rattle.lq_board.specs.Token.{SeatToken}
 use Rattle.lq_desk_sub.specs.SlotTable.{first_free}
 use Rattle.lq_server_slots.specs.declared.identity.Identity.{Identity}
-use Rattle.lq_server_slots.specs.Rule.{all_updates}
-use Rattle.lq_server_slots.specs.Reading.{ReadingHold, IsTold, known_book, received}
+use Rattle.lq_server_slots.specs.Reading.{ReadingHold, IsTold}
 use Rattle.lq_server_slots.specs.declared.subscription.Subscription.{Subscription}
 use Rattle.lq_server_slots.specs.declared.slots.ServerSlots.{ServerSlots}
 use Rattle.lq_server_slots.specs.Slots.{AreConsistent, asks_of, slot_in}
@@ -81,9 +80,3 @@ first_opening under book start port backlog result stands none table =
     (omega (arith, stands.asks 0 (omega arith), none))) in
     subst (IsRefusedBy result)
     (λ i. first_refusal (opening_refusals (free i) (none i) start.limit port backlog)) table
-
--- what was received is a front of the updates over the known book
-pub received_front : (r : ReadingHold) → IsTold r
-    → IsPrefix (received r) (all_updates r.port.floor (known_book r))
-received_front r told =
-    (option_to_list r.hand ++ told.legal_list.front.0, grind (arith, append_assoc))

@@ -1,25 +1,12 @@
--- Books that go on from others, and what is among parcels.
-use Rattle.std.proofs.Common.{◌≡◌, ◌⊎◌, Bool, true, List, [], ◌∷◌, ◌++◌, Option, Some, None, refl, sym, ap, ◌∙◌, arith, append_assoc, append-nil}
+-- What is among parcels.
+use Rattle.std.proofs.Common.{◌≡◌, ◌⊎◌, Bool, true, List, [], ◌∷◌, ◌++◌, Option, Some, None, refl, sym, ap, ◌∙◌, arith, append_assoc}
 use Rattle.std.specs.Prelude.{IsSome, is_some}
-use Rattle.lq_volume.specs.Book.{Book, Extends, grown}
 use Rattle.lq_update.specs.declared.mark.Mark.{Mark}
 use Rattle.lq_update.specs.declared.parcel.Parcel.{Parcel}
 use Rattle.lq_server_slots.specs.declared.delivery.Delivery.{Delivery}
-use Rattle.lq_server_slots.specs.Rule.{book_of, message_of, mark_or, messages_in, mark_in, last_book}
+use Rattle.lq_server_slots.specs.Rule.{message_of, mark_or, messages_in, mark_in}
 use Rattle.lq_server_slots.specs.Standing.{moved_mark}
 use Rattle.lq_server.specs.Syncing.{is_mark_in_port}
-
--- a book extends itself
-pub extends_self : (b : Book) → Extends b b
-extends_self b = ([], λ i. record b { changes = sym (append-nil b.changes) i })
-
--- a book that extends one that extends another extends that
-pub extends_trans : (b c d : Book) → Extends c b → Extends d c → Extends d b
-extends_trans b c d e f = (
-  e.0 ++ f.0,
-  f.1 ∙ ap (λ (x : Book). grown x f.0) e.1
-      ∙ (λ i. record b { changes = append_assoc b.changes e.0 f.0 i }),
-)
 
 -- the messages of two lists of parcels
 pub messages_in-append : (ps qs : List Delivery)
@@ -45,12 +32,6 @@ pub mark_in-append : (ps qs : List Delivery)
 mark_in-append [] qs = refl
 mark_in-append (p ∷ ps) qs =
     ap (mark_or p.what) (mark_in-append ps qs) ∙ or_over p.what (mark_in ps) (mark_in qs)
-
--- the book known is that of the last parcel
-pub last_book-snoc : (b : Book) (ps : List Delivery) (x : Delivery)
-    → last_book b (ps ++ x ∷ []) ≡ book_of x
-last_book-snoc b [] x = refl
-last_book-snoc b (p ∷ ps) x = last_book-snoc (book_of p) ps x
 
 -- t is the mark that was read, a the one that waits in the port, m the one that was made, and b
 -- says whether it was put; nothing waits after the mark. One waits where it was put and wasn't

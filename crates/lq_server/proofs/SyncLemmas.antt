@@ -10,7 +10,7 @@ use Rattle.lq_update.specs.declared.mark.Cause.TheVariants.{Overrun}
 use Rattle.lq_update.specs.declared.parcel.Parcel.{Parcel}
 use Rattle.lq_update.specs.declared.parcel.Parcel.TheVariants.{Update}
 use Rattle.lq_desk_sub.specs.Held.{Held}
-use Rattle.lq_port.specs.End.{End, IsSamePort, all_put}
+use Rattle.lq_port.specs.End.{End, IsSamePort}
 use Rattle.lq_port.specs.Port.{IsLegal}
 use Rattle.lq_server_slots.specs.declared.delivery.Delivery.{Delivery}
 use Rattle.lq_server_slots.specs.declared.delivery.Opening.{Opening}
@@ -20,7 +20,7 @@ use Rattle.lq_server_slots.specs.declared.identity.LastReport.{LastReport}
 use Rattle.lq_server_slots.specs.declared.subscription.Subscription.{Subscription}
 use Rattle.lq_server_slots.specs.declared.sync.Progress.{Progress}
 use Rattle.lq_server_slots.specs.Updates.{updates}
-use Rattle.lq_server_slots.specs.Rule.{query_of, message_of, mark_or, messages_in, mark_in, MayFollow}
+use Rattle.lq_server_slots.specs.Rule.{book_of, floor_of, query_of, message_of, mark_or, messages_in, mark_in, last_book, MayFollow}
 use Rattle.lq_server_slots.specs.LegalList.{known_by}
 use Rattle.lq_server_slots.specs.Identity.{identity_of}
 use Rattle.lq_server_slots.specs.Reading.{ReadingHold, known_book, received, ready, mark_read, is_marked, what_of, IsTold}
@@ -31,7 +31,7 @@ use Rattle.lq_server_slots.specs.Own.{IsOwn}
 use Rattle.lq_server.specs.Syncing.{bit, is_mark_in_port, fin_list, IsSynced}
 use Rattle.lq_server_slots.specs.Hold.{ReaderHold}
 use Rattle.lq_server.specs.declared.server.Synced.{Synced}
-use Rattle.lq_server.proofs.ParcelLemmas.{extends_self, extends_trans, messages_in-append, mark_over, mark_in-append, last_book-snoc, marks_are}
+use Rattle.lq_server.proofs.ParcelLemmas.{messages_in-append, mark_over, mark_in-append, marks_are}
 
 -- what the name of an own reader's seat has of the port, at each time, and of the reader
 name_of_own : (r : ReaderHold) (t : Identity) (e : End Delivery Opening) → IsOwn r
@@ -70,17 +70,21 @@ port_fills h t a places ahead wait hand put done drained waiting = (
   λ none empty room. grind arith,
 )
 
-module _ (f : Opening) where
-  -- the book known goes on with each parcel
-  known_later : (ps qs : List Delivery) → IsLegal MayFollow f (ps ++ qs)
-      → Extends (known_by f (ps ++ qs)) (known_by f ps)
-  known_later ps [] legal = rw append-nil (extends_self (known_by f ps))
-  known_later ps (x ∷ qs) legal =
-      let split = append_assoc ps (x ∷ []) qs in
-      extends_trans (known_by f ps) (known_by f (ps ++ x ∷ [])) (known_by f (ps ++ x ∷ qs))
-      (rw last_book-snoc (legal ps x qs refl).later)
-      (rw split at (known_later (ps ++ x ∷ []) qs (rw split legal)))
+-- the book known goes on with each parcel
+known_later : (b : Book) (ps qs : List Delivery)
+    → ((before : List Delivery) (x : Delivery) (after : List Delivery)
+    → ps ++ qs ≡ before ++ x ∷ after → Extends (book_of x) (last_book b before))
+    → Extends (last_book b (ps ++ qs)) (last_book b ps)
+known_later b [] [] later = ([], rw append-nil)
+known_later b [] (x ∷ qs) later =
+    let one = later [] x qs refl in
+    let rest =
+    known_later (book_of x) [] qs (λ ps y qs e. later (x ∷ ps) y qs (ap (λ l. x ∷ l) e)) in
+    (one.0 ++ rest.0, grind (arith, append_assoc))
+known_later b (p ∷ ps) qs later =
+    known_later (book_of p) ps qs (λ ps y qs e. later (p ∷ ps) y qs (ap (λ l. p ∷ l) e))
 
+module _ (f : Opening) where
   -- after a mark nothing comes
   mark_ends : (ps qs : List Delivery) → IsLegal MayFollow f (ps ++ qs) → IsSome (mark_in ps)
       → qs ≡ []
@@ -234,11 +238,11 @@ module _ (s : Subscription) (old : ReaderHold) (seat : SeatToken Identity) (read
   -- the book that was known before goes on to the seat's
   knows : Extends seat.book (known_book old.reading)
   knows =
-      subst (λ (b : Book). Extends seat.book b) known_same
-      (extends_trans (known_book reading) (known_by e.floor (all_put e)) seat.book
-      (known_later e.floor e.taken e.ahead lv.legal)
-      (subst (λ (b : Book). Extends seat.book b)
-      (λ i. known_by (sym lv.floor i) (sym lv.all i)) lv.stands.later))
+      let one = known_later (floor_of e.floor) e.taken e.ahead
+      (λ ps x qs is. (lv.legal ps x qs is).later) in
+      let rest = lv.stands.later in
+      rw (← known_same)
+      (one.0 ++ rest.0, rw (rest.1, ← lv.floor, ← lv.all, one.1, append_assoc))
 
   -- what is ready is the messages that wait, and then the mark
   ready_is : ready reading ≡ map (λ m. Update m) w ++ fin_list (mark_in e.ahead)

@@ -1,6 +1,6 @@
 -- A counted server, whose seats make changes just while its leading seat has them enlisted, and the
 -- calls by which its changes were made.
-use Rattle.std.specs.Prelude.{◌≡◌, ◌⊎◌, ℕ, ◌+◌, ◌-◌, ◌<◌, List, [], ◌∷◌, length, map, slice_get, Option, Some, All, Contains}
+use Rattle.std.specs.Prelude.{◌≡◌, ◌⊎◌, ℕ, ◌+◌, ◌-◌, ◌<◌, List, [], ◌∷◌, length, map, slice_get, take, Option, Some, All, Contains}
 use Rattle.lq_volume.specs.State.{State}
 use Rattle.lq_volume.specs.declared.change.Change.{Change}
 use Rattle.lq_volume.specs.declared.change.Applied.{Applied}
@@ -73,12 +73,28 @@ AreMixed {T = T} xs ys (z ∷ zs) =
     ((rest : List T) × (xs ≡ z ∷ rest) × AreMixed rest ys zs)
     ⊎ ((rest : List T) × (ys ≡ z ∷ rest) × AreMixed xs rest zs)
 
+-- zs is all of xs mixed with the first of ys
+pub record AreMixedFirst (xs ys zs : List Change) : Type 0 where
+  pub others : ℕ
+  pub mixed : AreMixed xs (take others ys) zs
+
+-- each earlier book in which a seat had made all of its changes is those mixed with the first of
+-- the others
+abbrev pub AreMixedEarlier : Book → SeatToken Identity → List Change → List Change → Type 0
+AreMixedEarlier book seat changes others =
+    (earlier : Book) → Extends book earlier → HasMadeJust earlier seat changes
+    → AreMixedFirst changes others earlier.changes
+
 -- Where two seats made these changes of a book, and the numbers of both are those of all its
--- changes, each once, the book is just these changes mixed, and so are the numbers.
+-- changes, each once, the book is just these changes mixed, and so are the numbers, and each book
+-- before it in which one of them had made all of its changes.
 abbrev pub TwoSeatsMakeTheBook : Type 0
 TwoSeatsMakeTheBook =
     (book : Book) (one two : SeatToken Identity) (first second : List Change)
     (gathered all : List ℕ) → HasMadeJust book one first → HasMadeJust book two second
     → IsMerged [] one.author.changes gathered → IsMerged gathered two.author.changes all
     → all ≡ numbers (length book.changes)
-    → AreMixed first second book.changes × AreMixed one.author.changes two.author.changes all
+    → AreMixed first second book.changes
+    × AreMixed one.author.changes two.author.changes all
+    × AreMixedEarlier book one first second
+    × AreMixedEarlier book two second first

@@ -1,6 +1,6 @@
 //! The server: the state under its lock, and the board, which threads read without the lock. Here
 //! are its beginning, its seats and its end.
-ghost use Rattle.std.specs.Prelude.{◌≡◌, ◌≢◌, ◌+◌, [], ◌∷◌, IfOk, IfErr, OnOk, OnErr, true, false};
+ghost use Rattle.std.specs.Prelude.{◌≡◌, ◌≢◌, ◌+◌, ◌≤◌, [], ◌∷◌, IfOk, IfErr, OnOk, OnErr, true, false};
 ghost use Rattle.lq_value.specs.declared.refusal.Refusal.TheVariants.{NoSeat};
 ghost use Rattle.lq_volume.specs.Book.{Extends};
 ghost use Rattle.lq_board.specs.Author.{AreDisjoint, IsWhole, with_roll, with_signs};
@@ -179,8 +179,11 @@ impl<N: Named> Server<N> {
         self.state.lock(rt).seat(&self.board)
     }
 
-    /// As `seat`, made for the leading seat of a counted server, which counts it (`seats`) and then
-    /// knows the changes so far. The new seat may make changes once it is enlisted.
+    /// As `seat`, made for the leading seat of a counted server, which counts it (`seats`). Given or
+    /// refused, that seat then knows the changes so far. The new seat may make changes once it is
+    /// enlisted.
+    ///
+    /// Where it is refused, at least 15 seats were made for the leading seat.
     pub fn seat_by<R: Wait>(&self, rt: &R, head: &mut Seat) -> Result<Seat, Refusal>
         requires board { head.old.board ≡ N.board }
         requires slot { head.old.slot ≡ 0 }
@@ -191,11 +194,13 @@ impl<N: Named> Server<N> {
         ensures counts { IfOk result (λ seat. (seat.seats ≡ 0) × (seat.openings ≡ 0)) }
         ensures start { IfOk result (λ seat. seat.book.start ≡ N.start) }
         ensures refused { IfErr result (λ e. e ≡ NoSeat) }
-        ensures given { OnOk result (head.new ≡ record head.old {
+        ensures head { head.new ≡ record head.old {
           book = head.new.book;
-          seats = head.old.seats + 1;
-        }) }
-        ensures none { OnErr result (head.new ≡ head.old) }
+          seats = head.new.seats;
+        } }
+        ensures given { OnOk result (head.new.seats ≡ head.old.seats + 1) }
+        ensures none { OnErr result (head.new.seats ≡ head.old.seats) }
+        ensures few { OnErr result (15 ≤ head.old.seats) }
         ensures later { Extends head.new.book head.old.book }
     {
         self.state.lock(rt).seat_by(&self.board, head)

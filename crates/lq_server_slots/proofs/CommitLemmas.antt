@@ -47,8 +47,8 @@ committed c asked s t p book may stands others first_close hung =
     (subst (IsConsistentAt t) (sym grown.book) t_stands) others first_close hung
 
 -- and then it was filled
-pub committed_filled : (c : Change) (asked : Bool) (number : ℕ) (s t u : Subscription) (p : KnownSlot Identity) (book : Book)
-    → MayCommit c asked s p book → IsToFill t p book → SameButHeld s t
+pub committed_filled : (c : Change) (asked : Bool) (number : ℕ) (s t u : Subscription)
+    (p : KnownSlot Identity) (book : Book) → MayCommit c asked s p book → IsToFill t p book → SameButHeld s t
     → (IsSome s.sub.held.mark → t.sub.held.mark ≡ s.sub.held.mark)
     → MarkCovers number s.sub.held.mark t.sub.held.mark → IsConsistentAt u book
     → SameButPuts t u → length t.input.taken ≤ length u.input.taken → CannotPut u

@@ -1,5 +1,5 @@
 -- Parcels under their rule.
-use Rattle.std.proofs.Common.{◌≡◌, false, List, [], ◌∷◌, ◌++◌, length, Option, None, is_some, refl, arith, append_assoc, append-nil}
+use Rattle.std.proofs.Common.{◌≡◌, List, [], ◌∷◌, ◌++◌, length, None, refl, arith, append_assoc, append-nil}
 use Rattle.std.specs.Prelude.{IfSome}
 use mathlib.Core.List.{IsPrefix}
 use Rattle.lq_volume.specs.Book.{Book}
@@ -13,10 +13,6 @@ use Rattle.lq_server_slots.specs.Rule.{book_of, floor_of, query_of, message_of, 
 use Rattle.lq_server_slots.specs.LegalList.{known_by, LegalList}
 use Rattle.lq_server_slots.proofs.UpdateLemmas.{extends_self, extends_trans, updates-front}
 
--- an option that has no value
-pub none-of : {A : Type 0} (o : Option A) → is_some o ≡ false → o ≡ None
-none-of o absent = grind arith
-
 -- a list is a prefix of itself
 pub prefix_self : {A : Type 0} (xs : List A) → IsPrefix xs xs
 prefix_self xs = ([], append-nil xs)
@@ -26,16 +22,11 @@ pub prefix_trans : {A : Type 0} (xs ys zs : List A) → IsPrefix xs ys → IsPre
     → IsPrefix xs zs
 prefix_trans xs ys zs p q = (p.0 ++ q.0, rw (← append_assoc xs p.0 q.0, p.1) q.1)
 
--- the messages of two lists of parcels
-pub messages_in-append : (ps qs : List Delivery)
-    → messages_in (ps ++ qs) ≡ messages_in ps ++ messages_in qs
-messages_in-append [] qs = refl
-messages_in-append (p ∷ ps) qs = rw (messages_in-append ps qs, append_assoc)
-
--- and of one parcel more
+-- the messages of parcels and one more
 pub messages_in-snoc : (ps : List Delivery) (x : Delivery)
     → messages_in (ps ++ x ∷ []) ≡ messages_in ps ++ message_of x.what
-messages_in-snoc ps x = rw (messages_in-append ps (x ∷ []), append-nil)
+messages_in-snoc [] x = rw append-nil
+messages_in-snoc (p ∷ ps) x = rw (messages_in-snoc ps x, append_assoc)
 
 -- after parcels without a mark, the mark is that of the others
 pub mark_in-append : (ps qs : List Delivery) → mark_in ps ≡ None → mark_in (ps ++ qs) ≡ mark_in qs

@@ -1,5 +1,5 @@
-//! The two passes of a change over the slots: its messages are prepared in those that it is shown to,
-//! and then committed, and all ports are filled.
+//! The two passes of a change over the slots: its messages are prepared in those that it is shown
+//! to, and then committed, and all ports are filled.
 ghost use Rattle.std.specs.Prelude.{◌≡◌, length, None};
 ghost use Rattle.lq_volume.specs.Book.{state_of};
 ghost use Rattle.lq_volume.specs.Change.{refused};

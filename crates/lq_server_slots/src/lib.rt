@@ -1,14 +1,12 @@
 //! What is under the server's lock: the volume, the keeper of the board, and the 64 slots of
-//! subscriptions, each with its port. A call of the server is its lock and one method of
-//! `ServerState`.
+//! subscriptions, each with its port. A server's call locks it for one method of `ServerState`.
 //!
 //! Each parcel carries the keeper's book, for contracts alone (`ghost_copy`); `specs/Rule` says
 //! which parcel may follow. A subscription under the lock stands over a book (`IsConsistentAt` of
 //! `specs/Standing`), and the reading end is a `ReadingHold` (`specs/Reading`). Contracts see
 //! `ServerSlots` by its fields: `AreConsistent` (`specs/Slots`) says how far each taken slot has
-//! followed a book. Puts and takes may wait for a step of a port's other end. Tests:
-//! lq_server_tests. Begin with `delivery`, `subscription`, `fill_port` and `reading`, then `slots`,
-//! `server_state` and `apply_change`.
+//! followed a book. Puts and takes may wait for a port's other end. Tests: lq_server_tests. Begin
+//! with `delivery`, `subscription`, `fill_port` and `reading`, then `slots` and `server_state`.
 #![tactic(auto)]
 
 mod apply_change;

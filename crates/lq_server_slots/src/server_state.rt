@@ -1,6 +1,6 @@
 //! What is under the server's lock: volume, keeper and slots, which agree. Each call is one hold of
 //! the lock; those for changes and subscriptions are in `apply_change`, `open`, `sync` and `close`.
-ghost use Rattle.std.specs.Prelude.{◌≡◌, ◌+◌, ◌-◌, ◌<◌, [], ◌∷◌, ◌++◌, length, true, OnOk, OnErr};
+ghost use Rattle.std.specs.Prelude.{◌≡◌, ◌+◌, ◌-◌, ◌<◌, ◌≤◌, [], ◌∷◌, ◌++◌, length, true, OnOk, OnErr};
 ghost use Rattle.lq_volume.specs.Book.{Extends, state_of};
 ghost use Rattle.lq_board.specs.Token.{moment_of};
 ghost use Rattle.lq_server_slots.specs.Slots.{SameButKnown, IsState, KnowsAsks};
@@ -108,8 +108,8 @@ impl<N: Named> ServerState<N> {
         Ok(board.seat(&mut self.slots.keeper))
     }
 
-    /// As `seat`, made for the leading seat, which counts it and then knows the book. The new seat
-    /// may make changes once it is enlisted.
+    /// As `seat`, made for the leading seat, which counts it. Refused only where at least 15 were
+    /// made for that seat, which then knows the book, given or refused.
     pub fn seat_by(
         &mut self,
         board: &Board<Identity>,
@@ -118,13 +118,17 @@ impl<N: Named> ServerState<N> {
         requires board { (board.now ≡ N.board) × (head.old.board ≡ N.board) }
         requires leads { (head.old.slot ≡ 0) × (head.old.author.leads ≡ true) }
         ensures gives { GivesSeat N.board N.start self.old self.new result }
-        ensures given { OnOk result (head.new ≡ record head.old {
+        ensures head { head.new ≡ record head.old {
           book = self.old.slots.keeper.book;
-          seats = head.old.seats + 1;
-        }) }
-        ensures none { OnErr result (head.new ≡ head.old) }
+          seats = head.new.seats;
+        } }
+        ensures given { OnOk result (head.new.seats ≡ head.old.seats + 1) }
+        ensures none { OnErr result (head.new.seats ≡ head.old.seats) }
+        ensures few { OnErr result (15 ≤ head.old.seats) }
         ensures later { Extends head.new.book head.old.book }
     {
+        // For the proof: the leading seat counts each seat that is out, but for itself.
+        board.meet(&mut self.slots.keeper, head);
         if self.seats >= MAX_SEATS {
             return Err(Refusal::NoSeat);
         }

@@ -1,4 +1,5 @@
-//! A counted server: its leading seat is one of the 16, and it counts the changes of a reader's seat.
+//! A counted server: its leading seat is one of the 16, and it counts the changes of a reader's
+//! seat.
 ghost use Rattle.std.specs.Prelude.{◌≡◌};
 ghost use Rattle.lq_board.specs.Token.{counted_board};
 

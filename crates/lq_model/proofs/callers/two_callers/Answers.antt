@@ -17,16 +17,16 @@ returns-in_err-result-clause-refused g c =
     let a = subst (HasApplied old one c.args.first.now) c.in_err-result.was
     c.join_over-one.ensures.first.2 in
     let why : IsPairRefused g.N.Named.start c.args.first.now c.args.second.now e =
-    inr (inl (first_amid c.two_seats_make_the_book.ensures g.N.Named.start old one other two
+    inl (first_amid c.two_seats_make_the_book.ensures g.N.Named.start old one other two
     c.args.first.now c.args.second.now e c.join_over-one.result.1.result
     c.retire_both-retired.result
     (ap (λ (s : SeatToken Identity). s.author.changes) c.enlist.ensures.other
-    ∙ c.in_ok-one.ensures.author)
+    ∙ c.in-Ok.ensures.author)
     (ap (λ (s : SeatToken Identity). s.author.changes) c.enlist-2.ensures.other
-    ∙ c.in_ok-two.ensures.author)
+    ∙ c.in-Ok-seat_by.ensures.author)
     (ap (λ (s : SeatToken Identity). s.book.start) c.enlist.ensures.other
-    ∙ c.in_ok-one.ensures.start)
-    a c.join_over-one.ensures.second.2 c.retire_both-retired.ensures)) in
+    ∙ c.in-Ok.ensures.start)
+    a c.join_over-one.ensures.second.2 c.retire_both-retired.ensures) in
     search (rules, why)
 
 pub returns-in_err-other-clause-refused : goal.returns-in_err-other-clause-refused
@@ -39,16 +39,16 @@ returns-in_err-other-clause-refused g c =
     let b = subst (HasApplied other two c.args.second.now) c.in_err-other.was
     c.join_over-one.ensures.second.2 in
     let why : IsPairRefused g.N.Named.start c.args.first.now c.args.second.now e =
-    inr (inr (second_amid c.two_seats_make_the_book.ensures g.N.Named.start old one other two
+    inr (second_amid c.two_seats_make_the_book.ensures g.N.Named.start old one other two
     c.args.first.now c.args.second.now e c.join_over-one.result.0.result
     c.retire_both-retired.result
     (ap (λ (s : SeatToken Identity). s.author.changes) c.enlist.ensures.other
-    ∙ c.in_ok-one.ensures.author)
+    ∙ c.in-Ok.ensures.author)
     (ap (λ (s : SeatToken Identity). s.author.changes) c.enlist-2.ensures.other
-    ∙ c.in_ok-two.ensures.author)
+    ∙ c.in-Ok-seat_by.ensures.author)
     (ap (λ (s : SeatToken Identity). s.book.start) c.enlist-2.ensures.other
-    ∙ c.in_ok-two.ensures.start)
-    c.join_over-one.ensures.first.2 b c.retire_both-retired.ensures)) in
+    ∙ c.in-Ok-seat_by.ensures.start)
+    c.join_over-one.ensures.first.2 b c.retire_both-retired.ensures) in
     search (rules, why)
 
 pub returns-clause-made : goal.returns-clause-made
@@ -64,8 +64,8 @@ returns-clause-made g c =
     both_made c.two_seats_make_the_book.ensures g.N.Named.start old one other two c.args.first.now
     c.args.second.now c.retire_both-retired.result
     (ap (λ (s : SeatToken Identity). s.author.changes) c.enlist.ensures.other
-    ∙ c.in_ok-one.ensures.author)
+    ∙ c.in-Ok.ensures.author)
     (ap (λ (s : SeatToken Identity). s.author.changes) c.enlist-2.ensures.other
-    ∙ c.in_ok-two.ensures.author)
+    ∙ c.in-Ok-seat_by.ensures.author)
     (subst (HasMade old one) a.ok a.made) (subst (HasMade other two) b.ok b.made)
     c.retire_both-retired.ensures

@@ -1,12 +1,13 @@
 -- With each change that is accepted, the seat has made one more of those given.
 use Rattle.std.proofs.Common.{◌≡◌, ◌+◌, List, [], ◌∷◌, ◌++◌, take, take_all, Some, sym, ap, ◌∙◌, subst, rules, arith}
 use Rattle.std.proofs.lemmas.List.{take_more}
+use Rattle.std.proofs.lemmas.Option.{slice_get-get_or}
 use Rattle.lq_volume.specs.declared.change.Change.{Change}
 use Rattle.lq_volume.specs.Book.{Book}
 use Rattle.lq_board.specs.Token.{SeatToken}
 use Rattle.lq_server_slots.specs.declared.identity.Identity.{Identity}
 use Rattle.lq_model.specs.Followed.{HasMade}
-use Rattle.lq_model.proofs.MadeLemmas.{made_more, made_still, get_here, refused_here}
+use Rattle.lq_model.proofs.MadeLemmas.{made_more, made_still, refused_here}
 use Rattle.lq_model.proofs.model.apply_all.Goals as goal
 
 pub loop-change-preserved : goal.loop-change-preserved
@@ -37,7 +38,7 @@ returns-in_err-apply-clause-applied g c =
     let new = c.apply.new.seat in
     let no = c.in_err-apply.ensures in
     let why = refused_here new.book xs l.change-index x _
-    (get_here xs l.change-index x c.loop-change-test.true
+    (slice_get-get_or xs l.change-index x c.loop-change-test.true
     ∙ sym (ap (λ (y : Change). Some y) c.change-item.is)) no.err in
     record {
       accepted = l.change-index;

@@ -1,12 +1,11 @@
 -- The one seat's changes are all changes, so it knew all of them when one was refused.
-use Rattle.std.proofs.Common.{◌≡◌, ◌≤◌, ℕ, List, length, sym, ap, ◌∙◌, arith}
-use Rattle.lq_volume.specs.Book.{Book}
+use Rattle.std.proofs.Common.{◌≡◌, ◌≤◌, ℕ, List, length, sym, ap, ◌∙◌, arith, length-append}
 use Rattle.lq_board.specs.Known.{Author}
 use Rattle.lq_board.specs.Author.{with_roll}
 use Rattle.lq_board.specs.Roll.{without_number, numbers}
 use Rattle.lq_board.specs.Token.{SeatToken}
 use Rattle.lq_server_slots.specs.declared.identity.Identity.{Identity}
-use Rattle.lq_model.proofs.FollowLemmas.{alone, extends_length}
+use Rattle.lq_model.proofs.FollowLemmas.{alone}
 use Rattle.lq_model.proofs.MadeLemmas.{stopped_so}
 use Rattle.lq_model.proofs.model.gather.Goals as goal
 
@@ -31,14 +30,7 @@ returns g c =
     let all : c.args.seat.now.author.changes ≡ numbers c.latest.result =
     sym (ap (λ (a : Author). a.changes) met)
     ∙ sym (d.merged.alone (ap (λ (a : Author). a.gathered) lead)) ∙ whole in
-    let one = extends_length c.args.seat.now.book c.meet.new.one.book c.meet.ensures.first in
-    let same = ap (λ (b : Book). length b.changes) c.meet.ensures.same in
-    let head =
-    ap (λ (s : SeatToken Identity). length s.book.changes) d.head in
-    let last =
-    extends_length c.dismiss.new.head.book c.latest.new.seat.book c.latest.ensures.later in
-    let number = c.latest.ensures.number in
     let most : length c.args.seat.now.book.changes ≤ c.latest.result =
-    omega (arith, one, same, head, last, number) in
+    grind (arith, length-append) in
     stopped_so c.args.seat.now g.N.Named.start c.args.changes.now c.args.refusal c.latest.result
     c.requires.stopped all most

@@ -16,13 +16,19 @@ marks old new v h is =
     (ap (λ (x : State). x.number) h.state ∙ h.full.number) is
 
 pub returns-clause-marks : goal.returns-clause-marks
-returns-clause-marks c = marks c.args.slots.now c.prepare.new.slots c.args.volume.now c.requires.stands c.prepare.ensures.marks
+returns-clause-marks c =
+    marks c.args.slots.now c.prepare.new.slots c.args.volume.now c.requires.stands
+    c.prepare.ensures.marks
 
 pub returns-in_err-resolved-clause-marks : goal.returns-in_err-resolved-clause-marks
-returns-in_err-resolved-clause-marks c = marks c.args.slots.now c.prepare.new.slots c.args.volume.now c.requires.stands c.prepare.ensures.marks
+returns-in_err-resolved-clause-marks c =
+    marks c.args.slots.now c.prepare.new.slots c.args.volume.now c.requires.stands
+    c.prepare.ensures.marks
 
 pub returns-in_err-applied-clause-marks : goal.returns-in_err-applied-clause-marks
-returns-in_err-applied-clause-marks c = marks c.args.slots.now c.prepare.new.slots c.args.volume.now c.requires.stands c.prepare.ensures.marks
+returns-in_err-applied-clause-marks c =
+    marks c.args.slots.now c.prepare.new.slots c.args.volume.now c.requires.stands
+    c.prepare.ensures.marks
 
 pub returns-clause-made : goal.returns-clause-made
 returns-clause-made c = search rules

@@ -24,8 +24,8 @@ visit-requires c = record {
 pub returns-then-full : goal.returns-then-full
 returns-then-full c =
     let n = c.notice_all.ensures in
-    let p = all_prepared _ _ _ c.notice_all.new.slots c.slots_for-asked.result.word c.args.planned.now.before.number
-    c.visit.new.self _ _
+    let p = all_prepared _ _ _ c.notice_all.new.slots c.slots_for-asked.result.word
+    c.args.planned.now.before.number c.visit.new.self _ _
     n.keeps.holding n.noticed c.visit.ensures.wide
     c.visit.ensures.visits in
     record {
@@ -45,14 +45,15 @@ returns-then-full c =
 pub returns : goal.returns
 returns c =
     let n = c.notice_all.ensures in
-    let p = all_prepared _ _ _ c.notice_all.new.slots c.slots_for-asked.result.word c.args.planned.now.before.number
-    c.visit.new.self _ _
+    let p = all_prepared _ _ _ c.notice_all.new.slots c.slots_for-asked.result.word
+    c.args.planned.now.before.number c.visit.new.self _ _
     n.keeps.holding n.noticed c.visit.ensures.wide
     c.visit.ensures.visits in
     record {
       lawful = c.requires.lawful;
       resolved = c.resolved.ensures;
-      prepared = λ i low is. p.2 c.if-full.false i low (rw (c.slots_for-asked.ensures, c.change.ensures) is);
+      prepared = λ i low is.
+          p.2 c.if-full.false i low (rw (c.slots_for-asked.ensures, c.change.ensures) is);
       noticed = p.1;
       keeps = slots_kept-on c.args.slots.now c.notice_all.new.slots c.visit.new.self n.keeps p.0;
       marks = marks_cover-on c.args.planned.now.before.number c.args.slots.now.subscriptions

@@ -1,5 +1,4 @@
 use Rattle.std.proofs.Common.{arith, rules}
-use Rattle.lq_server_slots.proofs.PortLemmas.{none-of}
 use Rattle.lq_server_slots.proofs.PutLemmas.{alike_trans, none_next}
 use Rattle.lq_server_slots.proofs.fill_port.fill.Goals as goal
 
@@ -29,4 +28,4 @@ pub returns-after-loop-slot-clause-taken : goal.returns-after-loop-slot-clause-t
 returns-after-loop-slot-clause-taken g c = c.loop-slot.invariant.2
 
 pub returns-after-loop-slot-clause-stuck : goal.returns-after-loop-slot-clause-stuck
-returns-after-loop-slot-clause-stuck g c = search (rules, arith, none-of, none_next)
+returns-after-loop-slot-clause-stuck g c = search (rules, arith, none_next)

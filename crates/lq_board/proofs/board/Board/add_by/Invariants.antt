@@ -9,6 +9,5 @@ ghosts-added g a =
       slot = 0;
       name = (sitting_of a.token.me.0).name;
       change = Some a.change.now;
-      seats = λ n. n;
       openings = λ n. n;
     }

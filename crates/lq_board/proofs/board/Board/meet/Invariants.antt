@@ -9,6 +9,5 @@ ghosts-met g a =
       slot = 0;
       name = (sitting_of a.token.me.0).name;
       change = None;
-      seats = λ n. n;
       openings = λ n. n;
     }

@@ -24,7 +24,7 @@ split_seat-again-requires g c = (
   c.load-number.ensures.0 ∙ c.join_seat.ensures.0
       ∙ keeper_table c.keeper.view_is c.requires.board.0 c.self.view_is,
   omega (arith, c.self.invariant.0),
-  again _ _ g.W.Chosen.seats g.W.Chosen.openings _
+  again _ _ g.W.Chosen.openings _
       (c.load-number.ensures.2.0 ∙ c.join_seat.ensures.2)
       (is_back c.keeper.inside.token.me c.args.token.me _ refl c.keeper.invariant.1
       c.requires.number c.requires.slot),

@@ -10,7 +10,6 @@ ghosts-met g a =
       slot = 0;
       name = (sitting_of a.token.me.0).name;
       change = None;
-      seats = λ n. n;
       openings = λ n. n + 1;
     }
 
@@ -20,6 +19,5 @@ ghosts-slot_token g a =
       slot = a.slot;
       name = Some g.name;
       change = None;
-      seats = λ n. n;
       openings = λ n. n;
     }

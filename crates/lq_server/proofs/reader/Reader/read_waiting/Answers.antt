@@ -2,14 +2,17 @@ use Rattle.std.proofs.Common.{◌≡◌, arith, rules, false, true≢false, inl,
 use Rattle.std.proofs.lemmas.Result.{IfOk-weaker, on_err_weaker}
 use mathlib.Core.List.{IsPrefix}
 use Rattle.lq_volume.specs.Book.{Book, Extends}
+use Rattle.lq_server_slots.specs.Updates.{updates}
 use Rattle.lq_server_slots.specs.Rule.{all_updates}
 use Rattle.lq_server_slots.specs.Reading.{Gives, known_book, received, is_marked}
 use Rattle.lq_server_slots.specs.Hold.{ReaderHold}
 use Rattle.lq_server.specs.Syncing.{IsSynced, IsRead}
-use Rattle.lq_server.proofs.OwnLemmas.{hold, received_front}
+use Rattle.lq_server.proofs.OwnLemmas.{hold}
+use Rattle.lq_server.proofs.HeadlineLemmas.{prefix_told}
 use Rattle.lq_server.proofs.reader.Reader.read_waiting.Goals as goal
 
 pub returns-then-is_ended : goal.returns-then-is_ended
+unfolding updates
 returns-then-is_ended g c = record {
   own = c.requires.own;
   seat = refl;
@@ -18,7 +21,7 @@ returns-then-is_ended g c = record {
   port = search rules;
   received = subst (λ (r : ReaderHold). IsPrefix (received r.reading)
       (all_updates r.reading.port.floor (known_book r.reading))) c.self.view_is
-      (received_front c.self.inside.reading c.update_facts.ensures);
+      (prefix_told c.self.inside.reading c.update_facts.ensures);
   known = search rules;
   refused = search rules;
   gives = inl (refl, refl, grind arith);

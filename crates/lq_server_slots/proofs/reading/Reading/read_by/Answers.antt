@@ -1,13 +1,12 @@
-use Rattle.std.proofs.Common.{true≢false, sym, ap, ◌∙◌}
+use Rattle.std.proofs.Common.{◌≡◌, true≢false, None, sym, ap, ◌∙◌, arith}
 use Rattle.std.specs.Prelude.{is_some}
-use Rattle.lq_server_slots.proofs.PortLemmas.{none-of}
 use Rattle.lq_server_slots.proofs.ReadLemmas.{next_fits, next_reads, still_live, next_step, mark_then, took_next, took_mark, mark_step, ended_step, empty_step}
 use Rattle.lq_server_slots.proofs.reading.Reading.read_by.Goals as goal
 
 pub invariant_of-self-in-Fin : goal.invariant_of-self-in-Fin
 invariant_of-self-in-Fin g c =
     let a = c.in-Some.ensures.take in
-    let none = none-of c.self.inside.hand (sym c.is_some.ensures ∙ c.if-is_some.false) in (
+    let none : c.self.inside.hand ≡ None = grind arith in (
       took_mark _ c.self.invariant.0 none c.take_one.new.output c.in-Some.item a.port a.some
           a.legal c.in-Fin.mark c.in-Fin.is,
       ap is_some (sym (rw c.in-Fin.is at (mark_then _ c.self.invariant.0 none
@@ -18,7 +17,7 @@ invariant_of-self-in-Fin g c =
 pub keep-requires-clause-fits : goal.keep-requires-clause-fits
 keep-requires-clause-fits g c =
     let a = c.in-Some.ensures.take in
-    let none = none-of c.self.inside.hand (sym c.is_some.ensures ∙ c.if-is_some.false) in
+    let none : c.self.inside.hand ≡ None = grind arith in
     next_fits _ _ _
     (took_next _ c.self.invariant.0 none c.take_one.new.output c.in-Some.item
     a.port a.some a.legal c.in-Update.message c.in-Update.is) c.rebuilds_take_all.ensures
@@ -28,7 +27,7 @@ invariant_of-self-in-Update g c =
     let i = c.self.inside in
     let a = c.in-Some.ensures.take in
     let k = c.keep in
-    let none = none-of i.hand (sym c.is_some.ensures ∙ c.if-is_some.false) in
+    let none : i.hand ≡ None = grind arith in
     let next = took_next _ c.self.invariant.0 none c.take_one.new.output c.in-Some.item a.port
     a.some a.legal c.in-Update.message c.in-Update.is in (
       next_reads _ _ _ next k.new.rebuild k.new.hand k.result k.ensures.ok k.ensures.err,
@@ -47,7 +46,7 @@ returns-then-self g c =
 pub returns-in_default : goal.returns-in_default
 returns-in_default g c =
     let a = c.in_default.ensures.take in
-    let none = none-of c.self.inside.hand (sym c.is_some.ensures ∙ c.if-is_some.false) in
+    let none : c.self.inside.hand ≡ None = grind arith in
     rw (← c.self.view_is, a.none)
     (empty_step c.args.waits _ c.self.invariant.0 none
     (sym c.self.invariant.1 ∙ c.if-self.false) a.empty
@@ -56,7 +55,7 @@ returns-in_default g c =
 pub returns-in-Fin : goal.returns-in-Fin
 returns-in-Fin g c =
     let a = c.in-Some.ensures.take in
-    let none = none-of c.self.inside.hand (sym c.is_some.ensures ∙ c.if-is_some.false) in
+    let none : c.self.inside.hand ≡ None = grind arith in
     rw (← c.self.view_is)
     (mark_step _ c.self.invariant.0 none c.take_one.new.output c.in-Some.item
     a.port a.some a.legal c.args.waits c.in-Fin.mark c.in-Fin.is)
@@ -65,7 +64,7 @@ pub returns-in-Update : goal.returns-in-Update
 returns-in-Update g c =
     let a = c.in-Some.ensures.take in
     let k = c.keep in
-    let none = none-of c.self.inside.hand (sym c.is_some.ensures ∙ c.if-is_some.false) in
+    let none : c.self.inside.hand ≡ None = grind arith in
     rw (← c.self.view_is)
     (next_step _ _ _
     (took_next _ c.self.invariant.0 none c.take_one.new.output c.in-Some.item

@@ -6,15 +6,15 @@ use std::alloc::Global;
 
 /// The readers of the slots.
 #[derive(Drop)]
-pub struct Readers<N: Named> {
+pub struct ReaderTable<N: Named> {
     slots: SlotTable<OwnReader<N>>,
 }
 
-impl<N: Named> Readers<N> {
+impl<N: Named> ReaderTable<N> {
     /// All slots free. Refused: `NoMemory`.
-    pub fn new(alloc: Global) -> Result<Readers<N>, Refusal> {
+    pub fn new(alloc: Global) -> Result<ReaderTable<N>, Refusal> {
         let slots = SlotTable::new(alloc)?;
-        Ok(Readers { slots })
+        Ok(ReaderTable { slots })
     }
 
     /// The reader of a slot. Refused: `NotOpen` if it has none.
