@@ -8,7 +8,7 @@ use Rattle.atomic_table.specs.Table.{State, Me, keeps, step, Allows}
 use Rattle.lq_volume.specs.declared.change.Change.{Change}
 use Rattle.lq_volume.specs.State.{State as VolumeState}
 use Rattle.lq_volume.specs.Change.{IsLawful}
-use Rattle.lq_volume.specs.Laws.{ChangesKeepTrees}
+use Rattle.lq_volume.specs.Laws.{ChangesCount, ChangesKeepTrees}
 use Rattle.lq_volume.specs.Book.{Book, grown, state_of}
 use Rattle.lq_board.specs.Known.{Author, Sitting, Keeping, TokenView, Keeper, Seat}
 use Rattle.lq_board.specs.Book.{IsFullBook}
@@ -92,11 +92,11 @@ module _ {M : Type 0} where
 
   -- a change by the latest seat that came back is added
   pub adds : {me : Me ℕ (TokenView M)} (slots id : ℕ) (v : Keeping M) (x : Change)
-      (said : Option Change) → me ≡ (Keeper v, []) → said ≡ Some x → ChangesKeepTrees
+      (said : Option Change) → me ≡ (Keeper v, []) → said ≡ Some x → ChangesKeepTrees → ChangesCount
       → 0 < v.back.author.number → v.back.author.signs ≡ true → IsLawful (state_of v.book) x
       → Allows IsKept slots id me 0 (λ n. (n + 1) % 2 ^ 64)
       (AddsChange said (step slots 0 1 0 none) me)
-  adds slots id v x said is says keeps_trees pos may lawful =
+  adds slots id v x said is says keeps_trees count pos may lawful =
       subst
       (λ (p : Me ℕ (TokenView M) × Option Change). Allows IsKept slots id p.0 0
       (λ n. (n + 1) % 2 ^ 64) (AddsChange p.1 (step slots 0 1 0 none) p.0))
@@ -115,8 +115,8 @@ module _ {M : Type 0} where
         back = record v.back { book = book; author = made };
       } in
       let b : BoardState M = record kept.0 { id = id; view = w } in
-      let room = room_of keeps_trees v.book x k.books.full lawful in
-      let full = full_more keeps_trees v.book x k.books.full lawful in
+      let room = room_of keeps_trees count v.book x k.books.full lawful in
+      let full = full_more keeps_trees count v.book x k.books.full lawful in
       let next : n ≡ length book.changes =
       omega (arith, length-append v.book.changes (x ∷ []), room, k.number) in (
         Keeper w,

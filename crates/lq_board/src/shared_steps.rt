@@ -14,7 +14,7 @@ ghost use Rattle.lq_board.specs.Token.{new_seat_of};
 use crate::board::Board;
 use crate::tokens::{Keeper, Seat, Token};
 use crate::word_steps::{Add, Again, AgainFor, Back, Check, Chosen, Open, Slotless};
-use lq_volume::{Change, accepted_changes_keep_trees};
+use lq_volume::{Change, accepted_changes_keep_trees, changes_are_counted};
 
 impl<M> Board<M> {
     // Splits a new seat of no slot off the keeper, which goes out. No seat leads: the board or the
@@ -86,8 +86,8 @@ impl<M> Board<M> {
         (number, again)
     }
 
-    // As `met` for the leading seat, which keeps its name. One seat more is made for it, and is out,
-    // before it is split off.
+    // As `met` for the leading seat, which keeps its name. One more seat is made for it, and is
+    // out, before it is split off.
     pub(crate) fn met_for_seat(&self, keeper: &mut Keeper<M>, token: Token<M>) -> Token<M>
         requires board { (keeper.old.board ≡ self.now) × (token.table_id ≡ self.now.table) }
         requires view { IsSeat token.me (sitting_of token.me.0) }
@@ -135,6 +135,7 @@ impl<M> Board<M> {
         let _ = change;
         // For the proof: a volume that takes the change is within its limit after it.
         accepted_changes_keep_trees();
+        changes_are_counted();
         self.table
             .shared
             .join_seat::<Back>(&mut keeper.token, token);

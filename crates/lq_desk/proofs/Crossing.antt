@@ -1,14 +1,11 @@
 -- A desk may go to another thread, where a volume and a subscription may. The check finds none of
 -- these steps, since a predicate's tree holds itself.
-use denote.RattleType.{RattleType}
 use denote.Param.Send.{IsSend, sendable, view_send}
 use denote.Param.SendFields.{declared_send}
-use Rattle.std.proofs.Crossing.{Deque-send, Vec-send, crosses}
-use Rattle.std.specs.contracts.option.Option as option
+use Rattle.std.proofs.Crossing.{Deque-send, crosses}
 use Rattle.lq_update.specs.contracts.parcel.Parcel as parcel
 use Rattle.lq_volume.specs.contracts.volume.Volume as volume
-use Rattle.lq_desk_sub.specs.contracts.slot_table.SlotTable as table
-use Rattle.lq_desk_sub.specs.contracts.slot_table.SlotTable.TheInside as in_table
+use Rattle.lq_desk_sub.proofs.slot_table.SlotTable.TheSendSync as table
 use Rattle.lq_desk_sub.specs.contracts.sub.Sub as sub
 use Rattle.lq_desk.specs.contracts.slot.Slot as slot
 use Rattle.lq_desk.specs.contracts.slot.Slot.TheInside as in_slot
@@ -32,22 +29,12 @@ slot_send s p =
       ),
     ))
 
--- a table of slots
-module _ (T : RattleType) (s : IsSend T) where
-  table_send : IsSend (table.the_row T)
-  table_send =
-      view_send (in_table.the_row T) _ _ _ _
-      (declared_send (in_table.the_type T) (
-        Vec-send (option.the_row T) (search sendable depth 12),
-        search (sendable, crosses) depth 30,
-      ))
-
 -- the slots
 slots_send : IsSend slot.the_row → IsSend slots.the_row
 slots_send s =
     view_send in_slots.the_row _ _ _ _
     (declared_send in_slots.the_type
-    (table_send slot.the_row s, search (sendable, crosses) depth 30))
+    (table.the_send slot.the_row s, search (sendable, crosses) depth 30))
 
 -- what a desk keeps
 engine_send : IsSend sub.the_row → IsSend parcel.the_row → IsSend volume.the_row

@@ -1,5 +1,5 @@
 -- What is so of all that a desk keeps, after each event.
-use Rattle.std.proofs.Common.{◌≡◌, ℕ, zero, suc, ◌+◌, ◌*◌, ◌-◌, ◌^◌, List, refl, ap, ◌∙◌, arith, Some, None, Option, map}
+use Rattle.std.proofs.Common.{◌≡◌, ℕ, zero, suc, ◌+◌, ◌*◌, ◌-◌, ◌^◌, List, [], ◌∷◌, refl, ap, ◌∙◌, arith, Some, None, Option, map}
 use Rattle.std.specs.Prelude.{slice_get, slice_set, replicate, ◌==◌}
 use Rattle.std.specs.Option.{option_map, option_flatten}
 use Rattle.std.specs.List.{AllByRecursion}
@@ -8,7 +8,7 @@ use Rattle.std.proofs.lemmas.List.{length-map, length-set, map-set}
 use Rattle.lq_predicate.specs.Query.{Query}
 use Rattle.lq_volume.specs.declared.change.Change.{Change as Change_}
 use Rattle.lq_volume.specs.State.{State, IsVolume}
-use Rattle.lq_volume.specs.Change.{IsLawful}
+use Rattle.lq_volume.specs.Change.{IsLawful, after}
 use Rattle.lq_volume.specs.Laws.{ChangesCount}
 use Rattle.lq_update.specs.declared.open_options.OpenOptions.{OpenOptions}
 use Rattle.lq_update.specs.Laws.{StepsAreFew}
@@ -42,9 +42,10 @@ pub IsKept-change : StepsAreFew → ChangesCount → (k : DeskState) (c : Change
     → IsVolume k.volume → IsLawful k.volume c → IsKept (changed k c)
 IsKept-change steps count k c d v lawful =
     let n = k.volume.number in
+    let one : (after k.volume c).number ≡ n + 1 = count k.volume (c ∷ []) in
     record {
       slots = length-map k.slots _ ∙ d.slots;
-      few = rw (count k.volume c) (few-map (3 * n) (3 * (n + 1)) (slot_after k.volume c)
+      few = rw one (few-map (3 * n) (3 * (n + 1)) (slot_after k.volume c)
           (λ s. few-changed steps k.volume c s v lawful) k.slots d.few);
     }
 

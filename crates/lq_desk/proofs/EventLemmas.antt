@@ -1,25 +1,16 @@
 -- The events of one slot: what they do there, and what they keep.
-use Rattle.std.proofs.Common.{◌≡◌, ℕ, zero, suc, ◌-◌, List, [], ◌∷◌, ◌++◌, refl, ap, ◌∙◌, sym, arith, Some, None, Option}
+use Rattle.std.proofs.Common.{◌≡◌, ℕ, zero, suc, ◌-◌, List, ap, ◌∙◌, sym, arith, Some, None, Option}
 use Rattle.std.specs.Prelude.{slice_set}
 use Rattle.std.specs.Option.{option_map}
-use Rattle.std.proofs.lemmas.List.{set-set}
-use Rattle.std.proofs.lemmas.Option.{slice_get-map, slice_get_within}
-use Rattle.lq_desk_world.specs.declared.event.Event.{Event}
+use Rattle.std.proofs.lemmas.List.{set-get_or, set-set}
+use Rattle.std.proofs.lemmas.Option.{get_or_from_slice_get, slice_get-map, slice_get_within}
 use Rattle.lq_desk_world.specs.declared.event.Event.TheVariants.{Put, Notice}
-use Rattle.lq_desk_world.specs.Events.{Answer}
-use Rattle.lq_desk_world.specs.Turns.{places_at, put_events, after_events}
+use Rattle.lq_desk_world.specs.Turns.{places_at, put_events}
 use Rattle.lq_desk.specs.Slot.{KeptSlot, notice_slot, after_put, after_puts, filled, noticed}
 use Rattle.lq_desk.specs.DeskState.{DeskState, kept_at, kept_outcome}
 use Rattle.lq_desk.specs.KeptTurn.{slot_port, kept_ports, kept_after}
-use Rattle.lq_desk.proofs.ListLemmas.{get-set, set-same, slot-there}
+use Rattle.lq_desk.proofs.ListLemmas.{get-set, slot-there}
 use Rattle.lq_desk.proofs.PutLemmas.{put-some}
-
--- two lists of events, one after the other
-pub after-join : {Core : Type 0} (step : Core → Event → Answer × Core) (s : Core)
-    (xs ys : List Event) → after_events step s (xs ++ ys)
-    ≡ after_events step (after_events step s xs) ys
-after-join step s [] ys = refl
-after-join step s (x ∷ xs) ys = after-join step (step s x).1 xs ys
 
 -- these slots in place of those that are kept
 abbrev pub at-slots : DeskState → List (Option KeptSlot) → DeskState
@@ -56,7 +47,9 @@ module _ (k : DeskState) (slot : ℕ) (s : KeptSlot) (is : kept_at k slot ≡ So
 pub puts-taken : (n : ℕ) (k : DeskState) (slot : ℕ) (s : KeptSlot) → kept_at k slot ≡ Some s
     → kept_after k (put_events slot n) ≡ with_kept k slot (Some (after_puts n s))
 puts-taken zero k slot s is =
-    ap (at-slots k) (sym (set-same k.slots (slot - 1) (Some s) (slot-there k.slots slot s is)))
+    ap (at-slots k) (sym (ap (slice_set k.slots (slot - 1)) (sym (get_or_from_slice_get k.slots
+    (slot - 1) (Some s) (Some s) (slot-there k.slots slot s is)))
+    ∙ set-get_or k.slots (slot - 1) (Some s)))
 puts-taken (suc n) k slot s is =
     let t = after_put s in
     let first : (kept_outcome k (Put slot)).1 ≡ with_kept k slot (Some t) = rw (is, put-some s) in

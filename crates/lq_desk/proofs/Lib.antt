@@ -1,10 +1,9 @@
--- Read in this order. Lists and update lists: ListLemmas, UpdateLemmas. One slot: PutLemmas. All
+-- Read in this order. Lists: ListLemmas. One slot: PutLemmas. All
 -- slots: SlotsLemmas, FewLemmas, PassLemmas, CommitLemmas, WatchLemmas, MarkLemmas. A desk shows a
 -- world: SlotLemmas and EndLemmas (one subscription), Shown (each event). Turns: RunLemmas,
 -- EventLemmas, SlotTurnLemmas, TurnLemmas, ParcelLemmas. What a desk keeps stays as it has to be:
 -- Desks.
 pub mod ListLemmas
-pub mod UpdateLemmas
 pub mod PutLemmas
 pub mod SlotLemmas
 pub mod EndLemmas

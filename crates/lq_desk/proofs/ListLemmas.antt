@@ -4,8 +4,8 @@ use Rattle.std.specs.Prelude.{slice_get, slice_set, ◌⊎◌, ◌==◌, nat_lt,
 use Rattle.std.specs.List.{AllByRecursion}
 use Rattle.std.specs.Option.{option_flatten, option_map}
 use Rattle.std.proofs.lemmas.Bool.Decides.{nat_tests}
-use Rattle.std.proofs.lemmas.List.{get_or-set_same, length-set, set-get_or}
-use Rattle.std.proofs.lemmas.Option.{get_or_from_slice_get, slice_get_read}
+use Rattle.std.proofs.lemmas.List.{get_or-set_same, length-set}
+use Rattle.std.proofs.lemmas.Option.{slice_get_read}
 
 -- what is so of all is so of the one at a place
 pub all-get : {A : Type 0} (P : A → Type 0) (xs : List A) (i : ℕ) (x : A) → AllByRecursion P xs
@@ -49,12 +49,6 @@ get-seam [] y ys = refl
 get-seam (x ∷ xs) y ys = get-seam xs y ys
 
 -- ---- a list with one place written
-
--- what is at a place, written there again, leaves the list
-pub set-same : {A : Type 0} (xs : List A) (i : ℕ) (x : A) → slice_get xs i ≡ Some x
-    → slice_set xs i x ≡ xs
-set-same xs i x at =
-    ap (slice_set xs i) (sym (get_or_from_slice_get xs i x x at)) ∙ set-get_or xs i x
 
 -- what was written at a place within a list is there
 pub get-set : {A : Type 0} (xs : List A) (i : ℕ) (y : A) → i < length xs

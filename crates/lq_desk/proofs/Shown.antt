@@ -1,14 +1,13 @@
 -- What a desk keeps where a world stands does at each event what the world does.
-use Rattle.std.proofs.Common.{◌≡◌, ℕ, ◌+◌, ◌-◌, List, [], ◌∷◌, refl, ap, ◌∙◌, sym, arith, Some, None, Option, map, inl, inr}
+use Rattle.std.proofs.Common.{◌≡◌, ℕ, zero, suc, ◌+◌, ◌-◌, List, [], ◌∷◌, refl, ap, ◌∙◌, sym, arith, Some, None, Option, map, inl, inr}
 use Rattle.std.proofs.Math.Nat.{sub_self}
 use Rattle.std.specs.Option.{option_map}
-use Rattle.std.specs.List.{AllByRecursion}
 use Rattle.std.proofs.lemmas.List.{length-map, map-set}
 use Rattle.std.proofs.lemmas.Option.{slice_get-map}
 use Rattle.lq_value.specs.declared.refusal.Refusal.{Refusal}
 use Rattle.lq_predicate.specs.Query.{Query}
 use Rattle.lq_volume.specs.declared.change.Change.{Change as Change_}
-use Rattle.lq_volume.specs.Change.{refused as refused_by}
+use Rattle.lq_volume.specs.Change.{after, refused as refused_by}
 use Rattle.lq_volume.specs.Laws.{ChangesCount}
 use Rattle.lq_volume.specs.Book.{Book, grown, number_of, state_of}
 use Rattle.lq_update.specs.declared.open_options.OpenOptions.{OpenOptions}
@@ -21,15 +20,15 @@ use Rattle.lq_desk_world.specs.declared.event.Act.{Act}
 use Rattle.lq_desk_world.specs.declared.event.Act.TheVariants as act
 use Rattle.lq_desk_world.specs.Events.{Answer, Refused, changing, opening, opened_now, open_refusal, at_slot, acting, act_outcome, answer_to, next}
 use Rattle.lq_desk_world.specs.Runs.{MayRunOut, Step}
-use Rattle.lq_desk_world.specs.Fair.{IsFair, IsFairSlot, IsFairWorld}
+use Rattle.lq_desk_world.specs.Fair.{AreFair, IsFair, IsFairWorld}
 use Rattle.lq_desk_world.specs.Laws.{RefusalsLeaveWorlds, RunsKeepWorldsFair}
 use Rattle.lq_desk.specs.Slot.{KeptSlot, fresh_slot, slot_after}
 use Rattle.lq_desk.specs.Act.{act_of}
 use Rattle.lq_desk.specs.DeskState.{DeskState, Shows, KeptMayRunOut, KeptStep, kept_of, slot_for, kept_at, at_index, kept_act, opening_refusal, open_if, change_if, kept_outcome}
 use Rattle.lq_desk.specs.Turn.{stepped}
 use Rattle.lq_desk.specs.Laws.{KeptShowsWorlds}
-use Rattle.lq_desk.proofs.ListLemmas.{all-get, slot-there}
-use Rattle.lq_desk.proofs.UpdateLemmas.{after_all-append, number-all}
+use Rattle.lq_desk.proofs.ListLemmas.{slot-there}
+use Rattle.std.proofs.lemmas.List.Sums.{fold-append}
 use Rattle.lq_desk.proofs.EndLemmas.{act-same, change-same}
 
 -- ---- an event of one slot
@@ -59,7 +58,7 @@ refusal-same w port backlog =
 module _ (count : ChangesCount) where
   -- the number of the book's state is the book's
   numbered : (b : Book) → (state_of b).number ≡ number_of b
-  numbered b = number-all count b.start b.changes
+  numbered b = count b.start b.changes
 
   -- a slot as it is opened is what the new subscription leaves
   fresh-same : (w : World) (q : Query) (o : OpenOptions)
@@ -87,13 +86,17 @@ module _ (count : ChangesCount) where
   module _ (stay : UpdatesStay) (add : ChangesAddSteps) where
     -- a change leaves in each slot what the world's subscriptions leave after it
     changed-slots : (b : Book) (c : Change_) (os : List (Option Subscribed))
-        → AllByRecursion (IsFairSlot b) os
+        → AreFair b os
         → map (option_map (slot_after (state_of b) c)) (map (option_map (slot_for b)) os)
         ≡ map (option_map (slot_for (grown b (c ∷ [])))) (map (option_map (after_change b c)) os)
     changed-slots b c [] h = refl
-    changed-slots b c (None ∷ os) h = ap (λ ks. None ∷ ks) (changed-slots b c os h.1)
+    changed-slots b c (None ∷ os) h =
+        ap (λ ks. None ∷ ks) (changed-slots b c os (λ i. h (suc i)))
     changed-slots b c (Some s ∷ os) h =
-        cc (change-same stay add b c s h.0 (numbered b), changed-slots b c os h.1)
+        cc (
+          change-same stay add b c s (h zero s refl) (numbered b),
+          changed-slots b c os (λ i. h (suc i)),
+        )
 
     -- a change is answered alike
     changing-same : (w : World) (c : Change_) → IsFairWorld w → (r : Option Refusal)
@@ -101,8 +104,8 @@ module _ (count : ChangesCount) where
     changing-same w c fair (Some e) = refl
     changing-same w c fair None =
         rw (
-          changed-slots w.book c w.slots fair,
-          after_all-append w.book.start w.book.changes (c ∷ []),
+          changed-slots w.book c w.slots fair.each,
+          fold-append after w.book.start w.book.changes (c ∷ []),
           numbered w.book,
         )
 
@@ -126,8 +129,7 @@ module _ (count : ChangesCount) where
         by None is = refl
         by (Some s) is =
             let f : IsFair w.book s =
-            all-get (IsFairSlot w.book) w.slots (slot - 1) (Some s) fair
-            (slot-there w.slots slot s is) in
+            fair.each (slot - 1) s (slot-there w.slots slot s is) in
             rw (
               numbered w.book,
               act-same w.book a s f,

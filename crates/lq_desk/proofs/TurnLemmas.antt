@@ -4,6 +4,7 @@ use Rattle.std.specs.Prelude.{◌⊎◌, ◌==◌, slice_set}
 use Rattle.std.specs.Option.{option_map}
 use Rattle.std.proofs.lemmas.Bool.Decides.{nat_tests}
 use Rattle.std.proofs.lemmas.List.{length_push, set_at}
+use Rattle.std.proofs.lemmas.List.Sums.{fold-append}
 use Rattle.lq_value.specs.declared.refusal.Refusal.{Refusal}
 use Rattle.lq_value.specs.declared.refusal.Refusal.TheVariants.{NoMemory}
 use Rattle.lq_volume.specs.declared.change.Change.{Change as Change_}
@@ -24,7 +25,7 @@ use Rattle.lq_desk.proofs.ListLemmas.{get-seam, map-slots}
 use Rattle.lq_desk.proofs.PutLemmas.{noticed-keeps}
 use Rattle.lq_desk.proofs.RunLemmas.{run-along, run-join}
 use Rattle.lq_desk.proofs.Shown.{moves}
-use Rattle.lq_desk.proofs.EventLemmas.{after-join, at-slots, notice-taken, puts-taken}
+use Rattle.lq_desk.proofs.EventLemmas.{at-slots, notice-taken, puts-taken}
 use Rattle.lq_desk.proofs.SlotTurnLemmas.{close-events, read-events}
 
 -- ---- one slot after another
@@ -60,7 +61,7 @@ module _ (events : ℕ → ℕ → List Event) (f : KeptSlot → KeptSlot) (k : 
   each-does pre (x ∷ post) =
       let y = option_map f x in
       rw (
-        after-join kept_outcome (at (pre ++ x ∷ post))
+        fold-append (λ (k : DeskState) (e : Event). (kept_outcome k e).1) (at (pre ++ x ∷ post))
             (at_slot_of events (length pre + 1) (option_map slot_port x)) _,
         here pre x post,
       )
@@ -151,11 +152,6 @@ ports-same : (k : DeskState) (w : World) → Shows k w → kept_ports k ≡ port
 ports-same k w shows = ap kept_ports shows.kept
     ∙ map-slots (slot_for w.book) slot_port (λ (s : Subscribed). s.port) (λ s. refl) w.slots
 
--- a turn's event is the one that began it
-turn-event : (ports : List (Option ℕ)) (e : Event) → (turn_of ports e).event ≡ e
-turn-event ports (Take slot) = refl
-turn-event ports _ = refl
-
 -- where what is kept shows a world, and both answer alike
 module _ (alike : KeptShowsWorlds) where
   -- they show each other after many events
@@ -187,10 +183,9 @@ module _ (alike : KeptShowsWorlds) where
         → Shows k w → Went w e a l
     turn-went k l w e a done shows =
         let t = turn_of (ports_of w) e in
-        let same : kept_turn k e ≡ t =
-        ap (λ (ps : List (Option ℕ)). turn_of ps e) (ports-same k w shows) in
+        let same = ports-same k w shows in
         let step : KeptStep (kept_after k t.before) t.event a done.middle =
-        rw turn-event (rw same at done.step) in
+        rw same at done.step in
         let mid = after_events outcome w t.before in
         let to = stepped mid t.event a in
         let moved = moves alike law (kept_after k t.before) done.middle mid t.event a step

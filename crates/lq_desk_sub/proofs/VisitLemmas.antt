@@ -2,17 +2,12 @@
 use Rattle.std.proofs.Common.{◌≡◌, ◌≢◌, ℕ, zero, suc, List, [], ◌∷◌, Bool, true, false, Option, Some, None, refl, sym, ap, ◌∙◌, subst, slice_set, inl, inr}
 use Rattle.std.specs.Prelude.{slice_get, not, ◌&&◌}
 use Rattle.std.proofs.lemmas.Bool.{cases_eq, true≢false}
+use Rattle.std.proofs.lemmas.List.{get_or-set_same, length-set}
+use Rattle.std.proofs.lemmas.Option.{slice_get_read, slice_get_within}
 use Rattle.lq_desk_sub.specs.SlotSet.{has, IsTakenOut}
 use Rattle.lq_desk_sub.specs.Visits.{Visits}
 
--- what is written at a place is there
-set-here : {A : Type 0} (xs : List A) (i : ℕ) (x y : A) → slice_get xs i ≡ Some x
-    → slice_get (slice_set xs i y) i ≡ Some y
-set-here [] i x y at = absurd (let no : ⊥ = cc in no)
-set-here (z ∷ xs) zero x y at = refl
-set-here (z ∷ xs) (suc i) x y at = set-here xs i x y at
-
--- and another place is as it was
+-- another place than the one that is written is as it was
 set-other : {A : Type 0} (xs : List A) (i j : ℕ) (y : A) → j ≢ i
     → slice_get (slice_set xs i y) j ≡ slice_get xs j
 set-other [] i j y ne = refl
@@ -74,7 +69,10 @@ module _ {T S : Type 0} (allows : S → ℕ → T → Type 0) (did : S → ℕ �
               | inl e ↦ (
                 y,
                 ap (slice_get (slice_set ys place (Some y))) e
-                    ∙ set-here ys place (Some x) (Some y) at,
+                    ∙ slice_get_read (slice_set ys place (Some y)) _ place (Some y)
+                    (sym (length-set ys place (Some y))) (slice_get_within ys place (Some x) at)
+                    (sym (get_or-set_same ys place (Some y) (Some y)
+                    (slice_get_within ys place (Some x) at))),
                 (let at_i : slice_get xs place ≡ Some (Some z) = ap (slice_get xs) (sym e) ∙ was in
                     let one : x ≡ z = (let w = here-was in cc) in
                     subst (λ j. did u j z y) (sym e) (subst (λ v. did u place v y) one does)),

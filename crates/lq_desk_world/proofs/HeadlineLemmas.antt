@@ -1,7 +1,7 @@
 -- What the readers of a run are told, by its events and answers alone.
-use Rattle.std.proofs.Common.{◌≡◌, ℕ, zero, suc, ◌+◌, ◌-◌, ◌≤◌, List, [], ◌∷◌, ◌++◌, refl, ap, take, length, ◌∙◌, sym, subst, arith, append_assoc, length-append, Bool, drop}
+use Rattle.std.proofs.Common.{◌≡◌, ℕ, zero, suc, ◌+◌, ◌-◌, ◌≤◌, List, [], ◌∷◌, ◌++◌, refl, ap, take, drop, length, ◌∙◌, sym, subst, arith, append_assoc, length-append, Bool}
 use Rattle.std.proofs.lemmas.List.{take-append-drop}
-use Rattle.std.proofs.Math.Seq.{take-append_seam}
+use Rattle.std.proofs.Math.Seq.{drop-append-add, take-append-add, take-append_seam}
 use Rattle.lq_value.specs.declared.entry.Entry.{Entry}
 use Rattle.lq_predicate.specs.Query.{Query}
 use Rattle.lq_volume.specs.Result.{result_of}
@@ -11,7 +11,7 @@ use Rattle.lq_volume.specs.declared.change.Change.{Change as Change_}
 use Rattle.lq_volume.specs.Book.{Book, IsBook, after_all, grown, number_of, state_at, state_of}
 use Rattle.lq_update.specs.declared.open_options.Flags.{Flags}
 use Rattle.lq_update.specs.declared.message.Message.{Message}
-use Rattle.lq_update.specs.Updates.{updates_of}
+use Rattle.lq_update.specs.Updates.{updates_from, updates_of}
 use mathlib.Core.List.{IsPrefix}
 use Rattle.lq_update.specs.Fold.{folded}
 use Rattle.lq_update.specs.Laws.{ChangesAddSteps, FoldsGiveResults, UpdatesGrow, UpdatesStay, WholeFoldsGiveResults}
@@ -20,11 +20,12 @@ use Rattle.lq_desk_world.specs.declared.event.Event.{Event}
 use Rattle.lq_desk_world.specs.declared.event.Event.TheVariants.{Change}
 use Rattle.lq_desk_world.specs.Events.{Answer, Opened, Took, Ended}
 use Rattle.lq_desk_world.specs.Runs.{Run}
-use Rattle.lq_desk_world.specs.Headline.{reads_of, parcels_in, updates_among, updates_in, accepted_by, accepted, run_book, IsOpening, AreReads, OpeningsAreTold, ReadersAreTold, HasMark}
-use Rattle.lq_desk_world.proofs.WorldLemmas.{after_all-append, number-all, updates_of-rebased}
+use Rattle.lq_desk_world.specs.Headline.{reads_of, parcel_in, parcels_in, update_in, updates_among, updates_in, accepted_by, accepted, run_book, IsOpening, AreReads, OpeningsAreTold, ReadersAreTold, HasMark}
 use Rattle.lq_desk_world.proofs.ReadLemmas.{run-book, run-lawful}
-use Rattle.lq_desk_world.proofs.RunLemmas.{Ran, parcels_in-append, updates_among-append, has-mark, mark-place, prefix-more, updates-prefix, updates_among-take}
+use Rattle.lq_desk_world.proofs.RunLemmas.{Ran, has-mark, mark-place, prefix-more, updates-prefix, updates_among-take}
 use Rattle.std.specs.List.{AllByRecursion}
+use Rattle.std.proofs.lemmas.List.Sums.{fold-append}
+use Rattle.std.proofs.lemmas.List.Elements.{filter_map-append}
 use Rattle.lq_update.specs.declared.mark.Mark.{Mark}
 use Rattle.lq_update.specs.declared.parcel.Parcel.TheVariants.{Fin}
 use Rattle.lq_desk_world.proofs.SubLemmas.{updates_to, IsEnded}
@@ -110,7 +111,8 @@ ran-reads grow b s end i reads freed book none ran number lists =
           ∷ (parcels_in rest ++ drop t.taken (whole d t)) ≡ whole d t =
           sym (append_assoc (parcels_in front) (Fin m ∷ parcels_in rest) (drop t.taken (whole d t)))
           ∙ (ap (λ ps. ps ++ drop t.taken (whole d t))
-          (sym (parcels_in-append front (Took (Fin m) ∷ rest)) ∙ (ap parcels_in (sym is) ∙ given))
+          (sym (filter_map-append parcel_in front (Took (Fin m) ∷ rest))
+          ∙ (ap parcels_in (sym is) ∙ given))
           ∙ take-append-drop t.taken (whole d t)) in
           let place =
           mark-place (updates_due d t) (length (updates_due d t)) t.end
@@ -134,8 +136,8 @@ ran-reads grow b s end i reads freed book none ran number lists =
 
 -- the updates in answers and then in others are those in both together
 updates_in-append : (xs ys : List Answer) → updates_in (xs ++ ys) ≡ updates_in xs ++ updates_in ys
-updates_in-append xs ys = ap updates_among (parcels_in-append xs ys)
-    ∙ updates_among-append (parcels_in xs) (parcels_in ys)
+updates_in-append xs ys = ap updates_among (filter_map-append parcel_in xs ys)
+    ∙ filter_map-append update_in (parcels_in xs) (parcels_in ys)
 
 -- the updates of a front of the reads are a prefix too
 front-prefix : (front rest reads : List Answer) (us : List Message)
@@ -174,8 +176,28 @@ state-after s early late n is =
     ap (λ i. after_all s (take i (early ++ late))) k
     ∙ ap (after_all s) (take-append_seam early late)
 
-module _ (stay : UpdatesStay) (add : ChangesAddSteps) (grow : UpdatesGrow) (count : ChangesCount) (fold : FoldsGiveResults)
-    (fold_all : WholeFoldsGiveResults) where
+-- from a number at or past the book's end, a list goes by
+-- the state there and the later changes alone
+pub updates_of-rebased : ChangesCount
+    → (q : Query) (flags : Flags) (b : Book) (cs : List Change_) (m n : ℕ) → number_of b ≤ m
+    → updates_of q flags (grown b cs) m n
+    ≡ updates_of q flags (record { start = state_of b; changes = cs }) m n
+updates_of-rebased count q flags b cs m n past =
+    let j = m - (state_of b).number in
+    let k = m - b.start.number in
+    let at : k ≡ length b.changes + j = omega (arith, count b.start b.changes) in
+    ap (λ i. updates_from q flags (after_all b.start (take i (b.changes ++ cs)))
+    (take (n - m) (drop i (b.changes ++ cs))) 1) at
+    ∙ (ap (λ ds. updates_from q flags (after_all b.start ds)
+    (take (n - m) (drop (length b.changes + j) (b.changes ++ cs))) 1)
+    (take-append-add b.changes cs j)
+    ∙ (ap (λ ds. updates_from q flags (after_all b.start (b.changes ++ take j cs))
+    (take (n - m) ds) 1) (drop-append-add b.changes cs j)
+    ∙ ap (λ s. updates_from q flags s (take (n - m) (drop j cs)) 1)
+    (fold-append _ b.start b.changes (take j cs))))
+
+module _ (stay : UpdatesStay) (add : ChangesAddSteps) (grow : UpdatesGrow) (count : ChangesCount)
+    (fold : FoldsGiveResults) (fold_all : WholeFoldsGiveResults) where
   -- what a run's openings and reads are answered, from any world whose book leads to the state
   openings-told : (w end : World) (events : List Event) (answers : List Answer)
       → Run w events answers end → OpeningsAreTold (state_of w.book) events answers
@@ -199,7 +221,7 @@ module _ (stay : UpdatesStay) (add : ChangesAddSteps) (grow : UpdatesGrow) (coun
       ∙ (ap (accepted (before ++ e ∷ after)) told
       ∙ (accepted-append before (e ∷ after) befores (Opened slot at first ∷ afters) same
       ∙ ap (λ xs. early ++ (xs ++ late)) (accepted-opened e slot at first))) in
-      let counted = number-all count w.book.start w.book.changes in
+      let counted = count w.book.start w.book.changes in
       let number : number_of end.book ≡ number_of b =
       omega (arith, ap number_of all, length-append w.book.changes cs, counted) in
       let at_number : at ≡ start.number + length early =
@@ -208,7 +230,7 @@ module _ (stay : UpdatesStay) (add : ChangesAddSteps) (grow : UpdatesGrow) (coun
       let within : at ≤ number_of b =
       omega (arith, at_number, ap length both, length-append early late) in
       let then : state_of mid.book ≡ after_all start early =
-      ap state_of here ∙ after_all-append w.book.start w.book.changes early in
+      ap state_of here ∙ fold-append _ w.book.start w.book.changes early in
       let state : state_of mid.book ≡ state_at b at =
       then ∙ (sym (state-after start early late at at_number)
       ∙ ap (λ ds. state_at (record { start = start; changes = ds }) at) (sym both)) in

@@ -1,7 +1,6 @@
--- Lists: their fronts, their places, and what holds of all of them.
+-- Lists: their fronts and their places.
 use Rattle.std.proofs.Common.{◌≡◌, ◌≢◌, ℕ, zero, suc, ◌+◌, ◌≤◌, List, [], ◌∷◌, ◌++◌, refl, ap, take, length, arith, add-one, Some, map}
 use Rattle.std.specs.Prelude.{Bool, true, false, slice_get, slice_set}
-use Rattle.std.specs.List.{AllByRecursion}
 
 -- ---- places
 
@@ -50,34 +49,6 @@ take-suc_more (y ∷ xs) (suc i) x h =
 pub take-one_more : {A : Type 0} (xs : List A) (i : ℕ) (x : A) → slice_get xs i ≡ Some x
     → (take (i + 1) xs ≡ take i xs ++ x ∷ []) × (i + 1 ≤ length xs)
 take-one_more xs i x h = rw add-one (take-suc_more xs i x h)
-
--- ---- what holds of all of a list
-
--- what holds of all of two lists holds of both together
-pub all-append : {A : Type 0} (P : A → Type 0) (xs ys : List A)
-    → AllByRecursion P xs → AllByRecursion P ys → AllByRecursion P (xs ++ ys)
-all-append P [] ys h g = g
-all-append P (x ∷ xs) ys h g = (h.0, all-append P xs ys h.1 g)
-
--- what holds of all holds of the member at a place
-pub all-get : {A : Type 0} (P : A → Type 0) (xs : List A) (i : ℕ) (x : A)
-    → AllByRecursion P xs → slice_get xs i ≡ Some x → P x
-all-get P [] i x h at = absurd (let no : ⊥ = cc in no)
-all-get P (y ∷ xs) zero x h at = let same : y ≡ x = cc in rw same at h.0
-all-get P (y ∷ xs) (suc i) x h at = all-get P xs i x h.1 at
-
--- what holds of all, and of what is set, holds of all after that
-pub all-set : {A : Type 0} (P : A → Type 0) (xs : List A) (i : ℕ) (y : A)
-    → AllByRecursion P xs → P y → AllByRecursion P (slice_set xs i y)
-all-set P [] i y h p = tt
-all-set P (x ∷ xs) zero y h p = (p, h.1)
-all-set P (x ∷ xs) (suc i) y h p = (h.0, all-set P xs i y h.1 p)
-
--- what follows from what holds of all holds of all of a mapped list
-pub all-map : {A B : Type 0} (P : A → Type 0) (Q : B → Type 0) (f : A → B) (xs : List A)
-    → ((x : A) → P x → Q (f x)) → AllByRecursion P xs → AllByRecursion Q (map f xs)
-all-map P Q f [] keeps h = tt
-all-map P Q f (x ∷ xs) keeps h = (keeps x h.0, all-map P Q f xs keeps h.1)
 
 -- ---- tests
 

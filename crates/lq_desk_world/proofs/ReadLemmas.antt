@@ -21,7 +21,7 @@ use Rattle.lq_desk_world.specs.Runs.{Step, Run}
 use Rattle.lq_desk_world.specs.Fair.{IsFair}
 use Rattle.lq_desk_world.specs.Headline.{read_by, frees, accepted_by, accepted}
 use Rattle.lq_desk_world.proofs.ListLemmas.{slice_get-set_here, slice_get-set_other}
-use Rattle.lq_desk_world.proofs.WorldLemmas.{after_all-append}
+use Rattle.std.proofs.lemmas.List.Sums.{fold-append}
 use Rattle.lq_desk_world.proofs.SubLemmas.{IsOver, Reads, after_change-taken, keeps-change}
 use Rattle.lq_desk_world.proofs.TakenLemmas.{reads-nothing, reads-self, taken_within}
 use Rattle.lq_desk_world.proofs.StepLemmas.{act-apart, acting-passes, frees-refused, step-cases}
@@ -82,7 +82,7 @@ run-lawful w end [] [] run = tt
 run-lawful w end (e ∷ events) (a ∷ answers) run =
     let adds = step-adds w e a run.0 run.1 in
     let there : state_of run.0.book ≡ after_all (state_of w.book) (accepted_by e a) =
-    ap state_of adds.0 ∙ after_all-append w.book.start w.book.changes (accepted_by e a) in
+    ap state_of adds.0 ∙ fold-append after w.book.start w.book.changes (accepted_by e a) in
     are-lawful-append (state_of w.book) (accepted_by e a) (accepted events answers) adds.1
     (subst (λ (s : State). AreLawful s (accepted events answers)) there
     (run-lawful run.0 end events answers run.2))

@@ -21,7 +21,8 @@ use Rattle.lq_desk_world.specs.Runs.{Run}
 use Rattle.lq_desk_world.specs.Fair.{IsFair}
 use Rattle.lq_desk_world.specs.Headline.{read_by, reads_of, parcel_in, parcels_in, updates_among, accepted, HasMark}
 use Rattle.lq_desk_world.specs.PassedOn.{is_freed}
-use Rattle.lq_desk_world.proofs.ListLemmas.{each_bool, all-append}
+use Rattle.std.proofs.lemmas.List.Elements.{All-append, All-from_recursion, filter_map-append, recursion_from_All}
+use Rattle.lq_desk_world.proofs.ListLemmas.{each_bool}
 use Rattle.lq_desk_world.proofs.SubLemmas.{parcels, IsSame, IsOver, IsEnded, Reads, keeps-ended}
 use Rattle.lq_desk_world.proofs.TakenLemmas.{reads-nothing, reads-self, taken_within}
 use Rattle.lq_desk_world.proofs.ReadLemmas.{Stands, run-book, step-goes}
@@ -67,13 +68,6 @@ ran-nothing b s end i t freed r here gone = record {
   gone = gone;
 }
 
--- the parcels in answers and then in others are those in both together
-pub parcels_in-append : (xs ys : List Answer)
-    → parcels_in (xs ++ ys) ≡ parcels_in xs ++ parcels_in ys
-parcels_in-append [] ys = refl
-parcels_in-append (x ∷ xs) ys = ap (λ ps. parcel_in x ++ ps) (parcels_in-append xs ys)
-    ∙ sym (append_assoc (parcel_in x) (parcels_in xs) (parcels_in ys))
-
 -- all that is told of one that has ended ends with the mark
 over-marked : (b : Book) (s : Subscribed) → IsOver b s → IsMarked (take s.taken (whole b s) ++ [])
 over-marked b s o =
@@ -111,7 +105,9 @@ ran-more b c s t end i xs ys freed few r ran = record {
   same = ran.same ∙ r.keeps.same;
   fair = ran.fair;
   front = onward ys ∙ ran.front;
-  over = λ o. let first = r.over o in all-append IsEnded xs ys first.1 (ran.over first.0);
+  over = λ o. let first = r.over o in
+      recursion_from_All IsEnded (xs ++ ys) (All-append IsEnded xs ys
+      (All-from_recursion IsEnded xs first.1) (All-from_recursion IsEnded ys (ran.over first.0)));
   marked = λ front rest m is. elim (split xs ys front rest (Took (Fin m)) few is) [
     | inl one ↦ subst (λ (zs : List Answer). AllByRecursion IsEnded zs) one.2
         (ran.over (r.marked m one.0))
@@ -134,7 +130,7 @@ ran-more b c s t end i xs ys freed few r ran = record {
 
     onward : (zs : List Answer)
         → told ++ parcels_in (xs ++ zs) ≡ take t.taken (whole c t) ++ parcels_in zs
-    onward zs = ap (λ ps. told ++ ps) (parcels_in-append xs zs)
+    onward zs = ap (λ ps. told ++ ps) (filter_map-append parcel_in xs zs)
         ∙ (sym (append_assoc told (parcels_in xs) (parcels_in zs))
         ∙ ap (λ ps. ps ++ parcels_in zs) r.front)
 
@@ -172,13 +168,6 @@ module _ (stay : UpdatesStay) (add : ChangesAddSteps) where
   run-ran w i s events answers end h run = absurd run
 
 -- ---- from parcels to updates
-
--- the updates among parcels and then others are those among both together
-pub updates_among-append : (xs ys : List Parcel)
-    → updates_among (xs ++ ys) ≡ updates_among xs ++ updates_among ys
-updates_among-append [] ys = refl
-updates_among-append (Update m ∷ xs) ys = ap (λ ms. m ∷ ms) (updates_among-append xs ys)
-updates_among-append (Fin mark ∷ xs) ys = updates_among-append xs ys
 
 -- the updates of a front of a list are a front of its updates
 pub updates_among-take : (us : List Message) (n k : ℕ) (o : Option Ending)

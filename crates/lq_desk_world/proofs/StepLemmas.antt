@@ -1,7 +1,7 @@
 -- A step by its cases: it is refused, a change, an opening, or an act at a taken slot. What each
 -- leaves: a refused event the world, each step a fair world fair.
-use Rattle.std.proofs.Common.{◌≡◌, ◌≢◌, ℕ, ◌+◌, ◌-◌, [], ◌∷◌, refl, ap, ◌∙◌, sym, subst, arith, Some, None, Option, inl, inr, Bool, true, false, ◌≤◌, ◌<◌, length}
-use Rattle.std.specs.Prelude.{slice_get, ◌⊎◌, ◌==◌, if◌then◌else◌, ◌&&◌, not, nat_le}
+use Rattle.std.proofs.Common.{◌≡◌, ◌≢◌, ℕ, zero, suc, ◌+◌, ◌-◌, List, [], ◌∷◌, map, refl, ap, ◌∙◌, sym, subst, arith, Some, None, Option, inl, inr, Bool, true, false, ◌≤◌, ◌<◌, length}
+use Rattle.std.specs.Prelude.{slice_get, slice_set, replicate, ◌⊎◌, ◌==◌, if◌then◌else◌, ◌&&◌, not, nat_le}
 use Rattle.std.specs.Option.{option_flatten, option_map}
 use Rattle.std.proofs.Math.Nat.{sub_self}
 use Rattle.std.proofs.lemmas.Bool.Decides.{nat_tests}
@@ -18,7 +18,7 @@ use Rattle.lq_desk_world.specs.declared.event.Act.{Act}
 use Rattle.lq_desk_world.specs.declared.event.Act.TheVariants as act
 use Rattle.lq_desk_world.specs.Events.{Answer, Finished, Refused, acting, at_slot, changing, event_at, finishing_if, open_refusal, opened_now, opening, outcome, read_outcome, putting_if, reading_if, noticing_if, closing_if}
 use Rattle.lq_desk_world.specs.Runs.{Step}
-use Rattle.lq_desk_world.specs.Fair.{IsFair, IsFairSlot, IsFairWorld}
+use Rattle.lq_desk_world.specs.Fair.{AreFair, IsFair, IsFairWorld}
 use Rattle.lq_desk_world.specs.Headline.{read_by, frees}
 use Rattle.lq_desk_world.proofs.SubLemmas.{IsOver, Leaves, keeps-self, over-from, keeps-change}
 use Rattle.lq_desk_world.proofs.TakenLemmas.{closing-leaves, hanging_up-leaves, leaves, noticing-leaves, putting-leaves, reading-leaves}
@@ -27,7 +27,7 @@ use Rattle.lq_update.specs.declared.open_options.OpenOptions.{OpenOptions}
 use Rattle.lq_update.specs.Options.{options_of}
 use Rattle.lq_update.specs.declared.parcel.Parcel.{Parcel}
 use Rattle.lq_desk_world.specs.Laws.{RefusalsLeaveWorlds, RunsKeepWorldsFair}
-use Rattle.lq_desk_world.proofs.ListLemmas.{each_bool, slice_set-same, all-get, all-set, all-map}
+use Rattle.lq_desk_world.proofs.ListLemmas.{each_bool, slice_set-same}
 use Rattle.std.proofs.lemmas.Bool.{and_parts, leb-false, leb-true}
 use Rattle.lq_value.specs.Refusal.{first_refusal}
 use Rattle.lq_update.specs.Updates.{updates_of}
@@ -263,33 +263,64 @@ opened-fair w q o may = record {
   held = λ live. omega (arith, ap length (nothing_told q o.flags w.book (number_of w.book)));
 }
 
+-- a slot's subscription is fair, if it has one
+abbrev IsFairSlot : Book → Option Subscribed → Type 0
+IsFairSlot b o = (s : Subscribed) → o ≡ Some s → IsFair b s
+
+fair-slot : (b : Book) (s : Subscribed) → IsFair b s → IsFairSlot b (Some s)
+fair-slot b s h t is = subst (IsFair b) (let same : s ≡ t = cc in same) h
+
 -- an act leaves a fair slot fair
 acting-fair : (b : Book) (s : Subscribed) (a : Act) → IsFair b s → IsFairSlot b (acting b a s).1
 acting-fair b s a h = elim (acting-passes b s 1 a h) [
-  | inl gone ↦ subst (λ (o : Option Subscribed). IsFairSlot b o) (sym gone.2) tt
-  | inr left ↦ subst (λ (o : Option Subscribed). IsFairSlot b o) (sym left.1.is)
-      left.1.does.keeps.fair
+  | inl gone ↦ subst (IsFairSlot b) (sym gone.2) (λ t is. cc)
+  | inr left ↦ subst (IsFairSlot b) (sym left.1.is) (fair-slot b _ left.1.does.keeps.fair)
 ]
+
+-- fair slots of which one is made another fair one are fair
+set-fair : (b : Book) (slots : List (Option Subscribed)) (i : ℕ) (o : Option Subscribed)
+    → AreFair b slots → IsFairSlot b o → AreFair b (slice_set slots i o)
+set-fair b [] i o h own j s at = cc
+set-fair b (x ∷ xs) zero o h own zero s at = own s (let same : o ≡ Some s = cc in same)
+set-fair b (x ∷ xs) zero o h own (suc j) s at = h (suc j) s at
+set-fair b (x ∷ xs) (suc i) o h own zero s at = h zero s at
+set-fair b (x ∷ xs) (suc i) o h own (suc j) s at =
+    set-fair b xs i o (λ k. h (suc k)) own j s at
+
+-- free slots are fair
+pub free-fair : (b : Book) (n : ℕ) → AreFair b (replicate n None)
+free-fair b zero i s at = cc
+free-fair b (suc n) zero s at = cc
+free-fair b (suc n) (suc i) s at = free-fair b n i s at
 
 module _ (stay : UpdatesStay) (add : ChangesAddSteps) where
   -- a change leaves each slot fair
-  changed-fair : (b : Book) (c : Change_) (o : Option Subscribed) → IsFairSlot b o
-      → IsFairSlot (grown b (c ∷ [])) (option_map (after_change b c) o)
-  changed-fair b c None h = tt
-  changed-fair b c (Some s) h = (keeps-change stay add b c s h).fair
+  changed-fair : (b : Book) (c : Change_) (slots : List (Option Subscribed)) → AreFair b slots
+      → AreFair (grown b (c ∷ [])) (map (option_map (after_change b c)) slots)
+  changed-fair b c [] h i t at = cc
+  changed-fair b c (None ∷ slots) h zero t at = cc
+  changed-fair b c (Some s ∷ slots) h zero t at =
+      fair-slot (grown b (c ∷ [])) (after_change b c s)
+      (keeps-change stay add b c s (h zero s refl)).fair t
+      (let same : Some (after_change b c s) ≡ Some t = cc in same)
+  changed-fair b c (o ∷ slots) h (suc i) t at = changed-fair b c slots (λ j. h (suc j)) i t at
 
   -- each step leaves a fair world fair
   step-fair : (w : World) (e : Event) (a : Answer) (v : World) → IsFairWorld w → Step w e a v
       → IsFairWorld v
   step-fair w e a v h = step-cases w (λ e a v. IsFairWorld v) (λ e r none. h)
-      (λ c none. all-map (IsFairSlot w.book) (IsFairSlot (grown w.book (c ∷ [])))
-      (option_map (after_change w.book c)) w.slots (changed-fair w.book c) h)
-      (λ q port backlog moved none. all-set (IsFairSlot w.book) w.slots _ _ h
-      (opened-fair w q (options_of port backlog moved) (may_open w port backlog none)))
-      (λ q o none. all-set (IsFairSlot w.book) w.slots _ _ h
-      (opened-fair w q o (may_open w o.port o.backlog none)))
-      (λ i x s at. all-set (IsFairSlot w.book) w.slots i _ h
-      (acting-fair w.book s x (all-get (IsFairSlot w.book) w.slots i (Some s) h at))) e a v
+      (λ c none. record { each = changed-fair w.book c w.slots h.each })
+      (λ q port backlog moved none. record {
+        each = set-fair w.book w.slots _ _ h.each (fair-slot w.book _
+            (opened-fair w q (options_of port backlog moved) (may_open w port backlog none)));
+      })
+      (λ q o none. record {
+        each = set-fair w.book w.slots _ _ h.each (fair-slot w.book _
+            (opened-fair w q o (may_open w o.port o.backlog none)));
+      })
+      (λ i x s at. record {
+        each = set-fair w.book w.slots i _ h.each (acting-fair w.book s x (h.each i s at));
+      }) e a v
 
   -- each event leaves a fair world fair
   pub outcome-fair : (w : World) (e : Event) → IsFairWorld w → IsFairWorld (outcome w e).1

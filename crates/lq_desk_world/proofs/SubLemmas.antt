@@ -22,7 +22,10 @@ use Rattle.lq_desk_world.specs.Events.{Answer, Took, Ended}
 use Rattle.lq_desk_world.specs.Fair.{IsFair}
 use Rattle.lq_desk_world.specs.Headline.{parcels_in}
 use Rattle.lq_desk_world.proofs.ListLemmas.{each_bool}
-use Rattle.lq_desk_world.proofs.WorldLemmas.{number-grown}
+
+-- one more change has the next number
+pub number-grown : (b : Book) (c : Change_) → number_of (grown b (c ∷ [])) ≡ number_of b + 1
+number-grown b c = omega (arith, length-append b.changes (c ∷ []))
 
 -- what a subscription keeps from its opening on
 abbrev pub opening_of : Subscribed → Query × Flags × ℕ × ℕ
@@ -144,8 +147,8 @@ keeps-end b s cause h live =
     }
 
 -- changes keep what a subscription that has ended was told
-pub keeps-ended : UpdatesStay → (b : Book) (cs : List Change_) (s : Subscribed) (e : Ending) → IsFair b s
-    → s.end ≡ Some e
+pub keeps-ended : UpdatesStay → (b : Book) (cs : List Change_) (s : Subscribed) (e : Ending)
+    → IsFair b s → s.end ≡ Some e
     → Keeps b s (grown b cs) s
 keeps-ended stay b cs s e h is =
     let to : covered b s ≡ e.change = ap (covered_by b) is in
@@ -267,7 +270,8 @@ module _ (stay : UpdatesStay) (add : ChangesAddSteps) where
           held = λ is.
               let list : s.put ≤ length us = omega
               (arith, h.put, ap length (whole-live b s live), length-map us (λ m. Update m)) in
-              fits (waiting_count b s) (news b c s) (waiting_count d s) s.backlog room (h.held is) (omega (
+              fits (waiting_count b s) (news b c s) (waiting_count d s) s.backlog room (h.held is)
+              (omega (
                 arith,
                 before,
                 after,

@@ -1,7 +1,8 @@
 -- The puts of a turn are puts until nothing moves, and so they fill the ports.
-use Rattle.std.proofs.Common.{◌≡◌, ◌≢◌, ℕ, zero, suc, ◌+◌, ◌-◌, ◌≤◌, ◌<◌, List, [], ◌∷◌, ◌++◌, refl, ap, sym, subst, arith, ◌∙◌, Some, None, Option, Bool, true, false, map, inl, inr}
+use Rattle.std.proofs.Common.{◌≡◌, ◌≢◌, ℕ, zero, suc, ◌+◌, ◌-◌, ◌≤◌, ◌<◌, List, [], ◌∷◌, refl, ap, sym, subst, arith, ◌∙◌, Some, None, Option, Bool, true, false, map, inl, inr}
 use Rattle.std.specs.Prelude.{◌⊎◌, slice_get, ◌==◌, if◌then◌else◌}
 use Rattle.std.specs.List.{AllByRecursion}
+use Rattle.std.proofs.lemmas.List.Sums.{fold-append}
 use Rattle.std.specs.Option.{option_flatten, option_map}
 use Rattle.std.proofs.lemmas.Bool.{and_parts, cases_eq, ltb-true}
 use Rattle.std.proofs.lemmas.Option.{slice_get-map}
@@ -17,9 +18,9 @@ use Rattle.lq_desk_world.specs.declared.event.Act.{Act}
 use Rattle.lq_desk_world.specs.declared.event.Act.TheVariants as act
 use Rattle.lq_desk_world.specs.Events.{Answer, Moved, Refused, acting, answer_to, at_slot, event_at, next, outcome, putting, putting_if}
 use Rattle.lq_desk_world.specs.Turns.{after_events, at_each, notices, one_notice, places_at, places_in, ports_of, put_events, turn_of, turn_outcome}
-use Rattle.lq_desk_world.specs.Fair.{IsFairSlot, IsFairWorld}
+use Rattle.lq_desk_world.specs.Fair.{AreFair, IsFairWorld}
 use Rattle.lq_desk_world.specs.Laws.{EachUntilStill, IsStill, PutsThenStill, PutsUntilStill, TurnsFillPorts, TurnsPutUntilStill}
-use Rattle.lq_desk_world.proofs.ListLemmas.{all-get, each_bool, map-set_same, slice_get-set_here, slice_get-set_other, slice_set-same}
+use Rattle.lq_desk_world.proofs.ListLemmas.{each_bool, map-set_same, slice_get-set_here, slice_get-set_other, slice_set-same}
 use Rattle.lq_desk_world.proofs.SubLemmas.{keeps-change}
 use Rattle.lq_desk_world.proofs.StepLemmas.{ReadsNothing, acting-passes, at-index, outcome-cases, slot-index, outcome-fair}
 
@@ -71,7 +72,7 @@ put-taken w i s true is at =
     inr (
       refl,
       λ fair.
-          let order = (all-get (IsFairSlot w.book) w.slots i (Some s) fair at).taken in
+          let order = (fair.each i s at).taken in
           omega (arith, ap gap_in before, ap gap_in after, room, order),
       refl,
       λ j ne. set-other w i j _ ne,
@@ -218,12 +219,6 @@ puts-keep : (k n : ℕ) → AllByRecursion Stays (put_events k n)
 puts-keep k zero = tt
 puts-keep k (suc n) = (tt, puts-keep k n)
 
--- events and then others lead to where the others lead from there
-after_events-append : (w : World) (xs ys : List Event)
-    → after_events outcome w (xs ++ ys) ≡ after_events outcome (after_events outcome w xs) ys
-after_events-append w [] ys = refl
-after_events-append w (x ∷ xs) ys = after_events-append (next w x) xs ys
-
 -- the world after the notices and the change of a turn
 abbrev changed_world : World → Change_ → World
 changed_world w c = next (after_events outcome w (notices (ports_of w))) (Change c)
@@ -231,23 +226,24 @@ changed_world w c = next (after_events outcome w (notices (ports_of w))) (Change
 module _ (stay : UpdatesStay) (add : ChangesAddSteps) where
   -- a change leaves the ports
   changed-ports : (b : Book) (c : Change_) (slots : List (Option Subscribed))
-      → AllByRecursion (IsFairSlot b) slots
+      → AreFair b slots
       → map (option_map (λ s. s.port)) (map (option_map (after_change b c)) slots)
       ≡ map (option_map (λ s. s.port)) slots
   changed-ports b c [] fair = refl
-  changed-ports b c (None ∷ slots) fair = ap (λ ps. None ∷ ps) (changed-ports b c slots fair.1)
+  changed-ports b c (None ∷ slots) fair =
+      ap (λ ps. None ∷ ps) (changed-ports b c slots (λ i. fair (suc i)))
   changed-ports b c (Some s ∷ slots) fair =
-      let port = ap (λ l. l.3) (keeps-change stay add b c s fair.0).same in
-      let rest = changed-ports b c slots fair.1 in
+      let port = ap (λ l. l.3) (keeps-change stay add b c s (fair zero s refl)).same in
+      let rest = changed-ports b c slots (λ i. fair (suc i)) in
       cc
 
   -- an event that opens and frees no slot leaves the ports
   event-ports : (w : World) (e : Event) → IsFairWorld w → Stays e → ports_of (next w e) ≡ ports_of w
   event-ports w e fair = outcome-cases w (λ e a v. Stays e → ports_of v ≡ ports_of w)
-      (λ e r none stays. refl) (λ c none stays. changed-ports w.book c w.slots fair)
+      (λ e r none stays. refl) (λ c none stays. changed-ports w.book c w.slots fair.each)
       (λ q port backlog moved none stays. absurd stays) (λ q o none stays. absurd stays)
       (λ i a s at stays.
-      elim (acting-passes w.book s 1 a (all-get (IsFairSlot w.book) w.slots i (Some s) fair at)) [
+      elim (acting-passes w.book s 1 a (fair.each i s at)) [
         | inl gone ↦ absurd (subst (λ x. Stays (event_at (i + 1) x)) gone.1 stays)
         | inr left ↦ map-set_same (option_map (λ (t : Subscribed). t.port)) w.slots i (Some s) _ at
             (ap (option_map (λ (t : Subscribed). t.port)) left.1.is
@@ -308,7 +304,8 @@ module _ (stay : UpdatesStay) (add : ChangesAddSteps) where
         until-still p w (m + 1) fair
             (omega (arith, ap gap_in (at-index w m), gap-places w.slots m, places)),
         subst (λ v. EachUntilStill (m + 1 + 1) ports u v)
-            (sym (after_events-append w (put_events (m + 1) p) (at_each put_events (m + 1 + 1) ports))) rest,
+            (sym (fold-append next w (put_events (m + 1) p) (at_each put_events (m + 1 + 1) ports)))
+            rest,
       )
 
   -- the puts of a turn are puts until nothing moves

@@ -1,6 +1,5 @@
 -- The invariants of each subscription in a world that runs.
-use Rattle.std.specs.Prelude.{◌≡◌, ◌+◌, ◌≤◌, length, true, Option, Some, None}
-use Rattle.std.specs.List.{AllByRecursion}
+use Rattle.std.specs.Prelude.{◌≡◌, ◌+◌, ◌≤◌, ℕ, List, length, true, Option, Some, slice_get}
 use Rattle.lq_volume.specs.Book.{Book, number_of}
 use Rattle.lq_desk_world.specs.World.{World, Subscribed, covered, whole, waiting_count, is_live}
 
@@ -21,9 +20,9 @@ pub record IsFair (b : Book) (s : Subscribed) : Type 0 where
   -- while it is live, at most its backlog is held
   pub held : is_live s ≡ true → waiting_count b s ≤ s.backlog
 
-abbrev pub IsFairSlot : Book → Option Subscribed → Type 0
-IsFairSlot b None = Unit {0}
-IsFairSlot b (Some s) = IsFair b s
+-- each subscription in the slots is fair
+abbrev pub AreFair : Book → List (Option Subscribed) → Type 0
+AreFair b slots = (i : ℕ) (s : Subscribed) → slice_get slots i ≡ Some (Some s) → IsFair b s
 
-abbrev pub IsFairWorld : World → Type 0
-IsFairWorld w = AllByRecursion (IsFairSlot w.book) w.slots
+pub record IsFairWorld (w : World) : Type 0 where
+  pub each : AreFair w.book w.slots

@@ -1,6 +1,6 @@
 -- What the events and answers of a run say about each subscription that they open.
-use Rattle.std.specs.Prelude.{◌≡◌, ℕ, ◌+◌, ◌≤◌, List, [], ◌∷◌, ◌++◌, length, take, Bool, false, Some, ◌==◌, if◌then◌else◌}
-use Rattle.std.specs.List.{AllByRecursion}
+use Rattle.std.specs.Prelude.{◌≡◌, ℕ, ◌+◌, ◌≤◌, List, [], ◌∷◌, ◌++◌, length, take, Bool, false, Option, Some, None, ◌==◌, if◌then◌else◌}
+use Rattle.std.specs.List.{AllByRecursion, filter_map}
 use Rattle.lq_value.specs.declared.entry.Entry.{Entry}
 use Rattle.lq_predicate.specs.Query.{Query}
 use Rattle.lq_volume.specs.declared.change.Change.{Change as Change_}
@@ -37,18 +37,19 @@ reads_of slot (e ∷ events) (a ∷ answers) =
     if frees slot e a then [] else read_by slot e a ++ reads_of slot events answers
 
 -- the parcels, and the updates, in these answers
-abbrev pub parcel_in : Answer → List Parcel
-parcel_in (Took p) = p ∷ []
-parcel_in a = []
+abbrev pub parcel_in : Answer → Option Parcel
+parcel_in (Took p) = Some p
+parcel_in a = None
 
 abbrev pub parcels_in : List Answer → List Parcel
-parcels_in [] = []
-parcels_in (a ∷ answers) = parcel_in a ++ parcels_in answers
+parcels_in answers = filter_map parcel_in answers
+
+abbrev pub update_in : Parcel → Option Message
+update_in (Update m) = Some m
+update_in (Fin mark) = None
 
 abbrev pub updates_among : List Parcel → List Message
-updates_among [] = []
-updates_among (Update m ∷ parcels) = m ∷ updates_among parcels
-updates_among (Fin mark ∷ parcels) = updates_among parcels
+updates_among parcels = filter_map update_in parcels
 
 abbrev pub updates_in : List Answer → List Message
 updates_in answers = updates_among (parcels_in answers)

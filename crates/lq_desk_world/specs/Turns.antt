@@ -1,5 +1,6 @@
 -- The list of events of one turn: an event, and the steps that a server adds by itself.
 use Rattle.std.specs.Prelude.{ℕ, ◌+◌, ◌-◌, List, [], ◌∷◌, ◌++◌, map, replicate, Option, Some, None, ◌==◌, slice_get, if◌then◌else◌}
+use Rattle.std.specs.List.{fold}
 use Rattle.std.specs.Option.{option_map, option_flatten}
 use Rattle.lq_desk_world.specs.World.{World}
 use Rattle.lq_desk_world.specs.declared.event.Event.{Event}
@@ -53,23 +54,25 @@ pub record Turn : Type 0 where
   pub event : Event
   pub after : List Event
 
--- Before a change come all notices; after it every port is filled. A read and a close come after
--- the notice of their slot; its port is filled before the read and after the close. Any other event
--- comes alone. To fill a port is to put until nothing moves (`PutsUntilStill` of `Laws`).
+-- Before a change come all notices. A read and a close come after the notice of their slot, and a
+-- read after its port is filled. To fill a port is to put until nothing moves (`PutsUntilStill` of
+-- `Laws`).
+abbrev pub steps_before : List (Option ℕ) → Event → List Event
+steps_before ports (Change c) = notices ports
+steps_before ports (Take slot) = Notice slot ∷ put_events slot (places_at ports slot)
+steps_before ports (Close slot) = Notice slot ∷ []
+steps_before ports e = []
+
+-- After a change every port is filled, and after a close the port of its slot.
+abbrev pub steps_after : List (Option ℕ) → Event → List Event
+steps_after ports (Change c) = all_puts ports
+steps_after ports (Close slot) = put_events slot (places_at ports slot)
+steps_after ports e = []
+
+-- Any other event comes alone.
 abbrev pub turn_of : List (Option ℕ) → Event → Turn
-turn_of ports (Change c) =
-    record { before = notices ports; event = Change c; after = all_puts ports }
-turn_of ports (Take slot) = record {
-  before = Notice slot ∷ put_events slot (places_at ports slot);
-  event = Take slot;
-  after = [];
-}
-turn_of ports (Close slot) = record {
-  before = Notice slot ∷ [];
-  event = Close slot;
-  after = put_events slot (places_at ports slot);
-}
-turn_of ports e = record { before = []; event = e; after = [] }
+turn_of ports e =
+    record { before = steps_before ports e; event = e; after = steps_after ports e }
 
 abbrev pub events_in : Turn → List Event
 events_in t = t.before ++ t.event ∷ t.after
@@ -79,8 +82,7 @@ events_in t = t.before ++ t.event ∷ t.after
 -- the state after events, one after another
 abbrev pub after_events : {Core : Type 0}
     → (Core → Event → Answer × Core) → Core → List Event → Core
-after_events step s [] = s
-after_events step s (e ∷ events) = after_events step (step s e).1 events
+after_events step s events = fold (λ t e. (step t e).1) s events
 
 -- the answer to a turn's event, and the state after the turn
 abbrev pub carried_out : {Core : Type 0} → (Core → Event → Answer × Core) → Core → Turn

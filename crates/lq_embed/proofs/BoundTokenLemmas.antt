@@ -2,7 +2,7 @@
 use Rattle.std.proofs.Common.{◌≡◌, ◌∙◌, ◌+◌, ◌-◌, ◌<◌, ◌≤◌, ◌==◌, ◌⊎◌, ℕ, zero, suc, Bool, true, false, List, [], ◌∷◌, ◌++◌, length, Option, None, Some, refl, sym, ap, subst, arith, inl, inr}
 use Rattle.std.specs.Prelude.{if◌then◌else◌, nat_lt, option_to_list, slice_get}
 use Rattle.std.specs.List.{list_all}
-use Rattle.std.proofs.lemmas.Bool.{and_parts}
+use Rattle.std.proofs.lemmas.Bool.{and_parts, false≢true, ne_eqb}
 use Rattle.lq_value.specs.declared.op.Op.{Op}
 use Rattle.lq_value.specs.declared.op.Op.TheVariants.{Eq, Ne, Lt, Le, Gt, Ge}
 use Rattle.lq_value.specs.declared.value.Value.{Value}
@@ -13,7 +13,7 @@ use Rattle.lq_embed.specs.BoundFormula.{first_missing, literal_at}
 use Rattle.lq_embed.specs.BoundTokens.{raw_for, token_for, tokens_with}
 use Rattle.lq_embed.specs.Parameters.{fault_of, first_fault, operator_of, or_later, parameter_at, parameters_after}
 use Rattle.lq_embed.specs.Quoting.{literal_for}
-use Rattle.lq_embed.proofs.LiteralLemmas.{NoEquals, SameStart, ends_word_same, literal_starts, literal_token, not_next_literal, not_next_same, not_that}
+use Rattle.lq_embed.proofs.LiteralLemmas.{NoEquals, SameStart, ends_word_same, literal_starts, literal_token, not_next_literal, not_next_same}
 use Rattle.lq_embed.proofs.NamedLemmas.{is_parameter}
 
 -- ---- parts of a text that are tokens
@@ -113,7 +113,8 @@ same_starts (Some o) rest other same = inl same
 -- white space is no `\`
 space_clear : (b : ℕ) (bs : List ℕ) → IsBlank (b ∷ bs) → (b == 92) ≡ false
 space_clear b bs white =
-    not_that is_space 92 b refl (and_parts (is_space b) (list_all is_space bs) white).0
+    ne_eqb b 92 (λ e. false≢true (sym (ap is_space e)
+    ∙ (and_parts (is_space b) (list_all is_space bs) white).0))
 
 -- after the same white space and the same token
 same_after : (t : Token) (inside : ℕ) (blank part rest other : List ℕ) → IsBlank blank

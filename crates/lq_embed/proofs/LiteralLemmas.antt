@@ -60,9 +60,10 @@ is_number_byte b = (nat_le 48 b && nat_le b 57) || b == 45
 abbrev AreNumber : List ℕ → Type 0
 AreNumber bytes = (list_all is_number_byte bytes ≡ true) × (bytes ≡ [] → ⊥)
 
--- a byte of which a test says so is none of which it doesn't
-pub not_that : (t : ℕ → Bool) (c b : ℕ) → t c ≡ false → t b ≡ true → (b == c) ≡ false
-not_that t c b fails holds = ne_eqb b c (λ e. false≢true (sym fails ∙ sym (ap t e) ∙ holds))
+-- no byte of a number is one of which the test fails
+no_number : (c b : ℕ) → is_number_byte c ≡ false → is_number_byte b ≡ true → (b == c) ≡ false
+no_number c b fails holds =
+    ne_eqb b c (λ e. false≢true (sym fails ∙ sym (ap is_number_byte e) ∙ holds))
 
 -- a digit of a number is one
 glyph_is : (n : ℕ) → is_number_byte (digit_glyph false (n % 10)) ≡ true
@@ -110,7 +111,7 @@ signed_number_text (negsuc n) = ((decimal_number_text (suc n)).0, λ none. cc)
 -- no such byte ends a word
 number_ends_no : (b : ℕ) → is_number_byte b ≡ true → ends_word b ≡ false
 number_ends_no b e =
-    let no = λ (c : ℕ) (f : is_number_byte c ≡ false). not_that is_number_byte c b f e in
+    let no = λ (c : ℕ) (f : is_number_byte c ≡ false). no_number c b f e in
     rw (no 32 refl, no 9 refl, no 10 refl, no 13 refl, no 40 refl)
     (rw (no 41 refl, no 33 refl, no 38 refl, no 124 refl, no 61 refl)
     (rw (no 60 refl, no 62 refl, no 34 refl, no 39 refl)))
@@ -124,7 +125,7 @@ number_signs (b ∷ bs) e =
     let k = number_signs bs all.1 in (
       plain b ∷ k.0,
       ap (λ l. b ∷ l) k.1,
-      ((not_that is_number_byte 92 b refl all.0, number_ends_no b all.0), k.2),
+      ((no_number 92 b refl all.0, number_ends_no b all.0), k.2),
     )
 
 -- ---- literals
@@ -158,7 +159,7 @@ number_starts (b ∷ bs) rest are = (
   b,
   bs ++ rest,
   refl,
-  not_that is_number_byte 61 b refl
+  no_number 61 b refl
       (and_parts (is_number_byte b) (list_all is_number_byte bs) are.0).0,
 )
 

@@ -216,7 +216,8 @@ amid : (start : State) (old one other two : SeatToken Identity) (book : Book)
 amid start old one other two book changes others e r fresh begins a b later mixed =
     let known : Book = one.book in
     let self : Extends known known = ([], rw append-nil) in
-    let m = mixed known later (made_just old one (take a.accepted changes) known fresh a.made self) in
+    let m =
+    mixed known later (made_just old one (take a.accepted changes) known fresh a.made self) in
     let less = take_less m.others b.accepted others in
     ⊎_elim (λ (h : e ≡ NoMemory). inl h)
     (λ (h : IsRefusedAt known changes a.accepted e). inr (record {

@@ -88,8 +88,10 @@ rises_more : (b : Book) (n k : ℕ) (ns : List ℕ) (changes : List Change) → 
 rises_more b n k [] changes rise made low above = (low, tt)
 rises_more b n k (x ∷ ns) [] rise made low above = cc
 rises_more b n k (x ∷ ns) (c ∷ changes) rise made low above =
-    let lt = slice_get_within b.changes (x - 1) c (head_same _ _ _ _ made) in
-    (rise.0, rises_more b x k ns changes rise.1 (tail_same _ _ _ _ made) (omega (arith, lt, above)) above)
+    let lt = slice_get_within b.changes (x - 1) c (head_same _ _ _ _ made) in (
+      rise.0,
+      rises_more b x k ns changes rise.1 (tail_same _ _ _ _ made) (omega (arith, lt, above)) above,
+    )
 
 -- an author with other changes
 abbrev with_changes : Author → List ℕ → Author

@@ -11,7 +11,7 @@ use Rattle.lq_value.specs.Element.{Element}
 use Rattle.lq_value.specs.Source.{pattern_of}
 use Rattle.std.specs.Prelude.{Result, Ok, Err}
 use Rattle.lq_predicate_formula.specs.Tokens.{Token, bare}
-use Rattle.lq_predicate_formula.specs.Query.{Query, queries, both_of, either_of}
+use Rattle.lq_predicate_formula.specs.Query.{Query, Compare, queries, both_of, either_of}
 use Rattle.lq_predicate_formula.specs.Literals.{literal_of, pattern_literal}
 use Rattle.lq_predicate_formula.specs.Grammar.{Reading, MoreParts, IsAnd, IsOr, IsComparison, IsNot, nesting}
 use Rattle.lq_predicate_formula.specs.Canonical.{canonical, depth, comparisons}
@@ -52,19 +52,20 @@ pattern_suits o (Err k) l h e = cc
 plain_suits : (o : Op) (l m : Literal) → suits m o ≡ true → Some m ≡ Some l → suits l o ≡ true
 plain_suits o l m h e = subst (λ x. suits x o ≡ true) (let same : m ≡ l = cc in same) h
 
--- a literal that an operator reads suits it
-literal_suits : (o : Op) (raw : List ℕ) (l : Literal) → literal_of o raw ≡ Some l → suits l o ≡ true
-literal_suits Eq raw l e = pattern_suits Eq (pattern_of raw) l (λ x. refl) e
-literal_suits Ne raw l e = pattern_suits Ne (pattern_of raw) l (λ x. refl) e
-literal_suits Lt raw l e = plain_suits Lt l _ refl e
-literal_suits Le raw l e = plain_suits Le l _ refl e
-literal_suits Gt raw l e = plain_suits Gt l _ refl e
-literal_suits Ge raw l e = plain_suits Ge l _ refl e
+-- a comparison with a literal that its operator reads is formed
+literal_forms : (name : List ℕ) (o : Op) (raw : List ℕ) (l : Literal) → literal_of o raw ≡ Some l
+    → is_formed (Compare name o l) ≡ true
+literal_forms name Eq raw l e = pattern_suits Eq (pattern_of raw) l (λ x. refl) e
+literal_forms name Ne raw l e = pattern_suits Ne (pattern_of raw) l (λ x. refl) e
+literal_forms name Lt raw l e = plain_suits Lt l _ refl e
+literal_forms name Le raw l e = plain_suits Le l _ refl e
+literal_forms name Gt raw l e = plain_suits Gt l _ refl e
+literal_forms name Ge raw l e = plain_suits Ge l _ refl e
 
 -- a comparison reads as a formed query
 comparison_formed : Forms IsComparison
 comparison_formed ts q (a, o, l, name, literal, is, named, read, said) =
-    ap is_formed said ∙ literal_suits o l literal read
+    ap is_formed said ∙ literal_forms name o l literal read
 
 -- parts that are read one by one as formed are formed
 follows_formed : (P : Reading) → Forms P → (sep : Token) (ts : List Token) (qs : List Query)

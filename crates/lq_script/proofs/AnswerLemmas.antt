@@ -12,6 +12,7 @@ use Rattle.lq_volume.specs.Result.{result_of}
 use Rattle.lq_volume.specs.declared.change.Change.{Change as Change_}
 use Rattle.lq_volume.specs.declared.change.Applied.{Applied}
 use Rattle.lq_volume.specs.Change.{node_of, refused}
+use Rattle.lq_volume.specs.Laws.{ChangesCount}
 use Rattle.lq_volume.specs.Book.{AreLawful, Book, grown, number_of, state_of}
 use Rattle.lq_board.specs.Known.{Author}
 use Rattle.lq_server_slots.specs.Applied.{IsAdded}
@@ -344,12 +345,12 @@ entry_refused a b node e h is = record {
       ∙ in_book s b.book (λ v. entry_answer v node) k);
 }
 
-pub answers_fetch : (a b : OwnToken) (q : Query) (at : ℕ) (entries : List Entry) → MakesMore a b []
-    → at ≡ length b.book.changes → entries ≡ result_of q (state_of b.book)
+pub answers_fetch : ChangesCount → (a b : OwnToken) (q : Query) (at : ℕ) (entries : List Entry)
+    → MakesMore a b [] → at ≡ length b.book.changes → entries ≡ result_of q (state_of b.book)
     → Answers a b (Ok (request.Look (look.Fetch q)) ∷ []) [] (Fetched at entries ∷ [])
-answers_fetch a b q at entries h number is =
+answers_fetch count a b q at entries h number is =
     answers_look a b (look.Fetch q) (Fetched at entries) h (λ o m s e.
-    ap (λ (n : ℕ). Fetched n entries) (number ∙ sym (state_number b.book m.first))
+    ap (λ (n : ℕ). Fetched n entries) (number ∙ sym (state_number count b.book m.first))
     ∙ ap (λ (l : List Entry). Fetched (state_of b.book).number l) is
     ∙ in_book s b.book (λ v. Fetched v.number (result_of q v)) e)
 

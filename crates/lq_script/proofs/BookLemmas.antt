@@ -3,8 +3,8 @@ use Rattle.std.proofs.Common.{◌≡◌, ℕ, ◌+◌, ◌-◌, ◌≤◌, List,
 use Rattle.std.proofs.lemmas.List.{take-append-le, take_all}
 use Rattle.lq_volume.specs.State.{State}
 use Rattle.lq_volume.specs.declared.change.Change.{Change as Change_}
-use Rattle.lq_volume.specs.declared.change.Change.TheVariants.{Remove}
 use Rattle.lq_volume.specs.Change.{after, refused}
+use Rattle.lq_volume.specs.Laws.{ChangesCount}
 use Rattle.lq_volume.specs.Book.{AreLawful, Book, Extends, after_all, grown, state_of}
 
 -- a book that extends another has as many changes at least
@@ -30,19 +30,10 @@ extends_same c b e same =
     ∙ ap (λ (cs : List Change_). record { start = b.start; changes = cs })
     (append-nil b.changes)
 
--- each change adds one to the number
-number_after : (s : State) (c : Change_) → (after s c).number ≡ s.number + 1
-number_after s (Remove node) = refl
-number_after s _ = refl
-
-number_all : (s : State) (cs : List Change_) → (after_all s cs).number ≡ s.number + length cs
-number_all s [] = omega arith
-number_all s (c ∷ cs) =
-    let rest = number_all (after s c) cs in omega (arith, rest, number_after s c)
-
 -- the number of a book that begins with number 0
-pub state_number : (b : Book) → b.start.number ≡ 0 → (state_of b).number ≡ length b.changes
-state_number b first = let is = number_all b.start b.changes in omega (arith, is, first)
+pub state_number : ChangesCount → (b : Book) → b.start.number ≡ 0
+    → (state_of b).number ≡ length b.changes
+state_number count b first = omega (arith, count b.start b.changes, first)
 
 -- a front of lawful changes is lawful, and so is what comes next
 pub lawful_front : (s : State) (cs : List Change_) (c : Change_) → AreLawful s (cs ++ c ∷ [])

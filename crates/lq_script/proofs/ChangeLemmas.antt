@@ -1,5 +1,6 @@
 -- The changes that a seat made, in the books that it knows.
 use Rattle.std.proofs.Common.{◌≡◌, ℕ, ◌-◌, ◌≤◌, List, [], ◌∷◌, ◌++◌, length, map, slice_get, Some, Result, Ok, Err, OnErr, refl, sym, ap, ◌∙◌, subst, arith, append_assoc, append-nil, length-append}
+use Rattle.std.proofs.lemmas.List.Elements.{All-append, All-from_recursion, recursion_from_All}
 use Rattle.std.proofs.lemmas.List.{get_or_append_left, map-append, take-append-le}
 use Rattle.std.proofs.lemmas.Option.{get_or_from_slice_get, slice_get-get_or, slice_get_within}
 use Rattle.std.specs.List.{AllByRecursion}
@@ -37,21 +38,6 @@ pub each_later : (b c : Book) (made : List Applied) → Extends c b
 each_later b c [] e h = tt
 each_later b c (a ∷ made) e h = (change_later b c a e h.0, each_later b c made e h.1)
 
--- what holds of each of two lists holds of each of both
-both_each : (P : Applied → Type 0) (xs ys : List Applied) → AllByRecursion P xs
-    → AllByRecursion P ys → AllByRecursion P (xs ++ ys)
-both_each P [] ys h k = k
-both_each P (x ∷ xs) ys h k = (h.0, both_each P xs ys h.1 k)
-
--- a book that extends one that extends a third
-pub extends_on : (a b c : Book) → Extends b a → Extends c b → Extends c a
-extends_on a b c e f = (
-  e.0 ++ f.0,
-  f.1 ∙ ap (λ (x : Book). grown x f.0) e.1
-      ∙ ap (λ (cs : List Change). record { start = a.start; changes = cs })
-      (append_assoc a.changes e.0 f.0),
-)
-
 -- an author with other changes
 abbrev with_changes : Author → List ℕ → Author
 with_changes a changes = record a { changes = changes }
@@ -69,8 +55,15 @@ made_then a b c xs ys h k = record {
       (map (λ (t : Applied). t.change) ys)
       ∙ ap (λ (ns : List ℕ). a.author.changes ++ ns)
       (sym (map-append (λ (t : Applied). t.change) xs ys)));
-  later = extends_on a.book b.book c.book h.later k.later;
-  each = both_each (IsChangeOf c.book) xs ys (each_later b.book c.book xs k.later h.each) k.each;
+  later = (
+    h.later.0 ++ k.later.0,
+    k.later.1 ∙ ap (λ (x : Book). grown x k.later.0) h.later.1
+        ∙ ap (λ (cs : List Change). record { start = a.book.start; changes = cs })
+        (append_assoc a.book.changes h.later.0 k.later.0),
+  );
+  each = recursion_from_All (IsChangeOf c.book) (xs ++ ys) (All-append (IsChangeOf c.book) xs ys
+      (All-from_recursion (IsChangeOf c.book) xs (each_later b.book c.book xs k.later h.each))
+      (All-from_recursion (IsChangeOf c.book) ys k.each));
 }
 
 -- a seat that made none, and only knows a later book

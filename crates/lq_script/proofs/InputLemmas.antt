@@ -1,6 +1,7 @@
 -- Lines that are handed on as they come, and are cut again.
 use Rattle.std.proofs.Common.{◌≡◌, ◌≢◌, ◌⊎◌, inl, inr, ℕ, ◌-◌, ◌<◌, ◌++◌, List, [], ◌∷◌, length, take, get_or, true, false, Bool, Option, Result, Err, refl, sym, ap, ◌∙◌, subst, append_assoc, append-nil, zero, suc}
 use Rattle.std.specs.List.{AllByRecursion}
+use Rattle.std.proofs.lemmas.List.Elements.{All-append, All-from_recursion, recursion_from_All}
 use Rattle.std.specs.Io.BufRead.{ends_with_byte}
 use Rattle.std.specs.Prelude.{◌==◌, nat_lt, if◌then◌else◌}
 use Rattle.std.specs.Io.KnownBytes.{Consumes}
@@ -30,11 +31,6 @@ handed_append (x ∷ xs) ys =
     ap (λ (l : List ℕ). handed (line_of x) ++ l) (handed_append xs ys)
     ∙ sym (append_assoc (handed (line_of x)) (handed_all xs) (handed_all ys))
 
-both_each : (P : List ℕ → Type 0) (xs ys : List (List ℕ)) → AllByRecursion P xs
-    → AllByRecursion P ys → AllByRecursion P (xs ++ ys)
-both_each P [] ys h k = k
-both_each P (x ∷ xs) ys h k = (h.0, both_each P xs ys h.1 k)
-
 pub hands_then : {a b c : List (List ℕ)} {old mid new : List ℕ} → Hands a b old mid
     → Hands b c mid new → Hands a c old new
 hands_then {a} {old} h k = record {
@@ -43,7 +39,9 @@ hands_then {a} {old} h k = record {
       k.split
       ∙ ap (λ (l : List (List ℕ)). l ++ k.lines) h.split
       ∙ append_assoc a h.lines k.lines;
-  unbroken = both_each IsUnbroken h.lines k.lines h.unbroken k.unbroken;
+  unbroken = recursion_from_All IsUnbroken (h.lines ++ k.lines)
+      (All-append IsUnbroken h.lines k.lines (All-from_recursion IsUnbroken h.lines h.unbroken)
+      (All-from_recursion IsUnbroken k.lines k.unbroken));
   text =
       k.text
       ∙ ap (λ (l : List ℕ). l ++ handed_all k.lines) h.text
@@ -87,12 +85,6 @@ pub reply_handed : (l : Line) (s : ℕ) (after : ℕ → List ℕ → ℕ)
 reply_handed long s after = refl
 reply_handed empty s after = refl
 reply_handed (whole bytes) s after = refl
-
--- what has come with a part of a piece, and with more of it
-pub with_part : (given part run all : List ℕ) → part ++ run ≡ all
-    → given ++ all ≡ (given ++ part) ++ run
-with_part given part run all is =
-    ap (λ (l : List ℕ). given ++ l) (sym is) ∙ sym (append_assoc given part run)
 
 -- an LF ended a line, which is handed on
 pub hands_line : LinesGrow → LinesEnd → {old new : List ℕ} (given run : List ℕ) → IsUnbroken run

@@ -1,7 +1,7 @@
 -- What several lines of a run have done, and a whole run.
 use Rattle.std.proofs.Common.{◌≡◌, inl, inr, ℕ, zero, suc, ◌+◌, ◌≤◌, List, [], ◌∷◌, ◌++◌, length, map, Option, Some, None, Result, Ok, Err, IfErr, is_err, is_ok, if◌then◌else◌, true, false, refl, sym, ap, ◌∙◌, subst, arith, append_assoc, append-nil, length-append}
 use Rattle.std.proofs.KnownBytes.{Appends-nil, Appends-trans, Consumes-nil}
-use Rattle.std.specs.Io.KnownBytes.{Appends, Consumes, Keeps}
+use Rattle.std.specs.Io.KnownBytes.{Consumes, Keeps}
 use Rattle.lq_volume.specs.State.{State, empty_state}
 use Rattle.lq_volume.specs.declared.change.Applied.{Applied}
 use Rattle.lq_volume.specs.declared.change.Change.{Change as Change_}
@@ -36,20 +36,13 @@ use Rattle.lq_script.proofs.AnswerLemmas.{answers_none, replied_fault, replied_l
 pub takes_none : (written : Option (List ℕ)) (bytes : List ℕ) → HasTaken written written bytes bytes
 takes_none written bytes = record { taken = []; appended = Appends-nil written; split = refl }
 
--- known bytes that stay grow by none
-grown_none : (a b : Option (List ℕ)) → Keeps a b → Appends a b []
-grown_none None b k = tt
-grown_none (Some x) None k = absurd k
-grown_none (Some x) (Some y) k = k ∙ sym (append-nil x)
-
 -- it took nothing where they stay
 pub keeps_takes : (written written' : Option (List ℕ)) (bytes : List ℕ) → Keeps written written'
     → HasTaken written written' bytes bytes
-keeps_takes written written' bytes k = record {
-  taken = [];
-  appended = grown_none written written' k;
-  split = refl;
-}
+keeps_takes None b bytes k = record { taken = []; appended = tt; split = refl }
+keeps_takes (Some x) None bytes k = absurd k
+keeps_takes (Some x) (Some y) bytes k =
+    record { taken = []; appended = k ∙ sym (append-nil x); split = refl }
 
 -- first of these bytes, then of their rest
 pub takes_more : (a b c : Option (List ℕ)) (bytes rest last : List ℕ) → HasTaken a b bytes rest

@@ -18,7 +18,7 @@ use lq_script_desk::{Reply, Response};
 use lq_script_request::{Event, Look, Request};
 use lq_server::{Named, OpenOptions, OwnSeat, Server};
 use lq_value::Refusal;
-use lq_volume::Change;
+use lq_volume::{Change, changes_are_counted};
 use std::alloc::Global;
 use std::sync::Wait;
 use std::thread::Threads;
@@ -133,6 +133,7 @@ impl<
         ensures refused { IfErr result
             (AnswersRefusal self.old.seat self.new.seat (Ok (asked.Look look.now))) }
     {
+        changes_are_counted();
         match look {
             Look::Find { dir, name } => {
                 let node = self.seat.find(self.rt, self.server, *dir, name)?;

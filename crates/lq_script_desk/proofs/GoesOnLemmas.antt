@@ -1,14 +1,13 @@
 -- A slot's fold after events goes on over more events.
 use Rattle.std.proofs.Common.{◌≡◌, ℕ, List, [], ◌∷◌, ◌++◌, length, refl, ap, ◌∙◌, sym, arith, append_assoc, length-append, Bool}
+use Rattle.std.proofs.lemmas.List.Elements.{filter_map-append}
 use Rattle.lq_value.specs.declared.entry.Entry.{Entry}
 use Rattle.lq_update.specs.declared.message.Message.{Message}
-use Rattle.lq_update.specs.declared.parcel.Parcel.{Parcel}
-use Rattle.lq_update.specs.declared.parcel.Parcel.TheVariants.{Update, Fin}
 use Rattle.lq_update.specs.Fold.{Folding, folding_after_all, opened_at}
 use Rattle.lq_update.specs.Laws.{FoldingsFollow}
 use Rattle.lq_desk_world.specs.declared.event.Event.{Event}
 use Rattle.lq_desk_world.specs.Events.{Answer, Opened}
-use Rattle.lq_desk_world.specs.Headline.{parcels_in, reads_of, updates_among, updates_in}
+use Rattle.lq_desk_world.specs.Headline.{parcel_in, parcels_in, reads_of, update_in, updates_among, updates_in}
 use Rattle.lq_script_desk.specs.Folds.{after_message}
 use Rattle.lq_script_desk.specs.History.{IsFoldOf, StaysTaken}
 use Rattle.lq_script_desk.proofs.FoldLemmas.{NoneRefused, begun, kept_after}
@@ -37,21 +36,6 @@ reads-append slot (e ∷ events) more (a ∷ answers) mores same taken =
       reads-append slot events more answers mores (omega (arith, same)) taken.1,
       append_assoc,
     )
-
--- the updates among parcels, and in reads, and others
-among-append : (xs ys : List Parcel)
-    → updates_among (xs ++ ys) ≡ updates_among xs ++ updates_among ys
-among-append [] ys = refl
-among-append (Update m ∷ xs) ys = ap (λ ms. m ∷ ms) (among-append xs ys)
-among-append (Fin mark ∷ xs) ys = among-append xs ys
-
-parcels-append : (xs ys : List Answer) → parcels_in (xs ++ ys) ≡ parcels_in xs ++ parcels_in ys
-parcels-append [] ys = refl
-parcels-append (a ∷ xs) ys = rw (parcels-append xs ys, append_assoc)
-
-updates-append : (xs ys : List Answer) → updates_in (xs ++ ys) ≡ updates_in xs ++ updates_in ys
-updates-append xs ys =
-    ap updates_among (parcels-append xs ys) ∙ among-append (parcels_in xs) (parcels_in ys)
 
 -- a fold after messages and others
 kept-append : (f : Folding) (xs ys : List Message)
@@ -104,7 +88,10 @@ goes-on follow slot events more answers mores count none nones old f i taken is 
       length-append i.befores (Opened slot i.at i.first ∷ i.afters),
     ) in
     let updates = ap updates_in (reads-append slot i.after more i.afters mores same i.taken)
-    ∙ updates-append (reads_of slot i.after i.afters) (reads_of slot more mores) in
+    ∙ ap updates_among
+    (filter_map-append parcel_in (reads_of slot i.after i.afters) (reads_of slot more mores))
+    ∙ filter_map-append update_in (parcels_in (reads_of slot i.after i.afters))
+    (parcels_in (reads_of slot more mores)) in
     begun follow slot (events ++ more) (answers ++ mores) nones i.before (i.after ++ more) i.befores
     (i.afters ++ mores) i.opener (Opened slot i.at i.first) f i.place
     (ap (λ l. l ++ more) i.opening ∙ append_assoc i.before _ more)

@@ -1,6 +1,7 @@
 -- The events of a script, the answers to them, and its replies.
 use Rattle.std.proofs.Common.{◌≡◌, ℕ, zero, suc, ◌+◌, List, [], ◌∷◌, ◌++◌, length, refl, ap, ap₂, ◌∙◌, sym, arith, append_assoc, inl, Option, Some, None, Result, Ok, Err}
 use Rattle.std.specs.Result.{result_ok}
+use Rattle.std.proofs.lemmas.List.Sums.{fold-append}
 use Rattle.lq_value.specs.declared.refusal.Refusal.{Refusal}
 use Rattle.lq_desk_world.specs.World.{World}
 use Rattle.lq_desk_world.specs.declared.event.Event.{Event}
@@ -22,13 +23,6 @@ use Rattle.lq_script_desk.specs.Session.{Session, session_with}
 use Rattle.lq_script_desk.specs.History.{IsReplied, answer_after, answers_to, event_of, events_asked, events_before, events_of, request_of, replies_of, session_after, turns_of, world_after}
 
 -- ---- events one after another
-
--- events and then others lead where both in a row lead
-pub after_events-append : {Core : Type 0} (step : Core → Event → Answer × Core) (s : Core)
-    (xs ys : List Event)
-    → after_events step s (xs ++ ys) ≡ after_events step (after_events step s xs) ys
-after_events-append step s [] ys = refl
-after_events-append step s (x ∷ xs) ys = after_events-append step (step s x).1 xs ys
 
 -- the answers to events and then others are those to the first and then those to the others
 pub answers_to-append : (w : World) (xs ys : List Event)
@@ -54,12 +48,7 @@ run-answers w (e ∷ events) = (next w e, inl (refl, refl), run-answers (next w 
 -- a turn leads where its events lead
 pub turn-end : (w : World) (t : Turn)
     → after_events outcome w (events_in t) ≡ (carried_out outcome w t).1
-turn-end w t = after_events-append outcome w t.before (t.event ∷ t.after)
-
--- the event of a turn is the one that it was made for
-pub turn-event : (ports : List (Option ℕ)) (e : Event) → (turn_of ports e).event ≡ e
-turn-event ports (Change c) = refl
-turn-event ports e = refl
+turn-end w t = fold-append next w t.before (t.event ∷ t.after)
 
 -- the turns of events and then of others
 pub turns_of-append : (w : World) (xs ys : List Event)
@@ -70,7 +59,7 @@ turns_of-append w (x ∷ xs) ys =
     let v = (turn_outcome w x).1 in
     let here : after_events outcome w (events_in t ++ turns_of v xs)
     ≡ after_events outcome v (turns_of v xs) =
-    after_events-append outcome w (events_in t) (turns_of v xs)
+    fold-append next w (events_in t) (turns_of v xs)
     ∙ ap (λ u. after_events outcome u (turns_of v xs)) (turn-end w t) in
     rw (turns_of-append v xs ys, here) (sym (append_assoc (events_in t) (turns_of v xs) _))
 
@@ -82,6 +71,9 @@ session_step s e = (
   answer_to s.core e,
   session_with (next s.core e) (folds_after (slot_named e) (answer_to s.core e) s.folds),
 )
+
+abbrev session_next : Session → Event → Session
+session_next s e = (session_step s e).1
 
 -- the world of a session after events
 pub core-after : (s : Session) (events : List Event)
@@ -104,7 +96,7 @@ put-quiet k s = grind arith
 -- and so do events that do and others that do
 quiet-append : (xs ys : List Event) → AreQuiet xs → AreQuiet ys → AreQuiet (xs ++ ys)
 quiet-append xs ys h g s =
-    ap (λ (t : Session). t.folds) (after_events-append session_step s xs ys)
+    ap (λ (t : Session). t.folds) (fold-append session_next s xs ys)
     ∙ (g (after_events session_step s xs) ∙ h s)
 
 puts-quiet : (k n : ℕ) → AreQuiet (put_events k n)
@@ -127,7 +119,7 @@ among-quiet : (s : Session) (before after : List Event) (e : Event)
     ≡ (after_events session_step s (before ++ e ∷ after)).folds
 among-quiet s before after e first last =
     let t = after_events session_step s before in
-    sym (ap (λ (u : Session). u.folds) (after_events-append session_step s before (e ∷ after))
+    sym (ap (λ (u : Session). u.folds) (fold-append session_next s before (e ∷ after))
     ∙ (last (session_step t e).1
     ∙ ap₂ (λ w folds. folds_after (slot_named e) (answer_to w e) folds) (core-after s before)
     (first s)))
@@ -172,7 +164,7 @@ read-played lines played s (Ok (request.Event e)) =
     let rest = turns_of (turn_outcome s.core e).1 (events_asked lines) in
     played (request_outcome s (request.Event e)).1
     ∙ (ap (λ (t : Session). after_events session_step t rest) (turn-session s e)
-    ∙ sym (after_events-append session_step s (events_in (turn_of (ports_of s.core) e)) rest))
+    ∙ sym (fold-append session_next s (events_in (turn_of (ports_of s.core) e)) rest))
 read-played lines played s (Ok q) = played s
 read-played lines played s (Err e) = played s
 
@@ -203,26 +195,24 @@ events_asked-append : (xs ys : List (List ℕ))
 events_asked-append [] ys = refl
 events_asked-append (x ∷ xs) ys = rw (events_asked-append xs ys, append_assoc)
 
--- the replies to lines, and then to others
-replies_to-append : {State : Type 0} (rules : Rules State) (s : State) (xs ys : List (List ℕ)) →
-    replies_to rules s (xs ++ ys)
-    ≡ replies_to rules s xs ++ replies_to rules (state_after_all rules s xs) ys
-replies_to-append rules s [] ys = refl
-replies_to-append rules s (x ∷ xs) ys =
-    rw (replies_to-append rules (state_after rules s (line_of x)) xs ys, append_assoc)
+-- the replies to lines, to one more, and to others
+replies_to-split : {State : Type 0} (rules : Rules State) (s : State) (before : List (List ℕ))
+    (bytes : List ℕ) (after : List (List ℕ)) →
+    replies_to rules s (before ++ bytes ∷ after)
+    ≡ (replies_to rules s before
+    ++ reply_to rules (state_after_all rules s before) (line_of bytes))
+    ++ replies_to rules (state_after_all rules s (before ++ bytes ∷ [])) after
+replies_to-split rules s [] bytes after = refl
+replies_to-split rules s (x ∷ before) bytes after =
+    rw (replies_to-split rules (state_after rules s (line_of x)) before bytes after)
+    (simp append_assoc)
 
 -- the reply to a line begins with the replies before it and goes on with its own
 pub reply-place : (lines before after : List (List ℕ)) (bytes : List ℕ)
     → lines ≡ before ++ bytes ∷ after → (rest : List ℕ) × (replies_of lines
     ≡ (replies_of before ++ reply_to world_rules (session_after before) (line_of bytes)) ++ rest)
 reply-place lines before after bytes is =
-    let s = session_after before in
-    let rest = replies_to world_rules (state_after world_rules s (line_of bytes)) after in (
-      rest,
-      ap replies_of is
-          ∙ (replies_to-append world_rules script_session before (bytes ∷ after)
-          ∙ sym (append_assoc (replies_of before) (reply_to world_rules s (line_of bytes)) rest)),
-    )
+    (_, ap replies_of is ∙ replies_to-split world_rules script_session before bytes after)
 
 -- the response to a request that was read
 read-response : (s : Session) (r : Result Request Refusal) (q : Request)
@@ -243,8 +233,7 @@ answer-turn before e =
     let t = turn_of (ports_of w) e in
     rw (
       session-world before,
-      turn-event (ports_of w) e,
-      after_events-append outcome script_world (events_of before) t.before,
+      fold-append next script_world (events_of before) t.before,
     )
 
 -- the events of a script with a line that asks for an event
@@ -261,7 +250,7 @@ events-place lines before after bytes e is asks =
       t.after ++ rest,
       ap (turns_of script_world) asked
           ∙ turns_of-append script_world (events_asked before) (e ∷ events_asked after)
-          ∙ simp (append_assoc, turn-event),
+          ∙ simp append_assoc,
     )
 
 -- the reply to a line that asks for an event is the text of the event's answer

@@ -15,7 +15,6 @@ use Rattle.lq_script_desk.specs.SessionHistory.{HistoryGoesOn, IsHistory, Sessio
 use Rattle.lq_script_desk.specs.Turned.{Follow, Turned}
 use Rattle.lq_script_desk.proofs.EventLemmas.{Does, does, leaves}
 use Rattle.lq_script_desk.proofs.FoldLemmas.{NoneRefused, begun, first-volume, fold-set, none-first, none-refused}
-use Rattle.lq_script_desk.proofs.HistoryLemmas.{turn-event}
 use Rattle.lq_script_desk.proofs.TurnLemmas.{AreAdded, added-reads, after-own, goes-before, turn-added}
 use Rattle.lq_script_desk.proofs.GoesOnLemmas.{goes-on}
 
@@ -108,18 +107,13 @@ module _ (law : RunsTellReaders) (rebuilds : RebuildsTakeAll) (follow : Foldings
       → HistoryGoesOn old new e a events answers
   turn-goes-on old new e a t events answers was =
       let turn = turn_of (ports_of old.core) e in
-      let own = turn-event (ports_of old.core) e in
       let added = turn-added (ports_of old.core) e in
-      let runs = subst (λ (d : Event). Run old.core (turn.before ++ d ∷ turn.after)
-      (t.run.before ++ a ∷ t.run.after) new.core) own t.run.run in
       record {
         befores = t.run.before;
         afters = t.run.after;
         place = t.run.place;
-        history = subst (λ (d : Event). IsHistory new (events ++ (turn.before ++ d ∷ turn.after))
-            (answers ++ (t.run.before ++ a ∷ t.run.after))) (sym own)
-            (around old new turn.before turn.after t.run.before t.run.after e a added.0 added.1
-            t.run.place runs t.folds events answers was);
+        history = around old new turn.before turn.after t.run.before t.run.after e a added.0
+            added.1 t.run.place t.run.run t.folds events answers was;
       }
 
   -- all that is true of sessions

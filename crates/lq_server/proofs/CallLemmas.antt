@@ -158,7 +158,8 @@ rises_on : (m : ℕ) (xs : List ℕ) → AreRising m xs → times (m + 1) xs ≡
 rises_on m [] rise none = tt
 rises_on m (x ∷ xs) rise none =
     let above = rise.0 in (
-      ne_lt m x above (λ e. let same = ap (λ (b : Bool). cond b 1 0 + times (m + 1) xs) (eq-eqb x (m + 1) e) in
+      ne_lt m x above (λ e.
+          let same = ap (λ (b : Bool). cond b 1 0 + times (m + 1) xs) (eq-eqb x (m + 1) e) in
           omega (arith, same, none)),
       rise.1,
     )
@@ -346,10 +347,12 @@ mixed_first (suc k) (suc n) m book xs ys changes is le mix made =
           let on =
           first_made book (m + 1) h.0 changes
           (subst (λ (l : List ℕ). changes_at book l ≡ map (λ c. Some c) changes) h.1 made) in
-          let r = mixed_first k n (m + 1) book h.0 ys on.rest (omega arith) (omega arith) h.2 on.made in
+          let r =
+          mixed_first k n (m + 1) book h.0 ys on.rest (omega arith) (omega arith) h.2 on.made in
           record { others = r.others; mixed = inl (h.0, h.1, r.mixed) }
       | inr h ↦
-          let r = mixed_first k n (m + 1) book xs h.0 changes (omega arith) (omega arith) h.2 made in
+          let r =
+          mixed_first k n (m + 1) book xs h.0 changes (omega arith) (omega arith) h.2 made in
           record {
             others = suc r.others;
             mixed = inr (take r.others h.0, ap (take (suc r.others)) h.1, r.mixed);
@@ -364,7 +367,8 @@ changes_mixed : (book : Book) (xs ys zs : List ℕ) (first second whole : List C
 changes_mixed book xs ys zs first second whole f s w mix =
     mixed_somes whole first second
     (subst
-    (λ (l : List (Option Change)). AreMixed l (map (λ c. Some c) second) (map (λ c. Some c) whole)) f
+    (λ (l : List (Option Change)).
+    AreMixed l (map (λ c. Some c) second) (map (λ c. Some c) whole)) f
     (subst (λ (l : List (Option Change)). AreMixed (changes_at book xs) l (map (λ c. Some c) whole))
     s
     (subst (λ (l : List (Option Change)). AreMixed (changes_at book xs) (changes_at book ys) l) w

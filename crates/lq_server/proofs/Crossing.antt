@@ -3,16 +3,14 @@
 use denote.RattleType.{RattleType}
 use denote.Param.Send.{IsSend, IsSync, sendable, view_send, view_sync}
 use denote.Param.SendFields.{declared_send, declared_sync}
-use Rattle.std.proofs.Crossing.{crosses, Vec-send}
-use Rattle.std.specs.contracts.option.Option as option
+use Rattle.std.proofs.Crossing.{crosses}
 use Rattle.std.specs.contracts.sync.Mutex as mutex
 use Rattle.std.specs.contracts.marker.PhantomData as phantom
 use Rattle.std.below.core.specs.contracts.marker.ClosureMark as mark
 use Rattle.lq_volume.specs.contracts.volume.Volume as volume
 use Rattle.lq_board.specs.contracts.board.Board as board
 use Rattle.lq_board.specs.contracts.tokens.Keeper as keeper
-use Rattle.lq_desk_sub.specs.contracts.slot_table.SlotTable as table
-use Rattle.lq_desk_sub.specs.contracts.slot_table.SlotTable.TheInside as in_table
+use Rattle.lq_desk_sub.proofs.slot_table.SlotTable.TheSendSync as table
 use Rattle.lq_desk_sub.specs.contracts.sub.Sub as sub
 use Rattle.lq_port.specs.contracts.ends.PortIn as port_in
 use Rattle.lq_server_slots.specs.contracts.delivery.Delivery as delivery
@@ -34,22 +32,11 @@ slot_send : IsSend sub.the_row
 slot_send s p =
     declared_send slot.the_type (s, (p, search (sendable, crosses) depth 20))
 
--- a table of slots
-module _ (T : RattleType) (s : IsSend T) where
-  item_send : IsSend (option.the_row T)
-  item_send = search sendable depth 12
-
-  table_send : IsSend (table.the_row T)
-  table_send =
-      view_send (in_table.the_row T) _ _ _ _
-      (declared_send (in_table.the_type T)
-      (Vec-send (option.the_row T) item_send, search (sendable, crosses) depth 30))
-
 -- the slots and the keeper of the board
 slots_send : IsSend slot.the_row → IsSend (keeper.the_row identity.the_row) → IsSend slots.the_row
 slots_send s k =
     declared_send slots.the_type
-    (k, (table_send slot.the_row s, search (sendable, crosses) depth 20))
+    (k, (table.the_send slot.the_row s, search (sendable, crosses) depth 20))
 
 -- a marker without a value
 phantom_send : (N : RattleType) → IsSend (phantom.the_row N)

@@ -52,7 +52,8 @@ pub record ReaderIsTold (r : ReaderHold) : Type 0 where
   pub opened : r.reading.port.floor.opened ≤ length (known_book r.reading).changes
   -- what was received is a prefix of the query's update list, each message once and in order
   pub prefix : IsPrefix (received r.reading)
-      (updates_upto r.reading.port.floor (known_book r.reading) (length (known_book r.reading).changes))
+      (updates_upto r.reading.port.floor (known_book r.reading)
+      (length (known_book r.reading).changes))
   pub once : AreNumbered 1 (received r.reading)
   -- the mark comes only after the whole list up to the change that it names
   pub mark : EndsWhole r.reading

@@ -179,9 +179,9 @@ impl<N: Named> Server<N> {
         self.state.lock(rt).seat(&self.board)
     }
 
-    /// As `seat`, made for the leading seat of a counted server, which counts it (`seats`). Given or
-    /// refused, that seat then knows the changes so far. The new seat may make changes once it is
-    /// enlisted.
+    /// As `seat`, made for the leading seat of a counted server, which counts it (`seats`). Given
+    /// or refused, that seat then knows the changes so far. The new seat may make changes once it
+    /// is enlisted.
     ///
     /// Where it is refused, at least 15 seats were made for the leading seat.
     pub fn seat_by<R: Wait>(&self, rt: &R, head: &mut Seat) -> Result<Seat, Refusal>

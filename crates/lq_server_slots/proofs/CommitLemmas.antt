@@ -32,8 +32,8 @@ pub served_filled : (s t : Subscription) (p : KnownSlot Identity) → IsNoticed 
 served_filled s t p noticed alike stuck = grind arith
 
 -- a change was committed in a taken slot, whose port is still to be filled
-pub committed : (c : Change) (asked : Bool) (s t : Subscription) (p : KnownSlot Identity) (book : Book)
-    → MayCommit c asked s p book
+pub committed : (c : Change) (asked : Bool) (s t : Subscription) (p : KnownSlot Identity)
+    (book : Book) → MayCommit c asked s p book
     → (IsConsistentAt s (before_of book) → IsPreparedIf asked s.sub (state_of (before_of book)) c
     → IsLawful (state_of (before_of book)) c → IsFullBook (grown (before_of book) (c ∷ []))
     → IsConsistentAt t (grown (before_of book) (c ∷ [])))
@@ -48,8 +48,8 @@ committed c asked s t p book may stands others first_close hung =
 
 -- and then it was filled
 pub committed_filled : (c : Change) (asked : Bool) (number : ℕ) (s t u : Subscription)
-    (p : KnownSlot Identity) (book : Book) → MayCommit c asked s p book → IsToFill t p book → SameButHeld s t
-    → (IsSome s.sub.held.mark → t.sub.held.mark ≡ s.sub.held.mark)
+    (p : KnownSlot Identity) (book : Book) → MayCommit c asked s p book → IsToFill t p book
+    → SameButHeld s t → (IsSome s.sub.held.mark → t.sub.held.mark ≡ s.sub.held.mark)
     → MarkCovers number s.sub.held.mark t.sub.held.mark → IsConsistentAt u book
     → SameButPuts t u → length t.input.taken ≤ length u.input.taken → CannotPut u
     → Serves number s u p book

@@ -1,5 +1,6 @@
 -- Books that go on from others, and their updates.
 use Rattle.std.proofs.Common.{◌≡◌, ℕ, ◌-◌, ◌≤◌, List, [], ◌∷◌, ◌++◌, length, refl, ap, arith, append_assoc, append-nil, length-append, ◌+◌, take, drop, sym, ◌∙◌, add-zero, length-drop}
+use Rattle.std.proofs.lemmas.List.Sums.{fold-append}
 use Rattle.std.proofs.lemmas.List.{take-append-le, take_all, take-take, take-append-drop, drop-append-le}
 use Rattle.lq_volume.specs.declared.change.Change.{Change}
 use Rattle.lq_volume.specs.State.{State}
@@ -24,12 +25,6 @@ extends_trans b c d e f = (e.0 ++ f.0, rw (f.1, e.1, append_assoc))
 pub extends_length : (b c : Book) → Extends c b → length b.changes ≤ length c.changes
 extends_length b c e =
     omega (arith, ap (λ (x : Book). length x.changes) e.1, length-append b.changes e.0)
-
--- the state after two lists of changes, one after the other
-pub after_all-append : (s : State) (cs ds : List Change)
-    → after_all s (cs ++ ds) ≡ after_all (after_all s cs) ds
-after_all-append s [] ds = refl
-after_all-append s (c ∷ cs) ds = after_all-append (after s c) cs ds
 
 -- a longer book leads to the same state at each number of the shorter one
 pub state_stays : (c b : Book) (n : ℕ) → Extends c b → n ≤ number_of b
@@ -70,7 +65,7 @@ updates-add q flags b c m first within =
     let s : State = after_all b.start (take k cs) in
     let long : length d ≡ length cs - k = length-drop k cs in
     let whole : after_all b.start cs ≡ after_all s d =
-    rw (← after_all-append b.start (take k cs) d, take-append-drop) in
+    rw (← fold-append after b.start (take k cs) d, take-append-drop) in
     let seq : length (updates_from q flags s d 1) + 1 ≡ 1 + length (updates_from q flags s d 1) =
     omega arith in
     rw (
@@ -99,8 +94,8 @@ same_in q flags b more m e first le within =
     )
 
 -- a longer book has the same updates up to the same change
-pub updates-same : (q : Query) (flags : Flags) (b c : Book) (m e : ℕ) → b.start.number ≡ 0 → Extends c b
-    → m ≤ e → e ≤ length b.changes → updates q flags c m e ≡ updates q flags b m e
+pub updates-same : (q : Query) (flags : Flags) (b c : Book) (m e : ℕ) → b.start.number ≡ 0
+    → Extends c b → m ≤ e → e ≤ length b.changes → updates q flags c m e ≡ updates q flags b m e
 updates-same q flags b c m e first p le within = rw p.1 (same_in q flags b p.0 m e first le within)
 
 -- the updates up to a change are a front of those up to a later one

@@ -239,8 +239,8 @@ impl Log {
         Some(count)
     }
 
-    /// How many messages there were with the one of the value that the change after this one writes,
-    /// if values were asked for and its entry is in both results.
+    /// How many messages there were with the one of the value that the change after this one
+    /// writes, if values were asked for and its entry is in both results.
     fn count_value(
         &self,
         taken: &[Taken],

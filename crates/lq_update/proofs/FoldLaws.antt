@@ -24,7 +24,7 @@ use Rattle.lq_update.specs.Values.{told_within, value_written, values_told}
 use Rattle.lq_update.specs.Updates.{step_of, told_by, updates_from, updates_of}
 use Rattle.lq_update.specs.Fold.{EntriesRise, folded, folded_one, fits_in}
 use Rattle.lq_update.specs.Laws.{ResultsRise, WholeFoldsGiveResults, MessagesFitIn}
-use Rattle.lq_update.proofs.Lists.{after_all-append}
+use Rattle.std.proofs.lemmas.List.Sums.{fold-append}
 use Rattle.lq_update.proofs.EntryLemmas.{Above, entry_at, at-above, at-node}
 use Rattle.lq_update.proofs.FoldLemmas.{Op, OpsFit, ops_folded, ops_folded-append, fit-append, fits-needs, told-folds, told-fits, MessagesFit, Leads, leads-append, leads-numbered}
 
@@ -165,15 +165,6 @@ volume-all keep s (c ∷ cs) v l = volume-all keep (after s c) cs (keep s c v l.
 pub take-short : {X : Type 0} (k : ℕ) (xs : List X) → length (take k xs) ≤ k
 take-short k xs = rw (length-take k xs) (omega arith)
 
--- many changes add as many to the number
-number-all : ChangesCount → (s : State) (cs : List Change)
-    → (after_all s cs).number ≡ s.number + length cs
-number-all count s [] = omega arith
-number-all count s (c ∷ cs) =
-    let next = count s c in
-    let rest = number-all count (after s c) cs in
-    omega arith
-
 -- between two numbers of a book
 module _ (keep : ChangesKeepTrees) (b : Book) (m n : ℕ) (v : IsVolume b.start) (l : IsBook b) where
   -- the state at a number of a book is a volume
@@ -193,7 +184,7 @@ state-on b m j low =
     let all : m + j - b.start.number ≡ m - b.start.number + j = omega arith in
     sym (ap (λ k. after_all b.start (take k b.changes)) all
     ∙ (ap (after_all b.start) (take-add (m - b.start.number) j b.changes)
-    ∙ after_all-append b.start (take (m - b.start.number) b.changes)
+    ∙ fold-append after b.start (take (m - b.start.number) b.changes)
     (take j (drop (m - b.start.number) b.changes))))
 
 -- the state at a number has that number
@@ -202,7 +193,7 @@ pub number-at : ChangesCount → (b : Book) (m : ℕ) → b.start.number ≤ m �
 number-at count b m low high =
     let short : length (take (m - b.start.number) b.changes) ≡ m - b.start.number =
     length-take-le (m - b.start.number) b.changes (omega arith) in
-    let all = number-all count b.start (take (m - b.start.number) b.changes) in
+    let all = count b.start (take (m - b.start.number) b.changes) in
     omega arith
 
 -- the messages of an update list lead from the result at one number to that behind its changes

@@ -1,9 +1,9 @@
 -- A longer book adds to the end of an update list.
-use Rattle.std.proofs.Common.{◌≡◌, ◌≤◌, ℕ, ◌+◌, ◌-◌, List, [], ◌∷◌, ◌++◌, refl, arith, ap, length, take, drop, length-drop, ◌∙◌, append_assoc, append-nil, sym}
+use Rattle.std.proofs.Common.{◌≡◌, ◌≤◌, ℕ, ◌+◌, ◌-◌, List, [], ◌∷◌, ◌++◌, arith, ap, length, take, drop, length-drop, ◌∙◌, append_assoc, append-nil, sym}
+use Rattle.std.proofs.lemmas.List.Sums.{fold-append}
 use Rattle.std.proofs.lemmas.List.{length-append, take_all, take-append-le, take-take, take-append-drop, drop-append-le}
 use Rattle.lq_predicate.specs.Query.{Query}
 use Rattle.lq_volume.specs.declared.change.Change.{Change}
-use Rattle.lq_volume.specs.State.{State}
 use Rattle.lq_volume.specs.Change.{after}
 use Rattle.lq_volume.specs.Book.{Book, after_all, grown, number_of, state_at, state_of}
 use Rattle.lq_update.specs.declared.message.Message.{Message}
@@ -30,12 +30,6 @@ updates-join q flags s (c ∷ cs) ds seq =
     (updates_from q flags (after s c) (cs ++ ds) (seq + length (step_of q flags s c seq))) seq
     (updates-join q flags (after s c) cs ds (seq + length (step_of q flags s c seq)))
 
--- the state after some changes and then more
-pub after_all-append : (s : State) (xs ys : List Change)
-    → after_all s (xs ++ ys) ≡ after_all (after_all s xs) ys
-after_all-append s [] ys = refl
-after_all-append s (x ∷ xs) ys = after_all-append (after s x) xs ys
-
 -- the state of a number is the same where more changes follow
 state-grown : (b : Book) (more : List Change) (m : ℕ) → m ≤ number_of b
     → state_at (grown b more) m ≡ state_at b m
@@ -55,7 +49,7 @@ changes-add q flags b c m n all within =
     ∙ take_all (n + 1 - m) (late ++ c ∷ []) (omega (arith, length-append late (c ∷ []))) in
     let now : take (n - m) late ≡ late = take_all (n - m) late (omega arith) in
     let old = updates_from q flags s late 1 in
-    let end : after_all s late ≡ state_of b = sym (after_all-append b.start (take k cs) late)
+    let end : after_all s late ≡ state_of b = sym (fold-append after b.start (take k cs) late)
     ∙ ap (after_all b.start) (take-append-drop k cs) in
     let seq : 1 + length old ≡ length old + 1 = omega arith in
     (λ i. updates_from q flags (state-grown b (c ∷ []) m (omega arith) i) (then i) 1)

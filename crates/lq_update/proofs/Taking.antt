@@ -1,5 +1,5 @@
 -- A rebuild takes each message of an update list in turn.
-use Rattle.std.proofs.Common.{◌≡◌, ℕ, suc, ◌+◌, ◌-◌, ◌<◌, ◌≤◌, take, drop, List, [], ◌∷◌, ◌++◌, length, refl, sym, ap, ◌∙◌, Bool, true, false, arith, inl, inr, ◌⊎◌}
+use Rattle.std.proofs.Common.{◌≡◌, ℕ, suc, ◌+◌, ◌-◌, ◌<◌, ◌≤◌, take, drop, List, [], ◌∷◌, ◌++◌, length, refl, sym, ap, ◌∙◌, true, false, arith, inl, inr, ◌⊎◌}
 use Rattle.std.specs.Prelude.{None, ◌==◌}
 use Rattle.std.proofs.lemmas.Bool.Decides.{nat_tests}
 use Rattle.std.proofs.lemmas.List.{take-take}
@@ -148,7 +148,7 @@ module _ (result_at : ℕ → List Entry) where
       let w = keep s c v l.0 in
       let next : result_at (s.number + 1) ≡ result_of q (after s c) = gives 1 (omega arith) in
       let below = ready.told in
-      let one = count s c in
+      let one : (after s c).number ≡ s.number + 1 = count s (c ∷ []) in
       let leads : Leads f.entries (step_of q flags s c seq) (result_at (s.number + 1)) =
       rw (ready.entries, next) (leads-step q flags s c seq v w) in
       let first = taken-numbered f seq (s.number + 1) (told_by q flags s c) ready.next

@@ -23,7 +23,6 @@ use Rattle.lq_volume.specs.Laws.{ChangesCount, ChangesKeepTrees}
 use Rattle.lq_volume.specs.Result.{match_at, result_of}
 use Rattle.lq_volume.specs.State.{State, Record, record_at, IsVolume}
 use Rattle.lq_update.specs.declared.message.Message.{Message}
-use Rattle.lq_update.specs.declared.message.Opcode.{Opcode}
 use Rattle.lq_update.specs.declared.message.Opcode.TheVariants.{Created, Removed, ValueChanged}
 use Rattle.lq_update.specs.declared.open_options.Flags.{Flags}
 use Rattle.lq_update.specs.Diff.{diff, missing}
@@ -550,7 +549,8 @@ module _ (laws : Leaves) (count : ChangesCount) (q : Query) (flags : Flags) (nod
   tells a s (c ∷ cs) seq number asked le v l begun end differs =
       by (some (match_at q s node) begun) (match_at q (after s c) node) refl
       (λ there same. tells a (after s c) cs (seq + length (step_of q flags s c seq)) number asked
-      (let next = count s c in omega arith) (laws.touch.trees s c v l.0) l.1 there end
+      (let next : (after s c).number ≡ s.number + 1 = count s (c ∷ []) in omega arith)
+      (laws.touch.trees s c v l.0) l.1 there end
       (λ h. differs (same-then s (after s c) (after_all (after s c) cs) node a same h)))
     where
       volume : IsVolume (after s c)
@@ -698,7 +698,7 @@ shows-all keep count q flags state s [] seq v l gives = tt
 shows-all keep count q flags state s (c ∷ cs) seq v l gives =
     let next : state (s.number + 1) ≡ after s c = gives 1 (omega arith) in
     let volume = keep s c v l.0 in
-    let one = count s c in
+    let one : (after s c).number ≡ s.number + 1 = count s (c ∷ []) in
     all-append (Shows q state) (step_of q flags s c seq)
     (updates_from q flags (after s c) cs (seq + length (step_of q flags s c seq)))
     (numbered-shows q state seq (s.number + 1) (told_by q flags s c)

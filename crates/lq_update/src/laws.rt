@@ -117,8 +117,8 @@ pub fn bare_creates_tell_nothing()
     changes_touch_few();
 }
 
-/// A change that has no message for a query, beside those of values, leaves it as it was whether the
-/// query matches an entry: one question to the query will do (`matches_once`).
+/// A change that has no message for a query, beside those of values, leaves it as it was whether
+/// the query matches an entry: one question to the query will do (`matches_once`).
 pub fn quiet_changes_keep_matches()
     ensures { QuietKeepMatches }
 {

@@ -62,8 +62,8 @@ pub fn step(
 ///
 /// They are those of `step` with `flags.moved`. With `flags.values`, a write, or setting or
 /// removing an attribute, also gives one message `ValueChanged` of an entry that is in the result
-/// before and after it; then it is the only one. Refused: `NoMemory`. It changes nothing. For a planned change
-/// call `step_planned`, which doesn't check the change again.
+/// before and after it; then it is the only one. Refused: `NoMemory`. It changes nothing. For a
+/// planned change call `step_planned`, which doesn't check the change again.
 pub fn step_by(
     alloc: Global,
     predicate: &Predicate,

@@ -10,7 +10,7 @@ use Rattle.lq_volume.specs.declared.change.Change.TheVariants.{Create, Remove, M
 use Rattle.lq_volume.specs.State.{State, Record, Rises, IsNumbered}
 use Rattle.lq_volume.specs.Change.{refused, with_records, altered, without}
 use Rattle.lq_volume_entries.specs.Laws.{RecordsAreKept}
-use Rattle.lq_volume.proofs.RecordLemmas.{Entries, All-push, All-weaker, All-filter, All-without, All-kept}
+use Rattle.lq_volume.proofs.RecordLemmas.{Entries, All-then, All-filter, All-without, All-kept}
 
 -- where nothing refuses, no row's test holds
 pub none_holds : (rows : List (Bool × Refusal)) → first_refusal rows ≡ None
@@ -48,9 +48,9 @@ IsNumbered-create laws s v n more = record {
   next = omega (arith, n.next);
   few = omega (arith, n.few);
   rise = laws.rise.added s.records s.next v n.rise n.below;
-  above = All-push (λ e. 2 ≤ e.0) s.records (s.next, v) n.above n.next;
-  below = All-push (λ e. e.0 < s.next + 1) s.records (s.next, v) (All-weaker (λ e. e.0 < s.next)
-      (λ e. e.0 < s.next + 1) s.records (λ e lt. omega arith) n.below) (omega arith);
+  above = All-then (λ e. 2 ≤ e.0) (λ e. 2 ≤ e.0) s.records (s.next, v) (λ e le. le) n.above n.next;
+  below = All-then (λ e. e.0 < s.next) (λ e. e.0 < s.next + 1) s.records (s.next, v)
+      (λ e lt. omega arith) n.below (omega arith);
 }
 
 -- one more change, with records under nodes that were there

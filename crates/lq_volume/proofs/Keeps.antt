@@ -17,7 +17,7 @@ use Rattle.lq_volume.specs.Change.{refused, refusals, after, node_of, record_lef
 use Rattle.lq_volume_entries.specs.PlaceIndex.{CanMoveEntry}
 use Rattle.lq_volume.specs.Laws.{ChangesKeepTrees, UntouchedStay, ClobberedGo}
 use Rattle.lq_volume_entries.specs.Laws.{RecordsAreKept}
-use Rattle.lq_volume.proofs.RecordLemmas.{Entries, All-push, All-filter, All-without, All-kept, is_taken-node_in}
+use Rattle.lq_volume.proofs.RecordLemmas.{Entries, All-then, All-filter, All-without, All-kept, is_taken-node_in}
 use Rattle.lq_volume.proofs.Climbs.{Climb-more}
 use Rattle.lq_volume.proofs.Changes.{none_holds, accepted_number, IsNumbered-create, IsNumbered-filter, IsNumbered-altered}
 use Rattle.lq_volume.proofs.Tree.{IsChildless, childless-from_test, less-folder, IsTree-less, IsTree-edited, IsTree-kept, IsTree-more, dir_of-is, reaches-all, reaches-none, record-of}
@@ -45,7 +45,8 @@ keeps-create laws s new bare v h =
       tree = IsTree-more laws s s.limit (s.number + 1) (s.next + 1) new v.numbered v.tree
           (is_folder-from_tests (kind_at s new.dir) rows.0 rows.1.0) rows.1.1.0
           (λ is. let r = rows.1.1.1.0 in grind (arith, nat_tests));
-      named = All-push (λ e. HasOwnNames e.1.attrs) s.records (s.next, new) v.named (rw bare tt);
+      named = All-then (λ e. HasOwnNames e.1.attrs) (λ e. HasOwnNames e.1.attrs) s.records
+          (s.next, new) (λ e own. own) v.named (rw bare tt);
     }
 
 -- an accepted removal leaves a volume

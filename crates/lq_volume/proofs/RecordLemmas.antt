@@ -5,7 +5,7 @@ use Rattle.std.specs.List.{AllByRecursion, list_any}
 use Rattle.std.specs.Str.{bytes_eq}
 use Rattle.std.specs.Map.{lookup, values_of}
 use Rattle.std.proofs.lemmas.Bool.Decides.{nat_tests}
-use Rattle.std.proofs.lemmas.List.Elements.{All-filter as filter_all, All-from_recursion, All-push as push_all, recursion_from_All}
+use Rattle.std.proofs.lemmas.List.Elements.{All-filter as filter_all, All-from_recursion, recursion_from_All}
 use Rattle.lq_volume.specs.State.{Record, node_in}
 use Rattle.lq_volume.specs.Change.{altered, without}
 
@@ -13,23 +13,17 @@ use Rattle.lq_volume.specs.Change.{altered, without}
 abbrev pub Entries : Type 0
 Entries = List (ℕ × Record)
 
--- what is so of each entry and of one more is so of all of them
-pub All-push : (P : ℕ × Record → Type 0) (es : Entries) (e : ℕ × Record) → AllByRecursion P es → P e
-    → AllByRecursion P (es ++ e ∷ [])
-All-push P es e h p =
-    recursion_from_All P (es ++ e ∷ []) (push_all P es e (All-from_recursion P es h) p)
-
 -- what is so of each entry is so of those that a filter leaves
 pub All-filter : (P : ℕ × Record → Type 0) (test : ℕ × Record → Bool) (es : Entries)
     → AllByRecursion P es → AllByRecursion P (filter test es)
 All-filter P test es h =
     recursion_from_All P (filter test es) (filter_all test P es (All-from_recursion P es h))
 
--- what follows from what is so of each entry is so of each
-pub All-weaker : (P Q : ℕ × Record → Type 0) (es : Entries) → ((e : ℕ × Record) → P e → Q e)
-    → AllByRecursion P es → AllByRecursion Q es
-All-weaker P Q [] f h = tt
-All-weaker P Q (e ∷ es) f h = (f e h.0, All-weaker P Q es f h.1)
+-- what follows from what is so of each entry, and is so of one more, is so of all of them
+pub All-then : (P Q : ℕ × Record → Type 0) (es : Entries) (e : ℕ × Record)
+    → ((f : ℕ × Record) → P f → Q f) → AllByRecursion P es → Q e → AllByRecursion Q (es ++ e ∷ [])
+All-then P Q [] e then h q = (q, tt)
+All-then P Q (f ∷ es) e then h q = (then f h.0, All-then P Q es e then h.1 q)
 
 -- what is so of each entry is so without one node
 pub All-without : (P : ℕ × Record → Type 0) (other : Option ℕ) (es : Entries) → AllByRecursion P es

@@ -1,5 +1,6 @@
 -- A book: an initial state, and the changes accepted since, in order.
 use Rattle.std.specs.Prelude.{◌≡◌, ℕ, ◌+◌, ◌-◌, List, [], ◌∷◌, ◌++◌, length, take, drop}
+use Rattle.std.specs.List.{fold}
 use Rattle.lq_volume.specs.declared.change.Change.{Change}
 use Rattle.lq_volume.specs.State.{State}
 use Rattle.lq_volume.specs.Change.{after, IsLawful}
@@ -11,8 +12,7 @@ pub record Book : Type 0 where
 
 -- the state after these changes, made one after another
 abbrev pub after_all : State → List Change → State
-after_all s [] = s
-after_all s (c ∷ cs) = after_all (after s c) cs
+after_all s cs = fold after s cs
 
 -- each change is lawful after those before it
 abbrev pub AreLawful : State → List Change → Type 0

@@ -1,9 +1,10 @@
 -- Facts about every accepted change.
-use Rattle.std.specs.Prelude.{◌≡◌, ℕ, ◌+◌, ◌≢◌, Some, None}
+use Rattle.std.specs.Prelude.{◌≡◌, ℕ, ◌+◌, ◌≢◌, List, length, Some, None}
 use Rattle.std.specs.List.{AllByRecursion}
 use Rattle.lq_volume.specs.declared.change.Change.{Change}
 use Rattle.lq_volume.specs.State.{State, IsVolume, record_at}
 use Rattle.lq_volume.specs.Change.{after, node_of, clobbered, touched_by, IsLawful}
+use Rattle.lq_volume.specs.Book.{after_all}
 
 -- the state after an accepted change is again a tree
 abbrev pub ChangesKeepTrees : Type 0
@@ -19,6 +20,6 @@ abbrev pub UntouchedStay : Type 0
 UntouchedStay = (s : State) (c : Change) (n : ℕ) → IsVolume s → IsLawful s c
     → AllByRecursion (λ node. n ≢ node) (touched_by s c) → record_at s n ≡ record_at (after s c) n
 
--- a change adds one to the number of changes
+-- each change counts one: the number after a list of changes is greater by its length
 abbrev pub ChangesCount : Type 0
-ChangesCount = (s : State) (c : Change) → (after s c).number ≡ s.number + 1
+ChangesCount = (s : State) (cs : List Change) → (after_all s cs).number ≡ s.number + length cs

@@ -33,7 +33,7 @@ pub fn clobbered_nodes_go()
     records_are_kept();
 }
 
-/// A change adds one to the number of changes.
+/// Each change counts one: the number after a list of changes is greater by its length.
 pub fn changes_are_counted()
     ensures { ChangesCount }
 {}

@@ -1,6 +1,6 @@
 -- What one more node at the end, and one node less, make of entries whose nodes rise.
-use Rattle.std.proofs.Common.{◌≡◌, ℕ, ◌<◌, ◌≤◌, Result, List, [], ◌∷◌, ◌++◌, refl, arith, eqb}
-use Rattle.std.specs.Prelude.{not, ◌&&◌, ◌==◌, filter, Bool, true, false, cond, nat_eq, Option, Some, None, Ok, Err, OnErr}
+use Rattle.std.proofs.Common.{◌≡◌, ℕ, ◌<◌, ◌≤◌, List, [], ◌∷◌, ◌++◌, refl, arith, eqb}
+use Rattle.std.specs.Prelude.{not, ◌&&◌, ◌==◌, filter, Bool, true, false, cond, nat_eq, Option, Some, None}
 use Rattle.std.specs.Option.{option_map}
 use Rattle.std.specs.List.{AllByRecursion, list_any}
 use Rattle.std.specs.Str.{bytes_eq}
@@ -14,11 +14,6 @@ use Rattle.lq_volume_entries.specs.Edits.{altered, without}
 -- the records, each under its node
 abbrev pub Entries : Type 0
 Entries = List (ℕ × Record)
-
--- what is so anyway is so after an error
-pub on_err : {T E P : Type 0} (r : Result T E) → P → OnErr r P
-on_err (Ok x) p = tt
-on_err (Err e) p = p
 
 -- a node that is absent has no record to alter
 pub altered-absent : (es : Entries) (k : ℕ) (g : Record → Record)

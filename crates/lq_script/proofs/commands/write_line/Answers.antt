@@ -1,11 +1,8 @@
-use Rattle.std.proofs.Common.{rules, ◌≡◌, subst, Result, Ok, Err, OnErr, List, ℕ}
+use Rattle.std.proofs.Common.{rules, ◌≡◌, subst, List, ℕ}
 use Rattle.lq_script.specs.Written.{WritesFront}
+use Rattle.lq_script.proofs.ChangeLemmas.{on_err_any}
 use Rattle.lq_script.proofs.WrittenLemmas.{writes_part}
 use Rattle.lq_script.proofs.commands.write_line.Goals as goal
-
-on_err_any : {T E P : Type 0} (r : Result T E) → P → OnErr r P
-on_err_any (Ok x) p = tt
-on_err_any (Err e) p = p
 
 pub returns-in_err-write_all-clause-err : goal.returns-in_err-write_all-clause-err
 returns-in_err-write_all-clause-err g c =

@@ -1,4 +1,4 @@
-use Rattle.std.proofs.Common.{◌≡◌, ◌+◌, ◌≤◌, ℕ, List, [], ◌∷◌, length, suc, refl, sym, ap, ◌∙◌, arith, append-nil, Bool}
+use Rattle.std.proofs.Common.{◌≡◌, ◌+◌, ◌≤◌, ℕ, List, [], ◌∷◌, length, suc, zero, refl, sym, ap, ◌∙◌, arith, append-nil, Bool}
 use Rattle.lq_value.specs.declared.entry.Entry.{Entry}
 use Rattle.lq_predicate.specs.Query.{Query}
 use Rattle.lq_volume.specs.declared.change.Change.{Change}
@@ -11,10 +11,13 @@ use Rattle.lq_update.specs.Updates.{numbered, step_of}
 use Rattle.lq_tests.proofs.plain_step.step.Goals as goal
 use Rattle.lq_tests.proofs.plain_step.step.Goals.{In_ok-differences}
 
-length-numbered : (seq number : ℕ) (xs : List (Opcode × Entry))
-    → length (numbered seq number xs) ≡ length xs
-length-numbered seq number [] = refl
-length-numbered seq number (x ∷ xs) = ap suc (length-numbered (seq + 1) number xs)
+-- as few as messages are the differences that they number
+few-numbered : (seq number most : ℕ) (xs : List (Opcode × Entry))
+    → length (numbered seq number xs) ≤ most → length xs ≤ most
+few-numbered seq number most [] few = few
+few-numbered seq number zero (x ∷ xs) few = absurd (omega (arith, few))
+few-numbered seq number (suc most) (x ∷ xs) few =
+    let rest = few-numbered (seq + 1) number most xs (omega (arith, few)) in omega arith
 
 -- what is told is the difference of the two results
 told-diff : (c : In_ok-differences) → c.in_ok-differences.differences.items
@@ -38,7 +41,7 @@ number_all-requires-clause-few c =
     let few = c.steps_are_few.ensures c.args.predicate.now (no_values c.args.moved)
     c.args.before.now c.args.change.now c.args.first_seq c.changes-number.ensures.volume
     c.requires.lawful in
-    rw (told-diff c) (rw length-numbered at (rw (plain c.args.predicate.now c.args.moved
+    rw (told-diff c) (few-numbered _ _ 3 _ (rw (plain c.args.predicate.now c.args.moved
     c.args.before.now c.args.change.now c.args.first_seq) at few))
 
 pub returns-clause-messages : goal.returns-clause-messages

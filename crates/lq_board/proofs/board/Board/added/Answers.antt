@@ -17,8 +17,8 @@ fetch_add-number-requires g c = (
   c.join_seat.ensures.0 ∙ keeper_table c.keeper.view_is c.requires.board.0 c.self.view_is,
   omega (arith, c.self.invariant.0),
   adds _ _ _ _ _ (after c.keeper.invariant.0 c.join_seat.ensures.2) c.requires.chosen
-      c.accepted_changes_keep_trees.ensures c.requires.number c.requires.signs
-      (rw (← c.keeper.view_is) at c.requires.lawful),
+      c.accepted_changes_keep_trees.ensures c.changes_are_counted.ensures c.requires.number
+      c.requires.signs (rw (← c.keeper.view_is) at c.requires.lawful),
 )
 
 pub split_seat-again-requires : goal.split_seat-again-requires

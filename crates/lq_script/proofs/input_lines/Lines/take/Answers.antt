@@ -1,8 +1,8 @@
 -- The lines that end in a piece, one after another.
-use Rattle.std.proofs.Common.{arith, take, ◌++◌, ◌∙◌, ◌∷◌, [], List, ℕ, ap}
+use Rattle.std.proofs.Common.{append_assoc, arith, take, ◌++◌, ◌∙◌, ◌∷◌, [], List, ℕ, ap}
 use Rattle.std.proofs.lemmas.List.{take_all}
 use Rattle.lq_script_lines.specs.Lines.{line_of, unended_line}
-use Rattle.lq_script.proofs.InputLemmas.{hands_line, hands_run, hands_then, passes_at, reply_handed, with_part}
+use Rattle.lq_script.proofs.InputLemmas.{hands_line, hands_run, hands_then, passes_at, reply_handed}
 use Rattle.lq_script.proofs.input_lines.Lines.take.Goals as goal
 
 pub returns-then-room-eq0-clause-limit : goal.returns-then-room-eq0-clause-limit
@@ -18,9 +18,9 @@ loop-at-preserved-then-run-room c =
     let part = c.run_at-run.ensures.stops c.if-at-piece.true c.if-run-room.true in
     record {
       within = omega (arith, c.if-at-piece.true);
-      come = λ given h. rw (with_part given front (run ++ 10 ∷ []) _ part)
+      come = λ given h. rw (← part, ← append_assoc given front (run ++ 10 ∷ []))
           (c.in_ok-end_line.ensures.come _ (c.loop-at.invariant.come given h));
-      hands = λ given h. rw (with_part given front (run ++ 10 ∷ []) _ part)
+      hands = λ given h. rw (← part, ← append_assoc given front (run ++ 10 ∷ []))
           (hands_then (c.loop-at.invariant.hands given h)
           (hands_line c.lines_grow.ensures.grow c.lines_grow.ensures.end (given ++ front) run
           c.run_at-run.ensures.unbroken
@@ -36,9 +36,9 @@ loop-at-preserved c =
     let part = c.run_at-run.ensures.run in
     record {
       within = c.run_at-run.ensures.bound;
-      come = λ given h. rw (with_part given front run _ part)
+      come = λ given h. rw (← part, ← append_assoc given front run)
           (c.in_ok-keep.ensures.come _ (c.loop-at.invariant.come given h));
-      hands = λ given h. rw (with_part given front run _ part)
+      hands = λ given h. rw (← part, ← append_assoc given front run)
           (hands_then (c.loop-at.invariant.hands given h)
           (hands_run c.lines_grow.ensures.grow c.loop-at.self.given.items (given ++ front) run
           c.run_at-run.ensures.unbroken));

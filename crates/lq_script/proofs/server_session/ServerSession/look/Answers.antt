@@ -40,5 +40,6 @@ returns-in_err-found-in-Fetch-clause-refused g c =
 
 pub returns-in_ok-found-in-Fetch-clause-replied : goal.returns-in_ok-found-in-Fetch-clause-replied
 returns-in_ok-found-in-Fetch-clause-replied g c =
-    rw c.in-Fetch.is (answers_fetch _ _ _ _ _ c.in_ok-found-in-Fetch.ensures.made
-    c.in_ok-found-in-Fetch.ensures.at c.in_ok-found-in-Fetch.ensures.entries)
+    rw c.in-Fetch.is (answers_fetch c.changes_are_counted.ensures _ _ _ _ _
+    c.in_ok-found-in-Fetch.ensures.made c.in_ok-found-in-Fetch.ensures.at
+    c.in_ok-found-in-Fetch.ensures.entries)

@@ -105,7 +105,8 @@ returns-clause-ok c = stepped (goal.at.returns-clause-ok c).Joined-change
 pub invariant_of-self-2 : goal.invariant_of-self-2
 invariant_of-self-2 c =
     subst IsVolume (sym (stepped (goal.at.invariant_of-self-2 c).Joined-change))
-    (c.accepted_changes_keep_trees.ensures _ _ (rw c.self.view_is at c.self.invariant) c.requires.lawful)
+    (c.accepted_changes_keep_trees.ensures _ _ (rw c.self.view_is at c.self.invariant)
+    c.requires.lawful)
 
 pub invariant_of-self : goal.invariant_of-self
 invariant_of-self c = rw c.in_err-add-in-Create.ensures.err c.self.invariant

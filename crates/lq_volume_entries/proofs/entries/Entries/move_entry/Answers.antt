@@ -7,7 +7,8 @@ use Rattle.lq_volume_entries.proofs.entries.Entries.move_entry.Goals.{in-Some+th
 
 pub invariant_of-self-2 : goal.invariant_of-self-2
 invariant_of-self-2 c =
-    let moves : CanMoveEntry c.self.inside.records c.args.node c.args.dir c.args.name.now c.args.other =
+    let moves :
+    CanMoveEntry c.self.inside.records c.args.node c.args.dir c.args.name.now c.args.other =
     rw c.self.view_is c.requires in
     let kept = c.in_ok-kept.ensures.value in
     elim c.match-get.branch [

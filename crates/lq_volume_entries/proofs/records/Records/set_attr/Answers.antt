@@ -1,5 +1,5 @@
+use Rattle.std.proofs.Common.{◌≡◌, Err, rules}
 use Rattle.lq_volume_entries.specs.Edits.{set_attr}
-use Rattle.lq_volume_entries.proofs.RecordLemmas.{on_err}
 use Rattle.lq_volume_entries.proofs.ByNode.{by_node-absent, by_node-altered, by_node-same, Rises-by_node}
 use Rattle.lq_volume_entries.proofs.records.Records.set_attr.Goals as goal
 use Rattle.lq_volume_entries.proofs.records.Records.set_attr.Goals.{in-Some+in_ok-set_attr, in_default}
@@ -12,7 +12,8 @@ returns-in_err-set_attr-clause-err c =
     let end = c.get_mut.follows.holds c.set_attr.new.self in
     let same = by_node-same _ _ _ _ _ c.in_err-set_attr.ensures.err c.self.invariant end.4
     c.in-Some.ensures.value (λ there n. (end.3 there).0 n) in
-    rw (← c.self.view_is) (on_err _ same)
+    let is : c.from_residual.result ≡ Err c.in_err-set_attr.field-0.0 = search rules in
+    rw (is, ← c.self.view_is) same
 
 pub invariant_of-self-2 : goal.invariant_of-self-2
 invariant_of-self-2 c = elim c.match-get_mut.branch [
