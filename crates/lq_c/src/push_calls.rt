@@ -7,7 +7,7 @@ ghost use Rattle.lq_embed.specs.Calls.{Fetches};
 ghost use Rattle.lq_embed.specs.Numbers.{op_numbered};
 ghost use Rattle.lq_embed.specs.Opening.{OpensBy, asked_options};
 ghost use Rattle.lq_embed.specs.Pushed.{push_op_outcome, push_outcome};
-ghost use Rattle.lq_embed.specs.Requests.{fetch_pushed, in_utf8, left_by, open_pushed};
+ghost use Rattle.lq_embed.specs.Requests.{fetch_pushed, in_utf8, stack_left, open_pushed};
 ghost use Rattle.lq_embed.specs.declared.pushes.Push.TheVariants.{Int32, Int64, UInt32, UInt64};
 ghost use Rattle.lq_embed.specs.SessionState.{with_pushed};
 ghost use Rattle.lq_c.specs.Held.{held_state};
@@ -122,7 +122,7 @@ pub extern "C" fn lqp_open_pushed(
     out: &mut OpeningResult,
 ) -> u32
     ensures opens { OpensBy (held_state handle.old) (held_state handle.new)
-        (left_by (held_state handle.old).pushed (only_part (held_state handle.old).pushed.items))
+        (stack_left (held_state handle.old).pushed (only_part (held_state handle.old).pushed.items))
         options.now
         (open_pushed (held_state handle.old).pushed.pushes (asked_options options.now)
         (only_part (held_state handle.old).pushed.items))
@@ -147,7 +147,7 @@ pub extern "C" fn lqp_fetch_pushed(
     out: &mut FetchedResult,
 ) -> u32
     ensures fetches { Fetches (held_state handle.old) (held_state handle.new)
-        (left_by (held_state handle.old).pushed (only_part (held_state handle.old).pushed.items))
+        (stack_left (held_state handle.old).pushed (only_part (held_state handle.old).pushed.items))
         (fetch_pushed (held_state handle.old).pushed.pushes
         (only_part (held_state handle.old).pushed.items)) result out.old.fetched out.new.fetched }
     ensures count { pushes.new ≡ after_take result pushes.old }

@@ -20,7 +20,7 @@ use Rattle.lq_desk_world.specs.declared.event.Event.{Event}
 use Rattle.lq_desk_world.specs.declared.event.Event.TheVariants.{Change}
 use Rattle.lq_desk_world.specs.Events.{Answer, Opened, Took, Ended}
 use Rattle.lq_desk_world.specs.Runs.{Run}
-use Rattle.lq_desk_world.specs.Headline.{reads_of, parcel_in, parcels_in, update_in, updates_among, updates_in, accepted_by, accepted, run_book, IsOpening, AreReads, OpeningsAreTold, ReadersAreTold, HasMark}
+use Rattle.lq_desk_world.specs.Headline.{reads_of, parcel_in, parcels_in, as_update, updates_among, updates_in, accepted_by, accepted, run_book, IsOpening, AreReads, OpeningsAreTold, ReadersAreTold, HasMark}
 use Rattle.lq_desk_world.proofs.ReadLemmas.{run-book, run-lawful}
 use Rattle.lq_desk_world.proofs.RunLemmas.{Ran, has-mark, mark-place, prefix-more, updates-prefix, updates_among-take}
 use Rattle.std.specs.List.{AllByRecursion}
@@ -137,7 +137,7 @@ ran-reads grow b s end i reads freed book none ran number lists =
 -- the updates in answers and then in others are those in both together
 updates_in-append : (xs ys : List Answer) → updates_in (xs ++ ys) ≡ updates_in xs ++ updates_in ys
 updates_in-append xs ys = ap updates_among (filter_map-append parcel_in xs ys)
-    ∙ filter_map-append update_in (parcels_in xs) (parcels_in ys)
+    ∙ filter_map-append as_update (parcels_in xs) (parcels_in ys)
 
 -- the updates of a front of the reads are a prefix too
 front-prefix : (front rest reads : List Answer) (us : List Message)

@@ -44,12 +44,12 @@ parcel_in a = None
 abbrev pub parcels_in : List Answer → List Parcel
 parcels_in answers = filter_map parcel_in answers
 
-abbrev pub update_in : Parcel → Option Message
-update_in (Update m) = Some m
-update_in (Fin mark) = None
+abbrev pub as_update : Parcel → Option Message
+as_update (Update m) = Some m
+as_update (Fin mark) = None
 
 abbrev pub updates_among : List Parcel → List Message
-updates_among parcels = filter_map update_in parcels
+updates_among parcels = filter_map as_update parcels
 
 abbrev pub updates_in : List Answer → List Message
 updates_in answers = updates_among (parcels_in answers)

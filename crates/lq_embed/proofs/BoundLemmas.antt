@@ -11,20 +11,20 @@ use Rattle.lq_predicate_formula.specs.Tokens.{HasOneTokenList}
 use Rattle.lq_embed.specs.declared.bound_formula.Unbound.{Unbound}
 use Rattle.lq_embed.specs.declared.bound_formula.Unbound.TheVariants.{NoValue, Refused, UnusedValue}
 use Rattle.lq_embed.specs.declared.parameters.Parameter.{Parameter}
-use Rattle.lq_embed.specs.BoundFormula.{Binds, bound_formula, first_missing, first_of, first_unused, is_named, replaced_from, unless_unbound}
+use Rattle.lq_embed.specs.BoundFormula.{Binds, bound_formula, first_missing, first_unbound, first_unused, has_parameter, replaced_from, unless_unbound}
 use Rattle.lq_embed.specs.ParameterList.{HasParameters, IsNotCut}
 
 -- ---- missing and unused values
 
 -- no parameter has this number
 pub unused_here : (ps : List Parameter) (values : List Value) (i : ℕ) (d : Value)
-    → i < length values → is_named ps (i + 1) ≡ false
+    → i < length values → has_parameter ps (i + 1) ≡ false
     → first_unused ps (i + 1) (drop i values) ≡ Some (i + 1)
 unused_here ps values i d lt is = at_drop_more (first_unused ps (i + 1)) values i d lt ∙ rw is refl
 
 -- one has
 pub unused_next : (ps : List Parameter) (values : List Value) (i : ℕ) (d : Value)
-    → i < length values → is_named ps (i + 1) ≡ true
+    → i < length values → has_parameter ps (i + 1) ≡ true
     → first_unused ps (i + 1) (drop i values) ≡ first_unused ps (i + 1 + 1) (drop (i + 1) values)
 unused_next ps values i d lt is = at_drop_more (first_unused ps (i + 1)) values i d lt ∙ rw is refl
 
@@ -33,7 +33,7 @@ unused_next ps values i d lt is = at_drop_more (first_unused ps (i + 1)) values 
 -- the outcome by what the tests answer, in order
 abbrev outcome_by : Bool → Bool → Option ℕ → Option ℕ → Option ℕ → List ℕ
     → Result (List ℕ) Unbound
-outcome_by utf8 short fault missing unused text = unless_unbound (first_of (
+outcome_by utf8 short fault missing unused text = unless_unbound (first_unbound (
     (if utf8 then None else Some (Refused NotUtf8))
     ∷ (if short then None else Some (Refused (BadQuery 4096)))
     ∷ option_map (λ offset. Refused (BadQuery offset)) fault

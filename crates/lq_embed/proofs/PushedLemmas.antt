@@ -17,7 +17,7 @@ use Rattle.lq_script_desk.specs.Session.{Session}
 use Rattle.lq_embed.specs.declared.out_structs.OpeningOut.{OpeningOut}
 use Rattle.lq_embed.specs.declared.out_structs.FetchedOut.{FetchedOut}
 use Rattle.lq_embed.specs.Calls.{Fetches, Opens, state_after_refusal}
-use Rattle.lq_embed.specs.Requests.{fetch_pushed, left_by, open_pushed}
+use Rattle.lq_embed.specs.Requests.{fetch_pushed, stack_left, open_pushed}
 use Rattle.lq_embed.specs.SessionState.{SessionState, with_fault, with_pushed, with_session}
 
 -- the state after a stack without a predicate was refused
@@ -38,7 +38,7 @@ pub opens-none : {old mid new : SessionState} {status : ℕ} {before : OpeningOu
     (options : QueryOptions) (o : Option Query) (e : Refusal)
     → refusal_at old.pushed.pushes o ≡ Some e → mid ≡ old → status ≡ code_of e
     → new ≡ state_after_refusal e mid
-    → Opens old new (left_by old.pushed o) (open_pushed old.pushed.pushes options o)
+    → Opens old new (stack_left old.pushed o) (open_pushed old.pushed.pushes options o)
     status before before
 opens-none {old = old} {new = new} options None e is stays code kept =
     let same : e ≡ BadQuery old.pushed.pushes = cc in
@@ -58,7 +58,7 @@ pub fetches-none : {old mid new : SessionState} {status : ℕ} {before : Fetched
     (o : Option Query)
     (e : Refusal) → refusal_at old.pushed.pushes o ≡ Some e → mid ≡ old → status ≡ code_of e
     → new ≡ state_after_refusal e mid
-    → Fetches old new (left_by old.pushed o) (fetch_pushed old.pushed.pushes o) status before before
+    → Fetches old new (stack_left old.pushed o) (fetch_pushed old.pushed.pushes o) status before before
 fetches-none {old = old} None e is stays code kept =
     let same : e ≡ BadQuery old.pushed.pushes = cc in record {
       response = Refuses (BadQuery old.pushed.pushes);
@@ -74,14 +74,14 @@ pub opens-alone : {old mid new : SessionState} {status : ℕ} {before after : Op
     (options : QueryOptions) (o : Option Query) (q : Query) → o ≡ Some q
     → mid ≡ with_pushed old new_stack
     → Opens mid new mid.pushed (Ok (Event (OpenBy q options))) status before after
-    → Opens old new (left_by old.pushed o) (open_pushed old.pushed.pushes options o)
+    → Opens old new (stack_left old.pushed o) (open_pushed old.pushed.pushes options o)
     status before after
 opens-alone {old = old} {new = new} {status = status} {before = before} {after = after} options
     o q is off known =
     let there = subst (λ (m : SessionState). Opens m new m.pushed
     (Ok (Event (OpenBy q options)))
     status before after) off known in
-    subst (λ (p : Option Query). Opens old new (left_by old.pushed p)
+    subst (λ (p : Option Query). Opens old new (stack_left old.pushed p)
     (open_pushed old.pushed.pushes options p) status before after) (sym is) (record {
       answer = there.answer;
       asks = there.asks;
@@ -94,13 +94,13 @@ opens-alone {old = old} {new = new} {status = status} {before = before} {after =
 pub fetches-alone : {old mid new : SessionState} {status : ℕ} {before after : FetchedOut}
     (o : Option Query) (q : Query) → o ≡ Some q → mid ≡ with_pushed old new_stack
     → Fetches mid new mid.pushed (Ok (Look (Fetch q))) status before after
-    → Fetches old new (left_by old.pushed o) (fetch_pushed old.pushed.pushes o) status before after
+    → Fetches old new (stack_left old.pushed o) (fetch_pushed old.pushed.pushes o) status before after
 fetches-alone {old = old} {new = new} {status = status} {before = before} {after = after} o q is
     off known =
     let there = subst (λ (m : SessionState). Fetches m new m.pushed (Ok (Look (Fetch q))) status
     before after)
     off known in
-    subst (λ (p : Option Query). Fetches old new (left_by old.pushed p)
+    subst (λ (p : Option Query). Fetches old new (stack_left old.pushed p)
     (fetch_pushed old.pushed.pushes p) status before after) (sym is) (record {
       response = there.response;
       responds = there.responds;

@@ -7,7 +7,7 @@ use Rattle.lq_desk_world.specs.Events.{Answer}
 use Rattle.lq_desk_world.specs.Events as answer
 use Rattle.lq_embed.specs.declared.out_structs.MessageOut.{MessageOut}
 use Rattle.lq_embed.specs.Outs.{read_after}
-use Rattle.lq_embed.specs.Reads.{IsStopped, ReadsEach, ReadsOne, last_count, read_outcome}
+use Rattle.lq_embed.specs.Reads.{IsStopped, ReadsEach, ReadsOne, last_count, read_gives}
 use Rattle.lq_embed.specs.SessionState.{SessionState}
 use Rattle.lq_embed.specs.Status.{outcome_status}
 
@@ -86,7 +86,7 @@ read-all {slot = slot} {first = first} {now = now} {i = i} {before = before} {pl
     (subst (λ ys. ReadsEach slot first (take i before) ys now) (take_all i places full) was.each)
 
 -- a read that gives neither a message nor the mark leaves its place
-place-stays : (answer : Answer) (place : MessageOut) → read_outcome answer ≢ Ok true
+place-stays : (answer : Answer) (place : MessageOut) → read_gives answer ≢ Ok true
     → read_after answer place ≡ place
 place-stays (answer.Changed applied) place none = refl
 place-stays (answer.Opened slot at result) place none = refl

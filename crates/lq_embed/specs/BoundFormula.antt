@@ -44,20 +44,20 @@ first_missing count [] = None
 first_missing count (p ∷ ps) =
     if nat_lt count p.number then Some p.number else first_missing count ps
 
-abbrev pub is_named : List Parameter → ℕ → Bool
-is_named ps number = list_any (λ p. p.number == number) ps
+abbrev pub has_parameter : List Parameter → ℕ → Bool
+has_parameter ps number = list_any (λ p. p.number == number) ps
 
 -- the first number, of the values from this number on, that no parameter has
 abbrev pub first_unused : List Parameter → ℕ → List Value → Option ℕ
 first_unused ps number [] = None
 first_unused ps number (value ∷ values) =
-    if is_named ps number then first_unused ps (number + 1) values else Some number
+    if has_parameter ps number then first_unused ps (number + 1) values else Some number
 
 -- the first of some refusals that is there
-abbrev pub first_of : List (Option Unbound) → Option Unbound
-first_of [] = None
-first_of (Some refusal ∷ refusals) = Some refusal
-first_of (None ∷ refusals) = first_of refusals
+abbrev pub first_unbound : List (Option Unbound) → Option Unbound
+first_unbound [] = None
+first_unbound (Some refusal ∷ refusals) = Some refusal
+first_unbound (None ∷ refusals) = first_unbound refusals
 
 -- why values can't be put in place, in order
 abbrev pub unbound_refusals : List Value → List ℕ → List Placed → List (Option Unbound)
@@ -76,7 +76,7 @@ unless_unbound (Some refusal) text = Err refusal
 -- the formula with its values in place, or the first refusal that fits
 abbrev pub bound_formula : List Value → List ℕ → List Placed → Result (List ℕ) Unbound
 bound_formula values formula ts =
-    unless_unbound (first_of (unbound_refusals values formula ts)) (with_values values formula ts)
+    unless_unbound (first_unbound (unbound_refusals values formula ts)) (with_values values formula ts)
 
 -- the outcome is that of the formula's tokens, or memory ran out
 pub record Binds (values : List Value) (formula : List ℕ) (outcome : Result (List ℕ) Unbound) :

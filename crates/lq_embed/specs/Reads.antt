@@ -14,17 +14,17 @@ use Rattle.lq_embed.specs.Status.{outcome_status}
 -- ---- reads into a caller's places
 
 -- what a read says of itself: whether it gave a message or the mark
-abbrev pub read_outcome : Answer → Result Bool Refusal
-read_outcome (Took parcel) = Ok true
-read_outcome (Refused refusal) = Err refusal
-read_outcome answer = Ok false
+abbrev pub read_gives : Answer → Result Bool Refusal
+read_gives (Took parcel) = Ok true
+read_gives (Refused refusal) = Err refusal
+read_gives answer = Ok false
 
 -- one of the reads
 pub record ReadsOne (old new : SessionState) (slot : ℕ) (outcome : Result Bool Refusal)
     (before after : MessageOut) : Type 0 where
   pub answer : Answer
   pub turned : Turned old.session new.session (Take slot) answer
-  pub parcel : outcome ≡ read_outcome answer
+  pub parcel : outcome ≡ read_gives answer
   pub out : after ≡ read_after answer before
   pub beside : new ≡ with_session old new.session
 

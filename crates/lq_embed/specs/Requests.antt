@@ -62,6 +62,6 @@ fetch_pushed pushes None = Err (BadQuery pushes)
 fetch_pushed pushes (Some q) = Ok (Look (Fetch q))
 
 -- the stack after its only item was taken, if it had one
-abbrev pub left_by : Stacked → Option Query → Stacked
-left_by stack None = stack
-left_by stack (Some q) = new_stack
+abbrev pub stack_left : Stacked → Option Query → Stacked
+stack_left stack None = stack
+stack_left stack (Some q) = new_stack

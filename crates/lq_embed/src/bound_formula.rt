@@ -2,7 +2,7 @@
 //! reads.
 ghost use Rattle.std.specs.Prelude.{◌≡◌, ◌++◌, ◌+◌, ◌≤◌, ◌^◌, ◌<◌, IfErr, IfOk, OnOk, Ok, Err, length};
 ghost use Rattle.lq_value.specs.Refusal.{FailsOnlyForMemory};
-ghost use Rattle.lq_embed.specs.BoundFormula.{Binds, between, first_missing, first_unused, is_named, literal_at, replaced_from};
+ghost use Rattle.lq_embed.specs.BoundFormula.{Binds, between, first_missing, first_unused, has_parameter, literal_at, replaced_from};
 
 use crate::parameters::{Parameter, read_parameters};
 use crate::quoting::put_literal;
@@ -71,15 +71,15 @@ fn first_unused(parameters: &[Parameter], values: &[Value]) -> Option<usize>
     ensures { result ≡ first_unused parameters.now 1 values.now }
 {
     for index in 0..values.len() {
-        if !is_named(parameters, index + 1) {
+        if !has_parameter(parameters, index + 1) {
             return Some(index + 1);
         }
     }
     None
 }
 
-fn is_named(parameters: &[Parameter], number: usize) -> bool
-    ensures { result ≡ is_named parameters.now number }
+fn has_parameter(parameters: &[Parameter], number: usize) -> bool
+    ensures { result ≡ has_parameter parameters.now number }
 {
     parameters
         .iter()

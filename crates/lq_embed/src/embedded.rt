@@ -4,7 +4,7 @@ ghost use Rattle.std.specs.Prelude.{◌≡◌, IfOk};
 ghost use Rattle.lq_value.specs.Refusal.{FailsOnlyForMemory, code_of};
 ghost use Rattle.lq_desk.specs.Reply.{answer_of};
 ghost use Rattle.lq_script_desk.specs.Keeps.{keeps};
-ghost use Rattle.lq_script_request.specs.Asked.{asked_by};
+ghost use Rattle.lq_script_request.specs.Asked.{raw_asked};
 ghost use Rattle.lq_script_request.specs.Request.{request_for};
 ghost use Rattle.lq_embed.specs.Calls.{Asks, state_after_refusal};
 ghost use Rattle.lq_embed.specs.SessionState.{first_state, holds, volume_in, with_session};
@@ -73,7 +73,7 @@ impl Embedded {
     // Carries out the event that a request asks for.
     pub(crate) fn answer_request(&mut self, raw: &RawRequest<'_>) -> Reply
         ensures asks { Asks (keeps self.old.session) (keeps self.new.session)
-            (request_for (asked_by raw.now)) (answer_of result) }
+            (request_for (raw_asked raw.now)) (answer_of result) }
         ensures beside { holds self.new ≡ with_session (holds self.old) (keeps self.new.session) }
     {
         match read_request(self.alloc, &mut self.attrs, raw) {

@@ -1,6 +1,6 @@
 //! Looks at the volume, which change nothing in it.
 ghost use Rattle.std.specs.Prelude.{◌≡◌, Ok};
-ghost use Rattle.lq_script_request.specs.Asked.{asked_by};
+ghost use Rattle.lq_script_request.specs.Asked.{raw_asked};
 ghost use Rattle.lq_script_request.specs.Request.{request_for};
 ghost use Rattle.lq_script_request.specs.declared.request.Request.TheVariants as request;
 ghost use Rattle.lq_script_request.specs.declared.request.Look.TheVariants.{Entry, Rebuilt};
@@ -92,7 +92,7 @@ impl Embedded {
 
     // The response to a raw request for a look. No event is asked for.
     fn look(&mut self, raw: &RawRequest<'_>) -> Response
-        ensures responds { Responds (keeps self.old.session) (request_for (asked_by raw.now))
+        ensures responds { Responds (keeps self.old.session) (request_for (raw_asked raw.now))
             (response_of result) }
         ensures stays { holds self.new ≡ holds self.old }
     {

@@ -5,7 +5,7 @@ ghost use Rattle.lq_desk.specs.Reply.{answer_of};
 ghost use Rattle.lq_embed.specs.Calls.{state_after_opening};
 ghost use Rattle.lq_embed.specs.Opening.{OpensBy, asked_options, backlog_of, kept_by};
 ghost use Rattle.lq_embed.specs.Outs.{opening_after};
-ghost use Rattle.lq_embed.specs.Requests.{left_by, open_pushed, open_request};
+ghost use Rattle.lq_embed.specs.Requests.{stack_left, open_pushed, open_request};
 ghost use Rattle.lq_embed.specs.SessionState.{holds};
 ghost use Rattle.lq_embed.specs.Status.{status_of};
 
@@ -50,7 +50,7 @@ impl Embedded {
     /// `open_by`; `NoMemory`.
     pub fn open_pushed_by(&mut self, options: &OpenOptions, out: &mut OpeningOut) -> u32
         ensures { OpensBy (holds self.old) (holds self.new)
-            (left_by (holds self.old).pushed (only_part (holds self.old).pushed.items))
+            (stack_left (holds self.old).pushed (only_part (holds self.old).pushed.items))
             options.now
             (open_pushed (holds self.old).pushed.pushes (asked_options options.now)
             (only_part (holds self.old).pushed.items)) result out.old out.new }

@@ -4,7 +4,7 @@ ghost use Rattle.lq_predicate.specs.Stack.{only_part};
 ghost use Rattle.lq_predicate.specs.Stacked.{new_stack};
 ghost use Rattle.lq_embed.specs.Calls.{Fetches, Pushes};
 ghost use Rattle.lq_embed.specs.Pushed.{PutsOn, push_outcome};
-ghost use Rattle.lq_embed.specs.Requests.{fetch_pushed, left_by};
+ghost use Rattle.lq_embed.specs.Requests.{fetch_pushed, stack_left};
 ghost use Rattle.lq_embed.specs.SessionState.{holds, with_pushed};
 
 use crate::embedded::Embedded;
@@ -63,7 +63,7 @@ impl Embedded {
     /// Refused: `BadQuery` where the stack holds anything else, `NoMemory`.
     pub fn fetch_pushed(&mut self, out: &mut FetchedOut) -> u32
         ensures { Fetches (holds self.old) (holds self.new)
-            (left_by (holds self.old).pushed (only_part (holds self.old).pushed.items))
+            (stack_left (holds self.old).pushed (only_part (holds self.old).pushed.items))
             (fetch_pushed (holds self.old).pushed.pushes
             (only_part (holds self.old).pushed.items)) result out.old out.new }
     {

@@ -32,7 +32,7 @@ use Rattle.lq_server.specs.Syncing.{IsSynced}
 use Rattle.lq_server.specs.Headline.{ReaderIsTold}
 use Rattle.lq_server.specs.Retired.{IsRetired}
 use Rattle.lq_server.specs.Counted.{AreMixed, AreMixedEarlier, AreRising, HasMadeJust, TwoSeatsMakeTheBook, changes_at}
-use Rattle.lq_model.specs.Followed.{HasHungUp, IsFollowed, AreBothMade, AreGathered, AreRefusedAmid, HasApplied, HasMade, IsRefusedAt}
+use Rattle.lq_model.specs.Followed.{HasHungUp, IsFollowed, AreBothMade, AreBothGathered, AreRefusedAmid, HasApplied, HasMade, IsRefusedAt}
 use Rattle.lq_model.proofs.MadeLemmas.{changes_at-later, take_less}
 
 -- nobody is left of a list of one
@@ -165,7 +165,7 @@ made_just old new changes book fresh m later =
 gathered : TwoSeatsMakeTheBook → (start : State) (old one other two : SeatToken Identity)
     (first second : List Change) (r : Retired) → old.author.changes ≡ []
     → other.author.changes ≡ [] → HasMade old one first → HasMade other two second
-    → (g : AreGathered start one two r)
+    → (g : AreBothGathered start one two r)
     → let book = g.retired.book in
     AreMixed first second book.changes
     × AreMixed one.author.changes two.author.changes g.all
@@ -182,7 +182,7 @@ gathered law start old one other two first second r fresh new f s g =
 pub both_made : TwoSeatsMakeTheBook → (start : State) (old one other two : SeatToken Identity)
     (first second : List Change) (r : Retired) → old.author.changes ≡ []
     → other.author.changes ≡ [] → HasMade old one first → HasMade other two second
-    → AreGathered start one two r → AreBothMade start first second r
+    → AreBothGathered start one two r → AreBothMade start first second r
 both_made law start old one other two first second r fresh new f s g =
     let book : Book = g.retired.book in
     record {
@@ -236,7 +236,7 @@ pub first_amid : TwoSeatsMakeTheBook → (start : State) (old one other two : Se
     (first second : List Change) (e : Refusal) (r : Result (Unit {0}) Refusal) (z : Retired)
     → old.author.changes ≡ [] → other.author.changes ≡ [] → old.book.start ≡ start
     → HasApplied old one first (Err e) → HasApplied other two second r
-    → AreGathered start one two z → AreRefusedAmid start first second e
+    → AreBothGathered start one two z → AreRefusedAmid start first second e
 first_amid law start old one other two first second e r z fresh new begins a b g =
     amid start old one other two g.retired.book first second e r fresh begins a b g.retired.later
     (gathered law start old one other two (take a.accepted first) (take b.accepted second) z fresh
@@ -247,7 +247,7 @@ pub second_amid : TwoSeatsMakeTheBook → (start : State) (old one other two : S
     (first second : List Change) (e : Refusal) (r : Result (Unit {0}) Refusal) (z : Retired)
     → old.author.changes ≡ [] → other.author.changes ≡ [] → other.book.start ≡ start
     → HasApplied old one first r → HasApplied other two second (Err e)
-    → AreGathered start one two z → AreRefusedAmid start second first e
+    → AreBothGathered start one two z → AreRefusedAmid start second first e
 second_amid law start old one other two first second e r z fresh new begins a b g =
     amid start other two old one g.retired.book second first e r new begins b a g.second
     (gathered law start old one other two (take a.accepted first) (take b.accepted second) z fresh

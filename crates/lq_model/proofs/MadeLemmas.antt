@@ -18,7 +18,7 @@ use Rattle.lq_board.specs.Token.{SeatToken}
 use Rattle.lq_server_slots.specs.declared.identity.Identity.{Identity}
 use Rattle.lq_server_slots.specs.Applied.{IsAdded}
 use Rattle.lq_server.specs.Counted.{AreRising, changes_at}
-use Rattle.lq_model.specs.Followed.{book_of, AreRefused, HasApplied, HasMade, HasStopped, IsRefusedAt}
+use Rattle.lq_model.specs.Followed.{book_with, AreRefused, HasApplied, HasMade, HasStopped, IsRefusedAt}
 
 -- the changes of a book under all its numbers are all its changes, where some come before
 pub all_after : (front xs : List Change)
@@ -170,7 +170,7 @@ pub stopped_so : (seat : SeatToken Identity) (start : State) (changes : List Cha
 stopped_so seat start changes e n s all most =
     let made : seat.book.changes ≡ take s.accepted changes =
     made_then seat.book seat.author.changes (take s.accepted changes) n s.made all most in
-    let book : seat.book ≡ book_of start (take s.accepted changes) =
+    let book : seat.book ≡ book_with start (take s.accepted changes) =
     λ i. record { start = s.begins i; changes = made i } in
     ⊎_elim (λ (h : e ≡ NoMemory). inl h)
     (λ (r : IsRefusedAt seat.book changes s.accepted e).

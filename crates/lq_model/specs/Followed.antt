@@ -78,8 +78,8 @@ pub record IsFollowed (start : State) (q : Query) (changes : List Change) (f : F
   pub first : f.reader.reading.port.floor.opened ≡ 0
 
 -- the book of a volume after these changes
-abbrev pub book_of : State → List Change → Book
-book_of start changes = record { start = start; changes = changes }
+abbrev pub book_with : State → List Change → Book
+book_with start changes = record { start = start; changes = changes }
 
 -- the change at this place is refused so after this book
 pub record IsRefusedAt (book : Book) (changes : List Change) (place : ℕ) (e : Refusal)
@@ -91,7 +91,7 @@ pub record IsRefusedAt (book : Book) (changes : List Change) (place : ℕ) (e : 
 -- one of these changes is refused so after a first volume and just the changes before it
 abbrev pub IsOneRefused : State → List Change → Refusal → Type 0
 IsOneRefused start changes e =
-    (place : ℕ) × IsRefusedAt (book_of start (take place changes)) changes place e
+    (place : ℕ) × IsRefusedAt (book_with start (take place changes)) changes place e
 
 -- memory is wanting, or one of these changes is refused so
 abbrev pub AreRefused : State → List Change → Refusal → Type 0
@@ -127,7 +127,7 @@ pub record HasStopped (seat : SeatToken Identity) (start : State) (changes : Lis
 -- one lawful book, from the first volume on, whose changes are just the two lists mixed, each in
 -- its order.
 pub record AreBothMade (start : State) (first second : List Change) (r : Retired) : Type 0 where
-  pub retired : IsRetired start (book_of start []) r.volume r.changes
+  pub retired : IsRetired start (book_with start []) r.volume r.changes
   pub mixed : AreMixed first second retired.book.changes
 
 -- The change at a place of the first list is refused so after a book, from the first volume on, of
@@ -151,7 +151,7 @@ IsPairRefused start first second e =
 
 -- Two seats were dismissed, no others made a change, and this is left: a book that extends what
 -- both knew, whose changes have just the numbers of theirs.
-pub record AreGathered (start : State) (one two : SeatToken Identity) (r : Retired) : Type 0 where
+pub record AreBothGathered (start : State) (one two : SeatToken Identity) (r : Retired) : Type 0 where
   pub retired : IsRetired start one.book r.volume r.changes
   pub second : Extends retired.book two.book
   pub gathered : List ℕ

@@ -2,7 +2,7 @@
 ghost use Rattle.std.specs.Prelude.{◌≡◌, [], ◌∷◌, IfOk, IfErr, true};
 ghost use Rattle.lq_board.specs.Author.{leader, with_roll};
 ghost use Rattle.lq_board.specs.Token.{counted_board};
-ghost use Rattle.lq_model.specs.Followed.{AreBothMade, AreGathered, IsPairRefused};
+ghost use Rattle.lq_model.specs.Followed.{AreBothMade, AreBothGathered, IsPairRefused};
 
 use crate::model::{Applied, Applies};
 use lq_board::Seat;
@@ -74,7 +74,7 @@ fn retire_both<N: Named, R: Wait>(
     requires leads { head.author
         ≡ with_roll leader (two.author.number ∷ one.author.number ∷ []) [] }
     requires signs { (one.author.signs ≡ true) × (two.author.signs ≡ true) }
-    ensures { AreGathered N.start one two result }
+    ensures { AreBothGathered N.start one two result }
 {
     // For the proof: books are met one after another.
     books_extend_on();

@@ -41,9 +41,9 @@ pub record AnswersRefusal (old new : SeatToken Identity) (a : Asked) (e : Refusa
 
 -- If these lines succeeded, all have a reply, but for the reads that wait. After a fault one line
 -- at most was carried out without one.
-abbrev pub Leaves : Result (Unit {0}) RunFault → List Asked → List Asked → List ℕ → Type 0
-Leaves (Ok done) next more slots = (next ≡ []) × (more ≡ asked_reads slots)
-Leaves (Err fault) next more slots = length next ≤ 1
+abbrev pub LeavesUnreplied : Result (Unit {0}) RunFault → List Asked → List Asked → List ℕ → Type 0
+LeavesUnreplied (Ok done) next more slots = (next ≡ []) × (more ≡ asked_reads slots)
+LeavesUnreplied (Err fault) next more slots = length next ≤ 1
 
 -- These lines came after reads that waited. A front of all these has replies, and other reads wait
 -- at the end.
@@ -54,5 +54,5 @@ pub record Replies (asked : List Asked) (result : Result (Unit {0}) RunFault)
   pub next : List Asked
   pub more : List Asked
   pub split : asked_reads slots ++ asked ≡ done ++ (next ++ more)
-  pub leaves : Leaves result next more slots'
+  pub leaves : LeavesUnreplied result next more slots'
   pub answers : Answers old new done next replies

@@ -7,7 +7,7 @@ use Rattle.lq_update.specs.Fold.{Folding, folding_after_all, opened_at}
 use Rattle.lq_update.specs.Laws.{FoldingsFollow}
 use Rattle.lq_desk_world.specs.declared.event.Event.{Event}
 use Rattle.lq_desk_world.specs.Events.{Answer, Opened}
-use Rattle.lq_desk_world.specs.Headline.{parcel_in, parcels_in, reads_of, update_in, updates_among, updates_in}
+use Rattle.lq_desk_world.specs.Headline.{parcel_in, parcels_in, reads_of, as_update, updates_among, updates_in}
 use Rattle.lq_script_desk.specs.Folds.{after_message}
 use Rattle.lq_script_desk.specs.History.{IsFoldOf, StaysTaken}
 use Rattle.lq_script_desk.proofs.FoldLemmas.{NoneRefused, begun, kept_after}
@@ -90,7 +90,7 @@ goes-on follow slot events more answers mores count none nones old f i taken is 
     let updates = ap updates_in (reads-append slot i.after more i.afters mores same i.taken)
     ∙ ap updates_among
     (filter_map-append parcel_in (reads_of slot i.after i.afters) (reads_of slot more mores))
-    ∙ filter_map-append update_in (parcels_in (reads_of slot i.after i.afters))
+    ∙ filter_map-append as_update (parcels_in (reads_of slot i.after i.afters))
     (parcels_in (reads_of slot more mores)) in
     begun follow slot (events ++ more) (answers ++ mores) nones i.before (i.after ++ more) i.befores
     (i.afters ++ mores) i.opener (Opened slot i.at i.first) f i.place

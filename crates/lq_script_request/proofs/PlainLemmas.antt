@@ -24,7 +24,7 @@ use Rattle.lq_value.specs.declared.refusal.Refusal.TheVariants.{NotUtf8}
 use Rattle.lq_desk_world.specs.declared.event.Event.TheVariants.{Take}
 use Rattle.lq_script_request.specs.declared.request.Request.TheVariants.{Event}
 use Rattle.lq_script_request.specs.ReadLine.{read_line}
-use Rattle.lq_script_request.specs.Request.{asked_from, request_from, request_in}
+use Rattle.lq_script_request.specs.Request.{raw_asked_from, request_from, request_in}
 
 -- a line that begins with a text goes on with what is behind it
 front-rest : (front line rest : List ℕ)
@@ -150,6 +150,6 @@ line-utf8 slot h =
 pub line-asks : (slot : ℕ) → slot < 100 → request_in (read_line slot) ≡ Ok (Event (Take slot))
 line-asks slot small =
     let h : slot < 2 ^ 64 = omega (arith, small) in
-    ap (λ b. request_from (if b then asked_from (read (read_line slot)) else Err NotUtf8))
+    ap (λ b. request_from (if b then raw_asked_from (read (read_line slot)) else Err NotUtf8))
     (is_utf8-from_IsUtf8 (read_line slot) (line-utf8 slot h))
-    ∙ ap (λ o. request_from (asked_from o)) (line-read slot h)
+    ∙ ap (λ o. request_from (raw_asked_from o)) (line-read slot h)

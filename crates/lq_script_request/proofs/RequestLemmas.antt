@@ -10,27 +10,27 @@ use Rattle.serde_json.specs.Read.{read}
 use Rattle.lq_value.specs.declared.refusal.Refusal.{Refusal}
 use Rattle.lq_value.specs.declared.refusal.Refusal.TheVariants.{BadLine, NoMemory, NotUtf8, NotJson}
 use Rattle.lq_script_request.specs.declared.request.Request.{Request}
-use Rattle.lq_script_request.specs.Request.{Asked, asked_by, asked_in, asked_from, asked_of, needed_text, request_from, request_in}
+use Rattle.lq_script_request.specs.Request.{RawAsked, raw_asked_by, raw_asked_in, raw_asked_from, raw_asked_of, needed_text, request_from, request_in}
 
 -- a line that isn't UTF-8 is refused as such
-pub asked-not_utf8 : (line : List ℕ) → ¬ IsUtf8 line → asked_in line ≡ Err NotUtf8
+pub asked-not_utf8 : (line : List ℕ) → ¬ IsUtf8 line → raw_asked_in line ≡ Err NotUtf8
 asked-not_utf8 line not = at (is_utf8 line) refl
   where
-    at : (b : Bool) → is_utf8 line ≡ b → asked_in line ≡ Err NotUtf8
+    at : (b : Bool) → is_utf8 line ≡ b → raw_asked_in line ≡ Err NotUtf8
     at true is = absurd (not (IsUtf8-from_is_utf8 line is))
     at false is = rw is refl
 
 -- one that is asks for what its text reads as
-pub asked-utf8 : (line : List ℕ) → IsUtf8 line → asked_in line ≡ asked_from (read line)
+pub asked-utf8 : (line : List ℕ) → IsUtf8 line → raw_asked_in line ≡ raw_asked_from (read line)
 asked-utf8 line utf8 = rw (is_utf8-from_IsUtf8 line utf8) refl
 
 -- a line whose text doesn't read is refused as no JSON, or memory ran out
-pub line-refused : (line text : List ℕ) (e : Refusal) → asked_in line ≡ asked_from (read text)
+pub line-refused : (line text : List ℕ) (e : Refusal) → raw_asked_in line ≡ raw_asked_from (read text)
     → (e ≡ NoMemory) ⊎ ((e ≡ NotJson) × (read text ≡ None))
     → (e ≡ NoMemory) ⊎ (request_in line ≡ Err e)
 line-refused line text e asks (inl was) = inl was
 line-refused line text e asks (inr was) =
-    inr (ap request_from (asks ∙ ap asked_from was.1) ∙ ap (λ x. Err x) (sym was.0))
+    inr (ap request_from (asks ∙ ap raw_asked_from was.1) ∙ ap (λ x. Err x) (sym was.0))
 
 -- what follows from what is known of an answer's value, where it has one
 pub value-then : {T E : Type 0} {P Q : T → Type 0} (r : Result T E)
@@ -45,11 +45,11 @@ error-then (Ok x) go known = tt
 error-then (Err e) go known = go e known
 
 -- what is asked for by a word
-pub asks-as : (d : Data) (act word : List ℕ) (asks : Option Asked)
-    → Some act ≡ needed_text (codes "do") d → act ≡ word → asks ≡ asked_by word d
-    → asks ≡ asked_of d
+pub asks-as : (d : Data) (act word : List ℕ) (asks : Option RawAsked)
+    → Some act ≡ needed_text (codes "do") d → act ≡ word → asks ≡ raw_asked_by word d
+    → asks ≡ raw_asked_of d
 asks-as d act word asks found is same =
-    same ∙ sym (ap (λ w. asked_by w d) is) ∙ ap (option_and_then (λ w. asked_by w d)) found
+    same ∙ sym (ap (λ w. raw_asked_by w d) is) ∙ ap (option_and_then (λ w. raw_asked_by w d)) found
 
 -- another word
 differs : (act word : List ℕ) → (act ≡ word → ⊥) → bytes_eq act word ≡ false
@@ -73,7 +73,7 @@ pub asks-nothing : (d : Data) (act : List ℕ) → Some act ≡ needed_text (cod
     → (act ≡ codes "entry" → ⊥)
     → (act ≡ codes "fetch" → ⊥)
     → (act ≡ codes "result" → ⊥)
-    → None ≡ asked_of d
+    → None ≡ raw_asked_of d
 asks-nothing d act found n0 n1 n2 n3 n4 n5 n6 n7 n8 n9 n10 n11 n12 n13 n14 =
     let b0 : bytes_eq act (codes "create") ≡ false = differs act (codes "create") n0 in
     let b1 : bytes_eq act (codes "remove") ≡ false = differs act (codes "remove") n1 in
@@ -90,14 +90,14 @@ asks-nothing d act found n0 n1 n2 n3 n4 n5 n6 n7 n8 n9 n10 n11 n12 n13 n14 =
     let b12 : bytes_eq act (codes "entry") ≡ false = differs act (codes "entry") n12 in
     let b13 : bytes_eq act (codes "fetch") ≡ false = differs act (codes "fetch") n13 in
     let b14 : bytes_eq act (codes "result") ≡ false = differs act (codes "result") n14 in
-    let none : None ≡ asked_by act d =
+    let none : None ≡ raw_asked_by act d =
     rw (b0, b1, b2, b3, b4, b5, b6, b7, b8, b9, b10, b11, b12, b13, b14) refl in
-    none ∙ ap (option_and_then (λ w. asked_by w d)) found
+    none ∙ ap (option_and_then (λ w. raw_asked_by w d)) found
 
 -- a line asks for what its fields ask for
-pub line-asks-found : (line : List ℕ) (o : Option Data) (d : Data) → asked_in line ≡ asked_from o
-    → o ≡ Some d → asked_in line ≡ ok_or (asked_of d) BadLine
-line-asks-found line o d asks is = asks ∙ ap asked_from is
+pub line-asks-found : (line : List ℕ) (o : Option Data) (d : Data) → raw_asked_in line ≡ raw_asked_from o
+    → o ≡ Some d → raw_asked_in line ≡ ok_or (raw_asked_of d) BadLine
+line-asks-found line o d asks is = asks ∙ ap raw_asked_from is
 
 -- the refusal of a line is that of what it asks for
 pub refused-along : (line : List ℕ) (e : Refusal) (r : Result Request Refusal)

@@ -29,19 +29,19 @@ pub data SetValue : Type 0 where
   given_number : (value : Value) → SetValue
 
 -- what a line asks for, with its fields taken and its values not read yet
-pub data Asked : Type 0 where
-  asks_create : (dir : ℕ) (name : List ℕ) (kind : Kind) (size : ℕ) (time : ℤ) → Asked
-  asks_remove : (node : ℕ) → Asked
-  asks_move : (node dir : ℕ) (name : List ℕ) (clobber : Bool) → Asked
-  asks_write : (node size : ℕ) (time : ℤ) → Asked
-  asks_set : (node : ℕ) (attr : List ℕ) (value : SetValue) → Asked
-  asks_unset : (node : ℕ) (attr : List ℕ) → Asked
-  asks_open : (query : List ℕ) (options : OpenOptions) → Asked
-  asks_at : (slot : ℕ) (a : Act) → Asked
-  asks_find : (dir : ℕ) (name : List ℕ) → Asked
-  asks_entry : (node : ℕ) → Asked
-  asks_fetch : (query : List ℕ) → Asked
-  asks_rebuilt : (slot : ℕ) → Asked
+pub data RawAsked : Type 0 where
+  asks_create : (dir : ℕ) (name : List ℕ) (kind : Kind) (size : ℕ) (time : ℤ) → RawAsked
+  asks_remove : (node : ℕ) → RawAsked
+  asks_move : (node dir : ℕ) (name : List ℕ) (clobber : Bool) → RawAsked
+  asks_write : (node size : ℕ) (time : ℤ) → RawAsked
+  asks_set : (node : ℕ) (attr : List ℕ) (value : SetValue) → RawAsked
+  asks_unset : (node : ℕ) (attr : List ℕ) → RawAsked
+  asks_open : (query : List ℕ) (options : OpenOptions) → RawAsked
+  asks_at : (slot : ℕ) (a : Act) → RawAsked
+  asks_find : (dir : ℕ) (name : List ℕ) → RawAsked
+  asks_entry : (node : ℕ) → RawAsked
+  asks_fetch : (query : List ℕ) → RawAsked
+  asks_rebuilt : (slot : ℕ) → RawAsked
 
 -- a text that is required
 abbrev pub needed_text : List ℕ → Data → Option (List ℕ)
@@ -103,7 +103,7 @@ given_by kind d =
     else None
 
 -- what a `move` asks for, if its fields are present
-abbrev pub move_of : Data → Option Asked
+abbrev pub move_of : Data → Option RawAsked
 move_of d =
     option_and_then (λ node.
     option_and_then (λ name.
@@ -115,7 +115,7 @@ move_of d =
     (needed_u64 (codes "node") d)
 
 -- what a `write` asks for
-abbrev pub write_of : Data → Option Asked
+abbrev pub write_of : Data → Option RawAsked
 write_of d =
     option_and_then (λ node.
     option_and_then (λ size.
@@ -125,7 +125,7 @@ write_of d =
     (needed_u64 (codes "node") d)
 
 -- what a `set` asks for
-abbrev pub set_of : Data → Option Asked
+abbrev pub set_of : Data → Option RawAsked
 set_of d =
     option_and_then (λ node.
     option_and_then (λ attr.
@@ -139,7 +139,7 @@ set_of d =
     (needed_u64 (codes "node") d)
 
 -- what an `unset` asks for
-abbrev pub unset_of : Data → Option Asked
+abbrev pub unset_of : Data → Option RawAsked
 unset_of d =
     option_and_then (λ node.
     option_map (λ attr. asks_unset node attr)
@@ -147,7 +147,7 @@ unset_of d =
     (needed_u64 (codes "node") d)
 
 -- what a `create` asks for
-abbrev pub create_of : Data → Option Asked
+abbrev pub create_of : Data → Option RawAsked
 create_of d =
     option_and_then (λ name.
     option_and_then (λ dir.
@@ -161,11 +161,11 @@ create_of d =
     (needed_text (codes "name") d)
 
 -- what a `remove` asks for
-abbrev pub remove_of : Data → Option Asked
+abbrev pub remove_of : Data → Option RawAsked
 remove_of d = option_map (λ node. asks_remove node) (needed_u64 (codes "node") d)
 
 -- what an `open` asks for
-abbrev pub open_of : Data → Option Asked
+abbrev pub open_of : Data → Option RawAsked
 open_of d =
     option_and_then (λ query.
     option_and_then (λ port.
@@ -183,11 +183,11 @@ open_of d =
     (needed_text (codes "query") d)
 
 -- what an act at a slot asks for
-abbrev pub act_asked : Act → Data → Option Asked
+abbrev pub act_asked : Act → Data → Option RawAsked
 act_asked a d = option_map (λ slot. asks_at slot a) (needed_u64 (codes "slot") d)
 
 -- what a `find` asks for
-abbrev pub find_of : Data → Option Asked
+abbrev pub find_of : Data → Option RawAsked
 find_of d =
     option_and_then (λ name.
     option_map (λ dir. asks_find dir name)
@@ -195,20 +195,20 @@ find_of d =
     (needed_text (codes "name") d)
 
 -- what an `entry` asks for
-abbrev pub entry_asked : Data → Option Asked
+abbrev pub entry_asked : Data → Option RawAsked
 entry_asked d = option_map (λ node. asks_entry node) (needed_u64 (codes "node") d)
 
 -- what a `fetch` asks for
-abbrev pub fetch_of : Data → Option Asked
+abbrev pub fetch_of : Data → Option RawAsked
 fetch_of d = option_map (λ query. asks_fetch query) (needed_text (codes "query") d)
 
 -- what a `result` asks for
-abbrev pub rebuilt_of : Data → Option Asked
+abbrev pub rebuilt_of : Data → Option RawAsked
 rebuilt_of d = option_map (λ slot. asks_rebuilt slot) (needed_u64 (codes "slot") d)
 
 -- what a line asks for, by the text of `do`
-abbrev pub asked_by : List ℕ → Data → Option Asked
-asked_by word d =
+abbrev pub raw_asked_by : List ℕ → Data → Option RawAsked
+raw_asked_by word d =
     if bytes_eq word (codes "create") then create_of d
     else if bytes_eq word (codes "remove") then remove_of d
     else if bytes_eq word (codes "move") then move_of d
@@ -227,17 +227,17 @@ asked_by word d =
     else None
 
 -- what a JSON value asks for
-abbrev pub asked_of : Data → Option Asked
-asked_of d = option_and_then (λ word. asked_by word d) (needed_text (codes "do") d)
+abbrev pub raw_asked_of : Data → Option RawAsked
+raw_asked_of d = option_and_then (λ word. raw_asked_by word d) (needed_text (codes "do") d)
 
 -- what a text asks for; it may be no JSON, or ask for nothing
-abbrev pub asked_from : Option Data → Result Asked Refusal
-asked_from None = Err NotJson
-asked_from (Some d) = ok_or (asked_of d) BadLine
+abbrev pub raw_asked_from : Option Data → Result RawAsked Refusal
+raw_asked_from None = Err NotJson
+raw_asked_from (Some d) = ok_or (raw_asked_of d) BadLine
 
 -- what a line asks for; it may be no UTF-8
-abbrev pub asked_in : List ℕ → Result Asked Refusal
-asked_in line = if is_utf8 line then asked_from (read line) else Err NotUtf8
+abbrev pub raw_asked_in : List ℕ → Result RawAsked Refusal
+raw_asked_in line = if is_utf8 line then raw_asked_from (read line) else Err NotUtf8
 
 -- an opening, or the refusal of its formula
 abbrev pub opening_or : Result Query ℕ → OpenOptions → Result Request Refusal
@@ -265,7 +265,7 @@ setting_for node attr (Err e) = Err e
 setting_for node attr (Ok value) = Ok (Event (Change (SetAttr node attr value)))
 
 -- the request after its values are read, or the first refusal
-abbrev pub request_for : Asked → Result Request Refusal
+abbrev pub request_for : RawAsked → Result Request Refusal
 request_for (asks_create dir name kind size time) =
     if is_name name then Ok (Event (Change (Create dir name kind size time)))
     else Err BadName
@@ -288,10 +288,10 @@ request_for (asks_fetch query) = fetching_or (reading_of query)
 request_for (asks_rebuilt slot) = Ok (Look (Rebuilt slot))
 
 -- the request of a line that may be refused already
-abbrev pub request_from : Result Asked Refusal → Result Request Refusal
+abbrev pub request_from : Result RawAsked Refusal → Result Request Refusal
 request_from (Err e) = Err e
 request_from (Ok a) = request_for a
 
 -- the request of a line, or why it has none
 abbrev pub request_in : List ℕ → Result Request Refusal
-request_in line = request_from (asked_in line)
+request_in line = request_from (raw_asked_in line)

@@ -1,7 +1,7 @@
 //! Parses a line's bytes to its request, or the refusal that comes first.
 ghost use Rattle.std.specs.Prelude.{◌≡◌, ◌⊎◌, IfOk, IfErr, Ok, Err};
 ghost use Rattle.lq_value.specs.declared.refusal.Refusal.TheVariants.{NoMemory};
-ghost use Rattle.lq_script_request.specs.Asked.{asked_by, given};
+ghost use Rattle.lq_script_request.specs.Asked.{raw_asked, given};
 ghost use Rattle.lq_script_request.specs.Request.{asks_create, asks_fetch, asks_find, asks_move, asks_open, asks_set, asks_unset, value_for, request_for, request_in};
 
 use crate::fields::Fields;
@@ -53,9 +53,9 @@ pub fn read_request(
     attrs: &mut RecentAttrs,
     raw: &RawRequest<'_>,
 ) -> Result<Request, Refusal>
-    ensures value { IfOk result (λ request. request_for (asked_by raw.now) ≡ Ok request) }
+    ensures value { IfOk result (λ request. request_for (raw_asked raw.now) ≡ Ok request) }
     ensures refused { IfErr result (λ e. (e ≡ NoMemory)
-        ⊎ (request_for (asked_by raw.now) ≡ Err e)) }
+        ⊎ (request_for (raw_asked raw.now) ≡ Err e)) }
 {
     match raw {
         RawRequest::Create {

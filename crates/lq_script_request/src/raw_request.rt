@@ -2,8 +2,8 @@
 ghost use Rattle.std.specs.Prelude.{◌≡◌};
 ghost use Rattle.std.specs.Option.{option_map};
 ghost use Rattle.lq_script_request.specs.Fields.{AreLastMembers, whole_data};
-ghost use Rattle.lq_script_request.specs.Request.{asked_of, create_of, remove_of, move_of, write_of, set_of, unset_of, open_of, act_asked, rebuilt_of, find_of, entry_asked, fetch_of};
-ghost use Rattle.lq_script_request.specs.Asked.{asked_by};
+ghost use Rattle.lq_script_request.specs.Request.{raw_asked_of, create_of, remove_of, move_of, write_of, set_of, unset_of, open_of, act_asked, rebuilt_of, find_of, entry_asked, fetch_of};
+ghost use Rattle.lq_script_request.specs.Asked.{raw_asked};
 
 use crate::field_values::{bool_or_false, i64_or_zero, kind_or_file, typed_in, u64_or};
 use crate::fields::Fields;
@@ -71,7 +71,7 @@ pub enum RawRequest<'a> {
 /// The raw request of a line whose fields are found; `None` where a field is missing or wrong.
 pub fn raw_request_in<'a>(fields: &Fields<'a>) -> Option<RawRequest<'a>>
     requires { AreLastMembers fields.now }
-    ensures { option_map asked_by result ≡ asked_of (whole_data fields.now) }
+    ensures { option_map raw_asked result ≡ raw_asked_of (whole_data fields.now) }
 {
     let Some(act) = fields.at(Key::Do).text() else {
         return None;
@@ -113,7 +113,7 @@ pub fn raw_request_in<'a>(fields: &Fields<'a>) -> Option<RawRequest<'a>>
 
 fn create_in<'a>(fields: &Fields<'a>) -> Option<RawRequest<'a>>
     requires { AreLastMembers fields.now }
-    ensures { option_map asked_by result ≡ create_of (whole_data fields.now) }
+    ensures { option_map raw_asked result ≡ create_of (whole_data fields.now) }
 {
     let name = fields.at(Key::Name).text()?;
     let dir = u64_or(fields, Key::Dir, 1)?;
@@ -131,7 +131,7 @@ fn create_in<'a>(fields: &Fields<'a>) -> Option<RawRequest<'a>>
 
 fn remove_in<'a>(fields: &Fields<'a>) -> Option<RawRequest<'a>>
     requires { AreLastMembers fields.now }
-    ensures { option_map asked_by result ≡ remove_of (whole_data fields.now) }
+    ensures { option_map raw_asked result ≡ remove_of (whole_data fields.now) }
 {
     let node = fields.at(Key::Node).number()?;
     Some(RawRequest::Remove { node })
@@ -139,7 +139,7 @@ fn remove_in<'a>(fields: &Fields<'a>) -> Option<RawRequest<'a>>
 
 fn move_in<'a>(fields: &Fields<'a>) -> Option<RawRequest<'a>>
     requires { AreLastMembers fields.now }
-    ensures { option_map asked_by result ≡ move_of (whole_data fields.now) }
+    ensures { option_map raw_asked result ≡ move_of (whole_data fields.now) }
 {
     let node = fields.at(Key::Node).number()?;
     let name = fields.at(Key::Name).text()?;
@@ -155,7 +155,7 @@ fn move_in<'a>(fields: &Fields<'a>) -> Option<RawRequest<'a>>
 
 fn write_in<'a>(fields: &Fields<'a>) -> Option<RawRequest<'a>>
     requires { AreLastMembers fields.now }
-    ensures { option_map asked_by result ≡ write_of (whole_data fields.now) }
+    ensures { option_map raw_asked result ≡ write_of (whole_data fields.now) }
 {
     let node = fields.at(Key::Node).number()?;
     let size = fields.at(Key::Size).number()?;
@@ -165,7 +165,7 @@ fn write_in<'a>(fields: &Fields<'a>) -> Option<RawRequest<'a>>
 
 fn set_in<'a>(fields: &Fields<'a>) -> Option<RawRequest<'a>>
     requires { AreLastMembers fields.now }
-    ensures { option_map asked_by result ≡ set_of (whole_data fields.now) }
+    ensures { option_map raw_asked result ≡ set_of (whole_data fields.now) }
 {
     let node = fields.at(Key::Node).number()?;
     let attr = fields.at(Key::Attr).text()?;
@@ -176,7 +176,7 @@ fn set_in<'a>(fields: &Fields<'a>) -> Option<RawRequest<'a>>
 
 fn unset_in<'a>(fields: &Fields<'a>) -> Option<RawRequest<'a>>
     requires { AreLastMembers fields.now }
-    ensures { option_map asked_by result ≡ unset_of (whole_data fields.now) }
+    ensures { option_map raw_asked result ≡ unset_of (whole_data fields.now) }
 {
     let node = fields.at(Key::Node).number()?;
     let attr = fields.at(Key::Attr).text()?;
@@ -185,7 +185,7 @@ fn unset_in<'a>(fields: &Fields<'a>) -> Option<RawRequest<'a>>
 
 fn open_in<'a>(fields: &Fields<'a>) -> Option<RawRequest<'a>>
     requires { AreLastMembers fields.now }
-    ensures { option_map asked_by result ≡ open_of (whole_data fields.now) }
+    ensures { option_map raw_asked result ≡ open_of (whole_data fields.now) }
 {
     let query = fields.at(Key::Query).text()?;
     let port = fields.at(Key::Port).number()?;
@@ -202,7 +202,7 @@ fn open_in<'a>(fields: &Fields<'a>) -> Option<RawRequest<'a>>
 
 fn act_in<'a>(fields: &Fields<'a>, act: Act) -> Option<RawRequest<'a>>
     requires { AreLastMembers fields.now }
-    ensures { option_map asked_by result ≡ act_asked act (whole_data fields.now) }
+    ensures { option_map raw_asked result ≡ act_asked act (whole_data fields.now) }
 {
     let slot = fields.at(Key::Slot).number()?;
     Some(RawRequest::At { slot, act })
@@ -210,7 +210,7 @@ fn act_in<'a>(fields: &Fields<'a>, act: Act) -> Option<RawRequest<'a>>
 
 fn find_in<'a>(fields: &Fields<'a>) -> Option<RawRequest<'a>>
     requires { AreLastMembers fields.now }
-    ensures { option_map asked_by result ≡ find_of (whole_data fields.now) }
+    ensures { option_map raw_asked result ≡ find_of (whole_data fields.now) }
 {
     let name = fields.at(Key::Name).text()?;
     let dir = u64_or(fields, Key::Dir, 1)?;
@@ -219,7 +219,7 @@ fn find_in<'a>(fields: &Fields<'a>) -> Option<RawRequest<'a>>
 
 fn entry_in<'a>(fields: &Fields<'a>) -> Option<RawRequest<'a>>
     requires { AreLastMembers fields.now }
-    ensures { option_map asked_by result ≡ entry_asked (whole_data fields.now) }
+    ensures { option_map raw_asked result ≡ entry_asked (whole_data fields.now) }
 {
     let node = fields.at(Key::Node).number()?;
     Some(RawRequest::Entry { node })
@@ -227,7 +227,7 @@ fn entry_in<'a>(fields: &Fields<'a>) -> Option<RawRequest<'a>>
 
 fn fetch_in<'a>(fields: &Fields<'a>) -> Option<RawRequest<'a>>
     requires { AreLastMembers fields.now }
-    ensures { option_map asked_by result ≡ fetch_of (whole_data fields.now) }
+    ensures { option_map raw_asked result ≡ fetch_of (whole_data fields.now) }
 {
     let query = fields.at(Key::Query).text()?;
     Some(RawRequest::Fetch { query })
@@ -235,7 +235,7 @@ fn fetch_in<'a>(fields: &Fields<'a>) -> Option<RawRequest<'a>>
 
 fn rebuilt_in<'a>(fields: &Fields<'a>) -> Option<RawRequest<'a>>
     requires { AreLastMembers fields.now }
-    ensures { option_map asked_by result ≡ rebuilt_of (whole_data fields.now) }
+    ensures { option_map raw_asked result ≡ rebuilt_of (whole_data fields.now) }
 {
     let slot = fields.at(Key::Slot).number()?;
     Some(RawRequest::Rebuilt { slot })

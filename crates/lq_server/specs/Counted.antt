@@ -19,24 +19,24 @@ leading_callers board start moments =
     record (leading_seat board start) { moments = moments; seats = 1; openings = 1 }
 
 -- an accepted call: its change, its answer, and what its seat knew before and after it
-pub record Call : Type 0 where
+pub record AcceptedCall : Type 0 where
   pub change : Change
   pub answer : Applied
   pub before : Book
   pub after : Book
 
 -- the numbers that calls were answered
-abbrev pub numbers_answered : List Call → List ℕ
+abbrev pub numbers_answered : List AcceptedCall → List ℕ
 numbers_answered calls = map (λ c. c.answer.change) calls
 
 -- `apply` answered the call, and this book extends what the seat then knew
-pub record IsCallIn (book : Book) (call : Call) : Type 0 where
+pub record IsCallIn (book : Book) (call : AcceptedCall) : Type 0 where
   pub added : IsAdded call.before call.after call.answer call.change
   pub later : Extends book call.after
 
 -- change n + 1 of the book is that of one of these calls, and of one only
-pub record IsOneCalls (book : Book) (calls : List Call) (n : ℕ) : Type 0 where
-  pub call : Call
+pub record IsOneCalls (book : Book) (calls : List AcceptedCall) (n : ℕ) : Type 0 where
+  pub call : AcceptedCall
   pub among : Contains calls call
   pub number : call.answer.change ≡ n + 1
   pub place : slice_get book.changes n ≡ Some call.change
@@ -46,7 +46,7 @@ pub record IsOneCalls (book : Book) (calls : List Call) (n : ℕ) : Type 0 where
 -- that of one call
 abbrev pub CallsMakeTheBook : Type 0
 CallsMakeTheBook =
-    (book : Book) (calls : List Call) → All (IsCallIn book) calls
+    (book : Book) (calls : List AcceptedCall) → All (IsCallIn book) calls
     → ((x : ℕ) → times x (numbers_answered calls) ≡ times x (numbers (length book.changes)))
     → (n : ℕ) → n < length book.changes → IsOneCalls book calls n
 

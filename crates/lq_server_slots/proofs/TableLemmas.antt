@@ -11,7 +11,7 @@ use Rattle.lq_board.specs.Token.{KeeperToken}
 use Rattle.lq_server_slots.specs.declared.identity.Identity.{Identity}
 use Rattle.lq_server_slots.specs.declared.subscription.Subscription.{Subscription}
 use Rattle.lq_server_slots.specs.Standing.{SameQuery}
-use Rattle.lq_server_slots.specs.Slots.{IsTakenSlot, SlotStands, asks_of, slot_in, OnlyAt, AreConsistent, AreWatched, SlotIsWatched, KeepsBook, KeepsSlots}
+use Rattle.lq_server_slots.specs.Slots.{IsTakenSlot, SlotStands, asks_of, slot_in, OnlyAt, AreConsistent, WatchesSlots, SlotIsWatched, KeepsBook, KeepsSlots}
 use Rattle.lq_server_slots.specs.declared.slots.ServerSlots.{ServerSlots}
 
 -- what was set is read there
@@ -58,7 +58,7 @@ counted_here ps k n lt = get_or-set_same ps k _ unused lt
 watched_set : (v w : Watch) (slots : List (Option Subscription)) (i : ℕ) (o : Option Subscription)
     → i < length slots → SlotIsWatched w i o
     → ((j : ℕ) (x : Option Subscription) → j ≢ i → SlotIsWatched v j x → SlotIsWatched w j x)
-    → AreWatched v slots → AreWatched w (slice_set slots i o)
+    → WatchesSlots v slots → WatchesSlots w (slice_set slots i o)
 watched_set v w slots i o lt here others was j low =
     dite (ℕ_discrete j i) (λ (e : j ≡ i). rw (e, in_here slots i o lt) here)
     (λ (ne : j ≢ i). rw (in_else slots i j o ne) (others j (slot_in slots j) ne (was j low)))

@@ -48,8 +48,8 @@ SlotIsWatched w i None = Unit {0}
 SlotIsWatched w i (Some s) = IsWatched w i s.sub.held.query s.sub.held.flags
 
 -- and so it is in all slots: no change has a message for one that it isn't shown to
-abbrev pub AreWatched : Watch → List (Option Subscription) → Type 0
-AreWatched w slots = (i : ℕ) → i < 64 → SlotIsWatched w i (slot_in slots i)
+abbrev pub WatchesSlots : Watch → List (Option Subscription) → Type 0
+WatchesSlots w slots = (i : ℕ) → i < 64 → SlotIsWatched w i (slot_in slots i)
 
 -- all slots over a book
 pub record AreConsistent (s : ServerSlots) (book : Book) : Type 0 where
@@ -59,7 +59,7 @@ pub record AreConsistent (s : ServerSlots) (book : Book) : Type 0 where
       → SlotStands (slot_in s.subscriptions i) (slot_at s.keeper.slots (i + 1)) book
   pub asks : (i : ℕ) → i < 64
       → asks_of (slot_in s.subscriptions i) (slot_at s.keeper.slots (i + 1)) ≤ s.openings
-  pub watched : AreWatched s.watch s.subscriptions
+  pub watched : WatchesSlots s.watch s.subscriptions
 
 -- the keeper's book is lawful, the volume is the state after it, and all slots stand over it
 pub record IsConsistentWith (slots : ServerSlots) (volume : State) : Type 0 where

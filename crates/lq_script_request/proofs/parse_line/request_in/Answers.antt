@@ -4,7 +4,7 @@ use Rattle.std.specs.Str.{IsUtf8}
 use Rattle.serde_json.specs.Read.{read}
 use Rattle.lq_value.specs.declared.refusal.Refusal.TheVariants.{BadLine}
 use Rattle.lq_script_request.specs.Fields.{whole_data}
-use Rattle.lq_script_request.specs.Request.{asked_from, request_from, request_in}
+use Rattle.lq_script_request.specs.Request.{raw_asked_from, request_from, request_in}
 use Rattle.lq_script_request.proofs.PlainLemmas.{line-asks}
 use Rattle.lq_script_request.proofs.RequestLemmas.{asked-not_utf8, asked-utf8, error-then, line-asks-found, line-refused, refused-along, value-then}
 use Rattle.lq_script_request.proofs.parse_line.request_in.Goals as goal
@@ -22,7 +22,7 @@ pub returns-in_err-read-clause-refused : goal.returns-in_err-read-clause-refused
 returns-in_err-read-clause-refused c =
     let utf8 : IsUtf8 c.args.line.now = search rules in
     let asks = asked-utf8 c.args.line.now utf8
-    ∙ ap asked_from (ap read (sym c.from_utf8_unchecked-text.ensures)) in
+    ∙ ap raw_asked_from (ap read (sym c.from_utf8_unchecked-text.ensures)) in
     let is : c.from_residual.result ≡ Err c.in_err-read.field-0.0 = search rules in
     rw is (line-refused c.args.line.now _ _ asks c.in_err-read.ensures.refused)
 
@@ -31,7 +31,7 @@ pub returns-in_default-raw_request_in-clause-refused :
 returns-in_default-raw_request_in-clause-refused c =
     let utf8 : IsUtf8 c.args.line.now = search rules in
     let asks = asked-utf8 c.args.line.now utf8
-    ∙ ap asked_from (ap read (sym c.from_utf8_unchecked-text.ensures)) in
+    ∙ ap raw_asked_from (ap read (sym c.from_utf8_unchecked-text.ensures)) in
     let found = line-asks-found c.args.line.now _ (whole_data c.read.new.self) asks
     c.in_ok-read.ensures.value in
     inr (ap request_from (found
@@ -41,7 +41,7 @@ pub returns-clause-value : goal.returns-clause-value
 returns-clause-value c =
     let utf8 : IsUtf8 c.args.line.now = search rules in
     let asks = asked-utf8 c.args.line.now utf8
-    ∙ ap asked_from (ap read (sym c.from_utf8_unchecked-text.ensures)) in
+    ∙ ap raw_asked_from (ap read (sym c.from_utf8_unchecked-text.ensures)) in
     let found = line-asks-found c.args.line.now _ (whole_data c.read.new.self) asks
     c.in_ok-read.ensures.value in
     let same = ap request_from (found
@@ -52,7 +52,7 @@ pub returns-clause-refused : goal.returns-clause-refused
 returns-clause-refused c =
     let utf8 : IsUtf8 c.args.line.now = search rules in
     let asks = asked-utf8 c.args.line.now utf8
-    ∙ ap asked_from (ap read (sym c.from_utf8_unchecked-text.ensures)) in
+    ∙ ap raw_asked_from (ap read (sym c.from_utf8_unchecked-text.ensures)) in
     let found = line-asks-found c.args.line.now _ (whole_data c.read.new.self) asks
     c.in_ok-read.ensures.value in
     let same = ap request_from (found

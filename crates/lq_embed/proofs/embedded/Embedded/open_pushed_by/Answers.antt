@@ -4,7 +4,7 @@ use Rattle.lq_predicate.specs.Stack.{only_part}
 use Rattle.lq_predicate.specs.Stacked.{Stacked}
 use Rattle.lq_update.specs.declared.open_options.OpenOptions.{OpenOptions as QueryOptions}
 use Rattle.lq_embed.specs.Opening.{OpensBy, asked_options}
-use Rattle.lq_embed.specs.Requests.{left_by, open_pushed}
+use Rattle.lq_embed.specs.Requests.{stack_left, open_pushed}
 use Rattle.lq_embed.specs.SessionState.{holds, with_pushed}
 use Rattle.lq_embed.proofs.CallLemmas.{kept-refused, opens-made}
 use Rattle.lq_embed.proofs.PushedLemmas.{none-code, opens-alone, opens-none}
@@ -25,7 +25,7 @@ returns-in-Err c = record {
 pub returns : goal.returns
 returns c = subst (λ (asked : QueryOptions). OpensBy (holds c.args.self.now)
     (holds c.keep_by.new.self)
-    (left_by c.args.self.now.stack (only_part c.args.self.now.stack.items)) c.args.options.now
+    (stack_left c.args.self.now.stack (only_part c.args.self.now.stack.items)) c.args.options.now
     (open_pushed c.args.self.now.stack.pushes asked
     (only_part c.args.self.now.stack.items)) c.opened-status.result c.args.out.now
     c.opened-status.new.out) c.asked_options-options.ensures (record {
