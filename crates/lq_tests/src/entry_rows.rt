@@ -1,7 +1,7 @@
 //! An entry of a volume, by the places of its attributes and by their names.
 use crate::act::{creation, setting};
 use crate::ask::value;
-use crate::values::is_same;
+use crate::value_calls::is_same;
 use lq_value::{AttrName, Kind, Refusal, View};
 use lq_volume::{EntryRef, Volume};
 use std::alloc::Global;
