@@ -1,14 +1,11 @@
--- A desk may go to another thread, where a volume and a subscription may. The check finds none of
--- these steps, since a predicate's tree holds itself.
+-- A desk may go to another thread, where a volume and the table of its slots may. The check finds
+-- none of these steps, since a predicate's tree holds itself.
 use denote.Param.Send.{IsSend, sendable, view_send}
 use denote.Param.SendFields.{declared_send}
-use Rattle.std.proofs.Crossing.{Deque-send, crosses}
-use Rattle.lq_update.specs.contracts.parcel.Parcel as parcel
+use Rattle.std.proofs.Crossing.{crosses}
 use Rattle.lq_volume.specs.contracts.volume.Volume as volume
-use Rattle.lq_desk_sub.proofs.slot_table.SlotTable.TheSendSync as table
-use Rattle.lq_desk_sub.specs.contracts.sub.Sub as sub
+use Rattle.lq_desk_sub.specs.contracts.slot_table.SlotTable as table
 use Rattle.lq_desk.specs.contracts.slot.Slot as slot
-use Rattle.lq_desk.specs.contracts.slot.Slot.TheInside as in_slot
 use Rattle.lq_desk.specs.contracts.desk_slots.Slots as slots
 use Rattle.lq_desk.specs.contracts.desk_slots.Slots.TheInside as in_slots
 use Rattle.lq_desk.specs.contracts.engine.Engine as engine
@@ -17,35 +14,21 @@ use Rattle.lq_desk.specs.contracts.witness.Witness as witness
 use Rattle.lq_desk.specs.contracts.desk.Desk as desk
 use Rattle.lq_desk.specs.contracts.desk.Desk.TheInside as in_desk
 
--- a subscription with its port
-slot_send : IsSend sub.the_row → IsSend parcel.the_row → IsSend slot.the_row
-slot_send s p =
-    view_send in_slot.the_row _ _ _ _
-    (declared_send in_slot.the_type (
-      s,
-      (
-        search sendable depth 12,
-        (Deque-send parcel.the_row p, (search sendable depth 12, tt)),
-      ),
-    ))
-
 -- the slots
-slots_send : IsSend slot.the_row → IsSend slots.the_row
-slots_send s =
+slots_send : IsSend (table.the_row slot.the_row) → IsSend slots.the_row
+slots_send t =
     view_send in_slots.the_row _ _ _ _
-    (declared_send in_slots.the_type
-    (table.the_send slot.the_row s, search (sendable, crosses) depth 30))
+    (declared_send in_slots.the_type (t, search (sendable, crosses) depth 30))
 
 -- what a desk keeps
-engine_send : IsSend sub.the_row → IsSend parcel.the_row → IsSend volume.the_row
-    → IsSend engine.the_row
-engine_send s p v =
+engine_send : IsSend volume.the_row → IsSend (table.the_row slot.the_row) → IsSend engine.the_row
+engine_send v t =
     view_send in_engine.the_row _ _ _ _
     (declared_send in_engine.the_type (
       v,
       (
         search sendable depth 12,
-        (search (sendable, crosses) depth 20, (slots_send (slot_send s p), tt)),
+        (search (sendable, crosses) depth 20, (slots_send t, tt)),
       ),
     ))
 
@@ -54,9 +37,8 @@ witness_send : IsSend witness.the_row
 witness_send = search (sendable, crosses) depth 20
 
 -- a desk
-pub desk_send : IsSend sub.the_row → IsSend parcel.the_row → IsSend volume.the_row
-    → IsSend desk.the_row
-desk_send s p v =
+pub desk_send : IsSend volume.the_row → IsSend (table.the_row slot.the_row) → IsSend desk.the_row
+desk_send v t =
     view_send in_desk.the_row _ _ _ _
     (declared_send in_desk.the_type
-    (search (sendable, crosses) depth 20, (engine_send s p v, (witness_send, tt))))
+    (search (sendable, crosses) depth 20, (engine_send v t, (witness_send, tt))))

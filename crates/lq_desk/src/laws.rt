@@ -3,9 +3,10 @@ ghost use denote.Param.Send.{IsSend};
 ghost use Rattle.lq_desk.specs.Laws.{KeptShowsWorlds};
 ghost use Rattle.lq_desk.specs.contracts.desk.Desk as desks;
 
-use lq_desk_sub::Sub;
+use crate::slot::Slot;
+use lq_desk_sub::SlotTable;
 use lq_desk_world::runs_keep_worlds_fair;
-use lq_update::{Parcel, changes_add_steps, updates_stay};
+use lq_update::{changes_add_steps, updates_stay};
 use lq_volume::{Volume, changes_are_counted};
 
 /// What a desk keeps answers each event as any world that it shows, and then shows the next world.
@@ -25,9 +26,8 @@ pub fn desks_may_be_sent()
     ensures { IsSend desks.the_row }
 {
     // For the proof: what a desk is made of.
-    sends::<Sub>();
-    sends::<Parcel>();
     sends::<Volume>();
+    sends::<SlotTable<Slot>>();
 }
 
 // The bound, as a fact.

@@ -6,6 +6,7 @@ ghost use Rattle.lq_script_desk.specs.SessionHistory.{SessionsTell};
 ghost use Rattle.lq_script_desk.specs.contracts.session.Session as sessions;
 
 use lq_desk::desks_may_be_sent;
+use lq_desk_sub::SlotTable;
 use lq_desk_world::readers_are_told;
 use lq_script_request::Scratch;
 use lq_update::{IndexedRebuild, foldings_follow, rebuilds_take_all};
@@ -43,7 +44,7 @@ pub fn sessions_may_be_sent()
 {
     // For the proof: what a session is made of.
     desks_may_be_sent();
-    sends::<IndexedRebuild>();
+    sends::<SlotTable<IndexedRebuild>>();
     sends::<Scratch>();
 }
 

@@ -15,7 +15,8 @@ use Rattle.lq_server.specs.Counted.{AcceptedCall, IsCallIn, CallsMakeTheBook, nu
 
 -- the change of a call is in each book that extends the one that its seat then knew, under its
 -- number
-call_at : (book : Book) (call : AcceptedCall) (n : ℕ) → IsCallIn book call → call.answer.change ≡ n + 1
+call_at : (book : Book) (call : AcceptedCall) (n : ℕ) → IsCallIn book call
+    → call.answer.change ≡ n + 1
     → slice_get book.changes n ≡ Some call.change
 call_at book call n is number = grind (arith, common_steps, gets)
 
@@ -47,7 +48,8 @@ pub record IsAnswered (x : ℕ) (calls : List AcceptedCall) : Type 0 where
   pub number : call.answer.change ≡ x
 
 -- a number that was answered was answered to a call, by cases on the first
-answered_by : (x : ℕ) (c : AcceptedCall) (calls : List AcceptedCall) (b : Bool) → b ≡ eqb c.answer.change x
+answered_by : (x : ℕ) (c : AcceptedCall) (calls : List AcceptedCall) (b : Bool)
+    → b ≡ eqb c.answer.change x
     → 0 < cond b 1 0 + times x (numbers_answered calls)
     → (0 < times x (numbers_answered calls) → IsAnswered x calls) → IsAnswered x (c ∷ calls)
 answered_by x c calls true is some rest =
@@ -66,7 +68,8 @@ answered_by x c calls false is some rest =
     }
 
 -- a number that was answered was answered to a call
-answered : (x : ℕ) (calls : List AcceptedCall) → 0 < times x (numbers_answered calls) → IsAnswered x calls
+answered : (x : ℕ) (calls : List AcceptedCall) → 0 < times x (numbers_answered calls)
+    → IsAnswered x calls
 answered x [] some = absurd (omega (arith, some))
 answered x (c ∷ calls) some =
     answered_by x c calls (eqb c.answer.change x) refl some (answered x calls)

@@ -10,7 +10,7 @@ use Rattle.std.below.core.specs.contracts.marker.ClosureMark as mark
 use Rattle.lq_volume.specs.contracts.volume.Volume as volume
 use Rattle.lq_board.specs.contracts.board.Board as board
 use Rattle.lq_board.specs.contracts.tokens.Keeper as keeper
-use Rattle.lq_desk_sub.proofs.slot_table.SlotTable.TheSendSync as table
+use Rattle.lq_desk_sub.specs.contracts.slot_table.SlotTable as table
 use Rattle.lq_desk_sub.specs.contracts.sub.Sub as sub
 use Rattle.lq_port.specs.contracts.ends.PortIn as port_in
 use Rattle.lq_server_slots.specs.contracts.delivery.Delivery as delivery
@@ -26,17 +26,16 @@ use Rattle.lq_server.specs.contracts.server.Server as server
 use Rattle.lq_server.specs.contracts.server.Server.TheInside as in_server
 
 -- a subscription and the end of its port
-slot_send : IsSend sub.the_row
+pub slot_send : IsSend sub.the_row
     → IsSend (port_in.the_row delivery.the_row opening_at.the_row ghosts)
     → IsSend slot.the_row
 slot_send s p =
     declared_send slot.the_type (s, (p, search (sendable, crosses) depth 20))
 
 -- the slots and the keeper of the board
-slots_send : IsSend slot.the_row → IsSend (keeper.the_row identity.the_row) → IsSend slots.the_row
-slots_send s k =
-    declared_send slots.the_type
-    (k, (table.the_send slot.the_row s, search (sendable, crosses) depth 20))
+slots_send : IsSend (table.the_row slot.the_row) → IsSend (keeper.the_row identity.the_row)
+    → IsSend slots.the_row
+slots_send t k = declared_send slots.the_type (k, (t, search (sendable, crosses) depth 20))
 
 -- a marker without a value
 phantom_send : (N : RattleType) → IsSend (phantom.the_row N)
@@ -56,14 +55,13 @@ mutex_sync : (N : RattleType) (g : Ghosts N.Denot) → IsSend (locked.the_row N 
 mutex_sync N g l = search (sendable, crosses, l) depth 20
 
 -- a server is a lock and a board
-pub server_sync : (N : RattleType) (g : Ghosts N.Denot) → IsSend sub.the_row
-    → IsSend (port_in.the_row delivery.the_row opening_at.the_row ghosts)
+pub server_sync : (N : RattleType) (g : Ghosts N.Denot) → IsSend (table.the_row slot.the_row)
     → IsSend (keeper.the_row identity.the_row)
     → IsSend volume.the_row
     → IsSync (board.the_row identity.the_row)
     → IsSync (server.the_row N g)
-server_sync N g s p k v b =
-    let l : IsSend (locked.the_row N g) = locked_send N g (slots_send (slot_send s p) k) v in
+server_sync N g t k v b =
+    let l : IsSend (locked.the_row N g) = locked_send N g (slots_send t k) v in
     view_sync (in_server.the_row N g) _ _ _ _
     (declared_sync (in_server.the_type N g) (mutex_sync N g l, (b, tt)))
 

@@ -63,7 +63,8 @@ opened_told r told = grind (arith, common_steps)
 
 -- what was received is a front of the update list over the known book
 pub prefix_told : (r : ReadingHold) → IsTold r
-    → IsPrefix (received r) (updates_upto r.port.floor (known_book r) (length (known_book r).changes))
+    → IsPrefix (received r)
+    (updates_upto r.port.floor (known_book r) (length (known_book r).changes))
 unfolding updates
 prefix_told r told =
     (option_to_list r.hand ++ told.legal_list.front.0, grind (arith, append_assoc))
@@ -115,7 +116,8 @@ only_ended r next a whole after some g =
 
 -- what all answers leave: their messages were received, over a longer book, from the same port
 answers-grow : (old new : ReadingHold) (answers : List Read) → AreAnswers old answers new
-    → (received new ≡ received old ++ updates_read answers) × Extends (known_book new) (known_book old)
+    → (received new ≡ received old ++ updates_read answers)
+    × Extends (known_book new) (known_book old)
     × (new.port.floor ≡ old.port.floor)
 answers-grow old new [] h = (h.received ∙ sym (append-nil (received old)), h.known, h.port.2)
 answers-grow old new (a ∷ answers) h =

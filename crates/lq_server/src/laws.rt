@@ -6,9 +6,9 @@ ghost use Rattle.lq_server.specs.Laws.{FirstClosesAreRefusedLate, WaitingReadsAn
 ghost use Rattle.lq_server.specs.contracts.server.Server as servers;
 
 use lq_board::{Board, Keeper};
-use lq_desk_sub::Sub;
+use lq_desk_sub::{SlotTable, Sub};
 use lq_port::PortIn;
-use lq_server_slots::{Delivery, Identity, Named};
+use lq_server_slots::{Delivery, Identity, Named, Subscription};
 use lq_update::{folds_give_results, whole_folds_give_results};
 use lq_volume::Volume;
 
@@ -64,6 +64,8 @@ pub fn servers_may_be_shared<N: Named>()
     // For the proof: what the lock and the board are made of.
     sends::<Sub>();
     sends::<PortIn<Delivery>>();
+    sends::<Subscription>();
+    sends::<SlotTable<Subscription>>();
     sends::<Keeper<Identity>>();
     sends::<Volume>();
     shares::<Board<Identity>>();

@@ -18,8 +18,7 @@ use lq_volume::{Applied, Change, Resolved, Volume};
 use std::sync::Wait;
 
 impl<N: Named> ServerState<N> {
-    /// Makes a change and notifies the subscriptions. The seat is its author, and then knows the
-    /// book.
+    /// Makes a change and notifies the subscriptions. The seat, its author, then knows the book.
     ///
     /// First the subscriptions whose readers hung up end, as the keeper then knows. So each mark of
     /// this call covers the changes before its own. Messages and marks are put until none is left

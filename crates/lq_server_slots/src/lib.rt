@@ -36,4 +36,5 @@ pub use reading::Reading;
 pub use server_base::{Base, Named, Seat};
 pub use server_state::{Found, ServerState};
 pub use slots::ServerSlots;
+pub use subscription::Subscription;
 pub use sync::Progress;

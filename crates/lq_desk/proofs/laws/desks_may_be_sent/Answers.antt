@@ -8,4 +8,3 @@ returns c =
     desk_send
     record { owned = c.sends.ensures.owned; leaving = λ _. c.sends.ensures.leaving yes }
     record { owned = c.sends-2.ensures.owned; leaving = λ _. c.sends-2.ensures.leaving yes }
-    record { owned = c.sends-3.ensures.owned; leaving = λ _. c.sends-3.ensures.leaving yes }
