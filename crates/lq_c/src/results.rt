@@ -32,8 +32,8 @@ pub extern "C" fn lqp_take(
 /// As `Embedded::next_entry`: 0, 4 where no entry is left, or 40 as `lqp_take`.
 #[unsafe(no_mangle)]
 pub extern "C" fn lqp_next(handle: &mut Lq, made: u64, number: u64, out: &mut RowOut) -> u32
-    ensures { GivesNext (is_latest made number) (held_state handle.old) (held_state handle.new) result
-        out.old out.new }
+    ensures { GivesNext (is_latest made number) (held_state handle.old) (held_state handle.new)
+        result out.old out.new }
 {
     if !is_latest(made, number) {
         return MISUSE;

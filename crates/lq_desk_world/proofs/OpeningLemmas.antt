@@ -64,7 +64,8 @@ asks-outcome w e q o asks = absurd (let no : ⊥ = cc in no)
 
 -- what comes of a subscription from its opening on
 pub opened-ran : UpdatesStay → ChangesAddSteps → (w : World) (e : Event) (q : Query)
-    (o : OpenOptions) (slot at : ℕ) (first : List Entry) (events : List Event) (answers : List Answer) (end : World)
+    (o : OpenOptions) (slot at : ℕ) (first : List Entry) (events : List Event)
+    (answers : List Answer) (end : World)
     → asked_to_open e ≡ Some (q, o)
     → Run w (e ∷ events) (Opened slot at first ∷ answers) end
     → RanFrom w (opened_now w q o) slot at first events answers end

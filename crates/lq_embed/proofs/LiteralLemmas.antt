@@ -25,7 +25,8 @@ abbrev pub NoEquals : List ℕ → Type 0
 NoEquals other = (b : ℕ) × (cs : List ℕ) × (other ≡ b ∷ cs) × ((b == 61) ≡ false)
 
 -- a word ends before the other text too
-pub ends_word_same : (rest other : List ℕ) → SameStart rest other → IsAfterWord rest → IsAfterWord other
+pub ends_word_same : (rest other : List ℕ) → SameStart rest other → IsAfterWord rest
+    → IsAfterWord other
 ends_word_same rest other (inl same) ends = subst IsAfterWord (sym same) ends
 ends_word_same rest other (inr (b, bs, cs, r, o, k)) (inl none) =
     absurd (let bad : ⊥ = cc in bad)

@@ -59,11 +59,11 @@ made_by : (o : Op) (offset : ℕ) (raw : List ℕ) (p : Parameter) (m : Option �
     → (p.op ≡ o) × (p.offset ≡ offset) × (p.end ≡ offset + length raw) × (1 ≤ p.number)
 made_by o offset raw p None named is = absurd (let no : ⊥ = cc in no)
 made_by o offset raw p (Some n) named is =
-    let same : record { offset = offset; end = offset + length raw; number = n; op = o } ≡ p = cc in (
-      sym (ap (λ (q : Parameter). q.op) same),
-      sym (ap (λ (q : Parameter). q.offset) same),
-      sym (ap (λ (q : Parameter). q.end) same),
-      subst (λ (q : Parameter). 1 ≤ q.number) same (named_positive raw n named),
+    let eq : record { offset = offset; end = offset + length raw; number = n; op = o } ≡ p = cc in (
+      sym (ap (λ (q : Parameter). q.op) eq),
+      sym (ap (λ (q : Parameter). q.offset) eq),
+      sym (ap (λ (q : Parameter). q.end) eq),
+      subst (λ (q : Parameter). 1 ≤ q.number) eq (named_positive raw n named),
     )
 
 -- a token that a parameter is made of is a word

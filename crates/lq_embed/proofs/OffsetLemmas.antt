@@ -79,8 +79,8 @@ replaced_is values formula before (t ∷ ts) pre bs at offset h whole is le =
         let front = pre ++ h.2.blank in
         let more = front ++ h.2.part in
         let k = is_parameter before t p some in
-        let w = word_end t h.2.token.inside (offset + length h.2.blank) h.2.part h.1 k.raw k.unmarked
-        h.2.token.offset h.2.token.raw k.is_word h.2.token.token in
+        let w = word_end t h.2.token.inside (offset + length h.2.blank) h.2.part h.1 k.raw
+        k.unmarked h.2.token.offset h.2.token.raw k.is_word h.2.token.token in
         let begin : p.offset ≡ length front =
         omega (arith, k.offset, h.2.token.offset, size_front) in
         let size : length h.2.part ≡ length k.raw = ap length w.0 in

@@ -58,7 +58,8 @@ pub fetches-none : {old mid new : SessionState} {status : ℕ} {before : Fetched
     (o : Option Query)
     (e : Refusal) → refusal_at old.pushed.pushes o ≡ Some e → mid ≡ old → status ≡ code_of e
     → new ≡ state_after_refusal e mid
-    → Fetches old new (stack_left old.pushed o) (fetch_pushed old.pushed.pushes o) status before before
+    → Fetches old new (stack_left old.pushed o) (fetch_pushed old.pushed.pushes o) status
+    before before
 fetches-none {old = old} None e is stays code kept =
     let same : e ≡ BadQuery old.pushed.pushes = cc in record {
       response = Refuses (BadQuery old.pushed.pushes);
@@ -94,7 +95,8 @@ opens-alone {old = old} {new = new} {status = status} {before = before} {after =
 pub fetches-alone : {old mid new : SessionState} {status : ℕ} {before after : FetchedOut}
     (o : Option Query) (q : Query) → o ≡ Some q → mid ≡ with_pushed old new_stack
     → Fetches mid new mid.pushed (Ok (Look (Fetch q))) status before after
-    → Fetches old new (stack_left old.pushed o) (fetch_pushed old.pushed.pushes o) status before after
+    → Fetches old new (stack_left old.pushed o) (fetch_pushed old.pushed.pushes o) status
+    before after
 fetches-alone {old = old} {new = new} {status = status} {before = before} {after = after} o q is
     off known =
     let there = subst (λ (m : SessionState). Fetches m new m.pushed (Ok (Look (Fetch q))) status

@@ -76,7 +76,8 @@ unless_unbound (Some refusal) text = Err refusal
 -- the formula with its values in place, or the first refusal that fits
 abbrev pub bound_formula : List Value → List ℕ → List Placed → Result (List ℕ) Unbound
 bound_formula values formula ts =
-    unless_unbound (first_unbound (unbound_refusals values formula ts)) (with_values values formula ts)
+    unless_unbound (first_unbound (unbound_refusals values formula ts))
+    (with_values values formula ts)
 
 -- the outcome is that of the formula's tokens, or memory ran out
 pub record Binds (values : List Value) (formula : List ℕ) (outcome : Result (List ℕ) Unbound) :

@@ -36,7 +36,8 @@ nul_at_front (byte ∷ room) = 0 ∷ room
 -- stays
 abbrev pub text_put : List ℕ → List ℕ → List ℕ
 text_put text room =
-    if nat_le (length text) (length room) then text ++ nul_at_front (drop (length text) room) else room
+    if nat_le (length text) (length room)
+    then text ++ nul_at_front (drop (length text) room) else room
 
 -- ---- changes and openings
 

@@ -25,7 +25,8 @@ number_named (b ∷ bs) = if b == 36 then number_written bs else None
 -- the parameter at an offset after an operator, if the token is a word that names a number
 abbrev pub parameter_named : Op → ℕ → Token → Option Parameter
 parameter_named o offset (word raw) = option_map (λ number.
-    record { offset = offset; end = offset + length raw; number = number; op = o }) (number_named raw)
+    record { offset = offset; end = offset + length raw; number = number; op = o })
+    (number_named raw)
 parameter_named o offset t = None
 
 -- The parameter that a token is, where it comes after this operator. It has no marks, so its raw

@@ -11,8 +11,8 @@ use lq_script_request::RecentAttrs;
 use lq_value::{Entry, Value, sources_are_read};
 use std::vec::IntoIter;
 
-/// The literal that a text is quoted as, and that a bound text is replaced by, is one quoted text of
-/// a formula. It reads as just this text: after `==` and `!=` as the pattern of its characters
+/// The literal that a text is quoted as, and that a bound text is replaced by, is one quoted text
+/// of a formula. It reads as just this text: after `==` and `!=` as the pattern of its characters
 /// alone, after the other operators as the text.
 pub fn texts_are_meant()
     ensures { TextsAreMeant }

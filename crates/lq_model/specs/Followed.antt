@@ -151,11 +151,12 @@ IsPairRefused start first second e =
 
 -- Two seats were dismissed, no others made a change, and this is left: a book that extends what
 -- both knew, whose changes have just the numbers of theirs.
-pub record AreBothGathered (start : State) (one two : SeatToken Identity) (r : Retired) : Type 0 where
-  pub retired : IsRetired start one.book r.volume r.changes
-  pub second : Extends retired.book two.book
-  pub gathered : List ℕ
-  pub all : List ℕ
-  pub early : IsMerged [] one.author.changes gathered
-  pub late : IsMerged gathered two.author.changes all
-  pub whole : all ≡ numbers r.changes
+pub record AreBothGathered (start : State) (one two : SeatToken Identity) (r : Retired) : Type 0
+  where
+    pub retired : IsRetired start one.book r.volume r.changes
+    pub second : Extends retired.book two.book
+    pub gathered : List ℕ
+    pub all : List ℕ
+    pub early : IsMerged [] one.author.changes gathered
+    pub late : IsMerged gathered two.author.changes all
+    pub whole : all ≡ numbers r.changes

@@ -47,7 +47,7 @@ pub struct PortIn<T: Follows + Drop> {
 
 /// The end of a port for takes.
 ///
-/// It knows all that was taken, and a prefix of what was put. The example of `PortIn` has both ends.
+/// It knows all that was taken, and a prefix of what was put. The example of `PortIn` has both.
 #[derive(Drop)]
 pub struct PortOut<T: Follows + Drop> {
     receiver: PortReceiver<T>,

@@ -123,7 +123,8 @@ module _ (text : List ℕ) (offset : ℕ) (rest : List ℕ) (s : MachineState) (
 
     module _ (others : HasOneTokenList next behind) where
       -- where the machine refuses the token, the text has the token's fault
-      pub stops : (k : Option ℕ) → step_token s t.token ≡ None → pattern_fault s.expected t.token ≡ k
+      pub stops : (k : Option ℕ) → step_token s t.token ≡ None
+          → pattern_fault s.expected t.token ≡ k
           → IsFaulty text (offset_at (length text) t t.token k)
       stops k none f = subst (IsFaulty text)
           (ap (offset_at (length text) t t.token) f)

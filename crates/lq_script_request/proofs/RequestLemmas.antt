@@ -25,7 +25,8 @@ pub asked-utf8 : (line : List ℕ) → IsUtf8 line → raw_asked_in line ≡ raw
 asked-utf8 line utf8 = rw (is_utf8-from_IsUtf8 line utf8) refl
 
 -- a line whose text doesn't read is refused as no JSON, or memory ran out
-pub line-refused : (line text : List ℕ) (e : Refusal) → raw_asked_in line ≡ raw_asked_from (read text)
+pub line-refused : (line text : List ℕ) (e : Refusal)
+    → raw_asked_in line ≡ raw_asked_from (read text)
     → (e ≡ NoMemory) ⊎ ((e ≡ NotJson) × (read text ≡ None))
     → (e ≡ NoMemory) ⊎ (request_in line ≡ Err e)
 line-refused line text e asks (inl was) = inl was
@@ -95,7 +96,8 @@ asks-nothing d act found n0 n1 n2 n3 n4 n5 n6 n7 n8 n9 n10 n11 n12 n13 n14 =
     none ∙ ap (option_and_then (λ w. raw_asked_by w d)) found
 
 -- a line asks for what its fields ask for
-pub line-asks-found : (line : List ℕ) (o : Option Data) (d : Data) → raw_asked_in line ≡ raw_asked_from o
+pub line-asks-found : (line : List ℕ) (o : Option Data) (d : Data)
+    → raw_asked_in line ≡ raw_asked_from o
     → o ≡ Some d → raw_asked_in line ≡ ok_or (raw_asked_of d) BadLine
 line-asks-found line o d asks is = asks ∙ ap raw_asked_from is
 

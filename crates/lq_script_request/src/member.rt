@@ -114,8 +114,8 @@ fn is_plain(byte: u8) -> bool
     !(byte == b'"' || byte == b'\\' || byte < 0x20)
 }
 
-// The whole number at an offset, of 1 to 18 digits, and the offset after it. After a leading 0 there
-// are no more digits.
+// The whole number at an offset, of 1 to 18 digits, and the offset after it. After a leading 0
+// there are no more digits.
 #[inline(always)]
 fn whole_at(bytes: &[u8], from: usize) -> Option<(u64, usize)>
     requires { from ≤ length bytes.now }

@@ -75,7 +75,8 @@ added_to c a k b d later is number node =
     let long = ap (λ (x : Book). length x.changes) is in
     record {
       later = extends_trans k b d later (c ∷ [], is);
-      above = omega (arith, extends_length k b later, number, long, length-append b.changes (c ∷ []));
+      above =
+          omega (arith, extends_length k b later, number, long, length-append b.changes (c ∷ []));
       number = number;
       place = is ∙ ap (λ (x : Book). grown x (c ∷ [])) (sym before);
       node = node ∙ ap (λ (x : Book). node_of (state_of x) c) (sym before);

@@ -205,8 +205,8 @@ committed_stands p q e places last_report first_close book c live is few filled 
     (overruns p.held (step_of p.held.query p.held.flags (state_of book) c (p.held.sent + 1))) refl)
 
 -- and one that a change tells nothing stands over the book with the change as it is
-pub untold_stands : (p : Prepared) (e : End Delivery Opening) (places : ℕ) (last_report : LastReport)
-    (first_close : FirstClose) (book : Book) (c : Change) → StepsAreFew
+pub untold_stands : (p : Prepared) (e : End Delivery Opening) (places : ℕ)
+    (last_report : LastReport) (first_close : FirstClose) (book : Book) (c : Change) → StepsAreFew
     → (0 < length p.held.messages → places + seen_of last_report ≤ length (messages_in (all_put e)))
     → Stands p.held e places last_report first_close book
     → TellsNothing p.held.query p.held.flags c

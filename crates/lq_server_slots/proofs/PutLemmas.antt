@@ -86,31 +86,33 @@ module _ (h : Held) (d : End Delivery Opening) (places : ℕ) (last_report : Las
         (next_is h p next)
 
     -- the next parcel may be put
-    pub may_put : (p : Parcel) (x : Delivery) → next_parcel h ≡ Some p → x.what ≡ p → book_of x ≡ book
+    pub may_put : (p : Parcel) (x : Delivery) → next_parcel h ≡ Some p → x.what ≡ p
+        → book_of x ≡ book
         → MayFollow (all_put d) d.floor x
     may_put p x next is at =
         let open_yet = unput p next in let open_next = tells p next in grind arith
 
     module _ (e : End Delivery Opening) (p : Parcel) (x : Delivery) (next : next_parcel h ≡ Some p)
-        (is : x.what ≡ p) (at : book_of x ≡ book) (port : IsSamePort d e) (gains : Gains d x e) where
-      -- the parcel is the last of all that was put
-      all_then : all_put e ≡ all_put d ++ x ∷ []
-      all_then = gains.put
+        (is : x.what ≡ p) (at : book_of x ≡ book) (port : IsSamePort d e) (gains : Gains d x e)
+      where
+        -- the parcel is the last of all that was put
+        all_then : all_put e ≡ all_put d ++ x ∷ []
+        all_then = gains.put
 
-      -- what was given stays: one parcel more is put, one less is held
-      given_then : messages_given (without_parcel h (Some p)) e ≡ messages_given h d
-      given_then =
-          rw (all_then, messages_in-snoc, is, append_assoc, parcel_then h p next)
+        -- what was given stays: one parcel more is put, one less is held
+        given_then : messages_given (without_parcel h (Some p)) e ≡ messages_given h d
+        given_then =
+            rw (all_then, messages_in-snoc, is, append_assoc, parcel_then h p next)
 
-      -- a parcel was put, and the list of what is put and held stays
-      put_stands : Stands (without_parcel h (Some p)) e places last_report first_close book
-      put_stands =
-          let later : Extends book (known_by e.floor (all_put e)) =
-          rw (all_then, last_book-snoc, at) (extends_self book) in
-          let out : mark_in (all_put e) ≡ mark_or p None =
-          rw (all_then, mark_in-append (all_put d) (x ∷ []) (unput p next), is) in
-          let given = given_then in
-          grind arith
+        -- a parcel was put, and the list of what is put and held stays
+        put_stands : Stands (without_parcel h (Some p)) e places last_report first_close book
+        put_stands =
+            let later : Extends book (known_by e.floor (all_put e)) =
+            rw (all_then, last_book-snoc, at) (extends_self book) in
+            let out : mark_in (all_put e) ≡ mark_or p None =
+            rw (all_then, mark_in-append (all_put d) (x ∷ []) (unput p next), is) in
+            let given = given_then in
+            grind arith
 
 -- what a put of a parcel leaves of a subscription
 pub record IsPut (s t : Subscription) (book : Book) : Type 0 where

@@ -129,7 +129,8 @@ slots_alike s keeper book book' h same e =
 -- no subscriptions
 pub slots_free : (keeper : KeeperToken Identity) (slots : List (Option Subscription)) (w : Watch)
     (book : Book) → keeper.slots ≡ unused_slots → slots ≡ replicate 64 None
-    → AreConsistent (record { keeper = keeper; subscriptions = slots; watch = w; openings = 0 }) book
+    → AreConsistent
+    (record { keeper = keeper; subscriptions = slots; watch = w; openings = 0 }) book
 slots_free keeper slots w book known free =
     let p : (i : ℕ) → i < 64 → slot_at keeper.slots (i + 1) ≡ unused =
     λ i low. rw known

@@ -65,8 +65,8 @@ visits-all {T} {S} allows did set xs ys s t v taken P i free visited = by (slice
         let d = v.visited i x (taken i (Some x) was) was in
         rw d.1 (visited x d.0 (ap option_flatten was) d.2)
 
--- what holds of a slot outside a set, of a free one, and of one after its visit, holds of each after
--- visits of those in the set
+-- what holds of a slot outside a set, of a free one, and of one after its visit, holds of each
+-- after visits of those in the set
 pub visits-some : {T S : Type 0} (allows : S → ℕ → T → Type 0) (did : S → ℕ → T → T → Type 0)
     (set : ℕ) (xs ys : List (Option T)) (s t : S) → Visits allows did (has set) xs ys s t
     → (P : Option T → Type 0) (i : ℕ)
@@ -140,7 +140,8 @@ pub none_prepared : (both asked taken n : ℕ) (old new : List (Option Subscript
     → HasPreparedAt (slot_in new i) v c
 none_prepared both asked taken n old new v c has_taken together none marks i low is =
     let out : has taken i ≡ false = sym (rw is at (together i)) ∙ none i in
-    let free : slot_in old i ≡ None = outside_taken (λ o. o ≡ None) taken old i has_taken out refl in
+    let free : slot_in old i ≡ None = outside_taken (λ o. o ≡ None) taken old i has_taken out refl
+    in
     let stays : slot_in new i ≡ None = rw free at (marks i low) in
     rw stays tt
 

@@ -37,10 +37,10 @@ pub record IsChangeMade (change : Change) (result : Result Applied Refusal) (v w
   pub later : OnOk result (Extends b s.book)
   pub stays : OnErr result (t ≡ s)
 
--- A change of a volume was checked, and its messages were prepared in the slots that it is shown to,
--- or it was refused.
--- First each subscription ended whose reader had asked for that; its mark covers the changes so far.
--- The book stays, and so does what stands over it; what the keeper knows of asks only rises.
+-- A change of a volume was checked, and its messages were prepared in the slots that it is shown
+-- to, or it was refused.
+-- First each subscription ended whose reader had asked for that; its mark covers the changes so
+-- far. The book stays, and so does what stands over it; what the keeper knows of asks only rises.
 pub record IsPrepared (v : State) (change : Change) (result : Result Resolved Refusal)
     (old new : ServerSlots) : Type 0 where
   pub lawful : OnOk result (refused v change ≡ None)

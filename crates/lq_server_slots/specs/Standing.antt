@@ -174,8 +174,8 @@ HasPrepared p s c =
     → (p.ready ≡ step_of p.held.query p.held.flags s c (p.held.sent + 1))
     × (p.before ≡ s.number)
 
--- the messages of a change are prepared for a subscription that is asked, and for another the change
--- has none
+-- the messages of a change are prepared for a subscription that is asked, and for another the
+-- change has none
 pub record IsPreparedIf (asked : Bool) (p : Prepared) (s : State) (c : Change) : Type 0 where
   pub some : asked ≡ true → HasPrepared p s c
   pub none : asked ≡ false → TellsNothing p.held.query p.held.flags c

@@ -91,8 +91,7 @@ impl<'a, R: Wait> Visit<Subscription, ()> for Commit<'a, R> {
     }
 }
 
-/// Commits the change that was just added in each subscription that it is shown to, and fills each
-/// port.
+/// Commits the change just added in each subscription that it is shown to, and fills the ports.
 pub(crate) fn commit_all<R: Wait>(rt: &R, slots: &mut ServerSlots, change: &Change)
     requires grown { IsGrown slots.old.keeper.book change.now }
     requires prepared { AllPrepared slots.old.watch slots.old.subscriptions

@@ -54,7 +54,8 @@ pub fn prepare_messages(slot: &mut Subscription, planned: &Planned<'_>) -> Resul
     ensures held { slot.new.sub.held ≡ slot.old.sub.held }
     ensures others { SameButHeld slot.old slot.new }
     ensures first_close { slot.new.first_close ≡ slot.old.first_close }
-    ensures prepared { OnOk result (HasPrepared slot.new.sub planned.now.before planned.now.change) }
+    ensures prepared { OnOk result
+        (HasPrepared slot.new.sub planned.now.before planned.now.change) }
 {
     if !slot.sub.is_live() {
         return Ok(());

@@ -103,7 +103,8 @@ values-fit : (q : Query) (b : Bool) (s : State) (c : Change) → IsVolume (after
 values-fit q false s c w = (tt, refl)
 values-fit q true s c w =
     within-fits (result_of q (after s c)) (node_of s c) (value_written c)
-    (match_at q s (node_of s c)) (match_at q (after s c) (node_of s c)) (results-rise q (after s c) w)
+    (match_at q s (node_of s c)) (match_at q (after s c) (node_of s c))
+    (results-rise q (after s c) w)
     (at-result q (after s c) (node_of s c) w)
 
 -- the messages of one change lead from the result before to the result after

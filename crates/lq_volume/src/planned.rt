@@ -57,7 +57,7 @@ impl<'a> Model for Planned<'a> {
 }
 
 impl Volume {
-    /// What `make` needs of a change that would be accepted. It takes no memory and changes nothing.
+    /// What `make` needs of a change that would be accepted. Takes no memory and changes nothing.
     ///
     /// Refused exactly as `check`.
     #[inline(always)]

@@ -47,10 +47,11 @@ digits-preserved c =
     omega (arith, l.invariant.after) in
     record {
       written = written-more c.args.bytes.now c.args.from l.end l.number c.in-Some.digit
-          l.invariant.some (omega (arith, l.invariant.small, most, d.small)) d.small d.within d.value
-          l.invariant.written;
+          l.invariant.some (omega (arith, l.invariant.small, most, d.small)) d.small d.within
+          d.value l.invariant.written;
       some = omega (arith, l.invariant.some);
-      small = rw one (omega (arith, l.invariant.small, d.small, pow-add 10 (l.end - c.args.from) 1));
+      small = rw one
+          (omega (arith, l.invariant.small, d.small, pow-add 10 (l.end - c.args.from) 1));
       after = omega (arith, l.invariant.after);
       few = omega (arith, l.invariant.few, l.invariant.after);
       within = omega (arith, d.within);

@@ -38,8 +38,8 @@ served : (g : Over) (c : goal.After-visit g)
     c.args.slots.now.subscriptions c.visit.new.self
 served g c =
     let slots = c.args.slots.now in
-    all_served _ slots c.taken-taken.result.word _ c.visit.new.self (before_of slots.keeper.book) _ _
-    c.requires.holding c.taken-taken.ensures.taken c.visit.ensures.wide c.visit.ensures.visits
+    all_served _ slots c.taken-taken.result.word _ c.visit.new.self (before_of slots.keeper.book)
+    _ _ c.requires.holding c.taken-taken.ensures.taken c.visit.ensures.wide c.visit.ensures.visits
 
 pub returns-clause-holding : goal.returns-clause-holding
 returns-clause-holding g c = (served g c).0

@@ -14,5 +14,6 @@ invariant_of-result c =
     record {
       asked_before = before;
       asked_after = before ∙ sym (c.quiet_changes_keep_matches.ensures c.args.predicate.now s change
-          0 (node_of s change) c.applied.ensures.volume c.applied.ensures.lawful (c.requires.quiet 0));
+          0 (node_of s change) c.applied.ensures.volume c.applied.ensures.lawful
+          (c.requires.quiet 0));
     }

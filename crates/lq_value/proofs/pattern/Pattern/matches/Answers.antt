@@ -6,7 +6,8 @@ use Rattle.lq_value.proofs.pattern.Pattern.matches.Goals as goal
 
 pub returns-in-PlainText-clause-split : goal.returns-in-PlainText-clause-split
 returns-in-PlainText-clause-split c =
-    let same : c.fits_plain.result ≡ is_fit c.args.self.now (chars c.args.text.now) = search rules in
+    let same : c.fits_plain.result ≡ is_fit c.args.self.now (chars c.args.text.now) = search rules
+    in
     fits_tells _ _ _ c.fits_are_splits.ensures same
 
 pub returns-in-StarredText-clause-split : goal.returns-in-StarredText-clause-split
