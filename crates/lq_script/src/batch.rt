@@ -1,6 +1,8 @@
-//! Reads of several slots, side by side. Contracts say only that no reply to them reports a change.
+//! Reads of several slots, side by side. Contracts say only that they fail for memory alone, and
+//! that no reply to them reports a change.
 ghost use Rattle.std.specs.Prelude.{◌≡◌, [], length, IfOk, OnOk, OnErr};
 ghost use Rattle.std.specs.Thread.{IsSend};
+ghost use Rattle.lq_value.specs.Refusal.{FailsOnlyForMemory};
 ghost use Rattle.lq_script_desk.specs.Answer.{response_of};
 ghost use mathlib.Core.List.{IsPrefix};
 ghost use Rattle.lq_script.specs.Changes.{change_told};
@@ -53,6 +55,7 @@ impl<'a, N: Named, G: Gate> Task for ReadTask<'a, N, G> {
 impl<'a, N: Named, G> ReadTask<'a, N, G> {
     // The reply to the next of its reads. Refused: `NoMemory` where that read was not carried out.
     fn next(&mut self) -> Result<Response, Refusal>
+        ensures refused { FailsOnlyForMemory result }
         ensures none { IfOk result (λ r. change_told (response_of r) ≡ []) }
     {
         let answered = self.answered;
@@ -88,6 +91,7 @@ pub fn read_beside<
     slots: &[u64],
     out: &mut Vec<u8>,
 ) -> Result<(), Refusal>
+    ensures refused { FailsOnlyForMemory result }
     ensures ok { OnOk result (AppendsReads (length slots.now) out.old.items out.new.items) }
     ensures err { OnErr result (IsPrefix out.old.items out.new.items) }
 {
@@ -120,6 +124,7 @@ fn put_replies<N: Named, G>(
     slots: &[u64],
     out: &mut Vec<u8>,
 ) -> Result<(), Refusal>
+    ensures refused { FailsOnlyForMemory result }
     ensures ok { OnOk result (AppendsReads (length slots.now) out.old.items out.new.items) }
     ensures err { OnErr result (IsPrefix out.old.items out.new.items) }
 {
@@ -132,6 +137,7 @@ fn put_replies<N: Named, G>(
 
 // The reply to the next read of a slot. Refused: `NoMemory` where that read was not carried out.
 fn read_in<N: Named, G>(batch: &mut [ReadTask<'_, N, G>], slot: u64) -> Result<Response, Refusal>
+    ensures refused { FailsOnlyForMemory result }
     ensures none { IfOk result (λ r. change_told (response_of r) ≡ []) }
 {
     match reads_at(batch, slot) {
@@ -160,7 +166,9 @@ fn batch_of<'a, N: Named, G: Gate>(
     gate: &'a G,
     readers: &mut ReaderTable<N>,
     slots: &[u64],
-) -> Result<Vec<ReadTask<'a, N, G>>, Refusal> {
+) -> Result<Vec<ReadTask<'a, N, G>>, Refusal>
+    ensures refused { FailsOnlyForMemory result }
+{
     let mut batch = Vec::new(alloc);
     for number in slots {
         let Some(slot) = SlotIndex::of(*number) else {

@@ -2,6 +2,7 @@
 //! seat made all changes that it knows, its reply to a change, or to a look at the volume, is the
 //! one that the script's world has (`Answers`).
 ghost use Rattle.std.specs.Prelude.{◌≡◌, [], ◌∷◌, length, IfOk, IfErr, OnOk, OnErr, Ok};
+ghost use Rattle.lq_value.specs.Refusal.{FailsOnlyForMemory};
 ghost use Rattle.lq_server.specs.Made.{MakesMore};
 ghost use Rattle.lq_script_desk.specs.Answer.{response_of};
 ghost use Rattle.lq_script_request.specs.declared.request.Request.TheVariants as asked;
@@ -86,6 +87,7 @@ impl<
     /// several slots go side by side. Refused: `NoMemory`, and then `out` is as it was, and the
     /// session is of no more use.
     pub fn read(&mut self, slots: &[u64], out: &mut Vec<u8>) -> Result<(), Refusal>
+        ensures refused { FailsOnlyForMemory result }
         ensures seat { self.new.seat ≡ self.old.seat }
         ensures ok { OnOk result
             (AppendsReads (length slots.now) out.old.items out.new.items) }
