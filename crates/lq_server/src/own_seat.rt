@@ -1,7 +1,7 @@
 //! A seat that holds the preconditions of a server's calls as invariants, so that its own calls
 //! require little. Clauses say which changes it makes.
 ghost use Rattle.std.specs.Prelude.{◌≡◌, ◌+◌, ◌≤◌, [], ◌∷◌, length, IfOk, IfErr, OnOk, OnErr, IfSome, IfNone, Some, None, Err, true, unwrap_or};
-ghost use Rattle.lq_value.specs.declared.refusal.Refusal.TheVariants.{NoMemory};
+ghost use Rattle.lq_value.specs.declared.refusal.Refusal.TheVariants.{NoMemory, NoSeat};
 ghost use Rattle.lq_value.specs.Refusal.{FailsOnlyForMemory, IsRefusedBy, first_refusal};
 ghost use Rattle.lq_volume.specs.Book.{Extends, state_of};
 ghost use Rattle.lq_volume.specs.Change.{refused};
@@ -73,6 +73,7 @@ impl<N: Named> OwnSeat<N> {
           author = with_roll head.old.author
               (seat.author.number ∷ head.old.author.enlisted) head.old.author.gathered;
         }) }
+        ensures refused { IfErr result (λ e. e ≡ NoSeat) }
         ensures err { OnErr result (head.new ≡ record head.old { book = head.new.book }) }
         ensures few { OnErr result (15 ≤ head.old.seats) }
         ensures later { Extends head.new.book head.old.book }
