@@ -2,8 +2,8 @@
 //! up with memory for each variant of its arguments (`variants`), listings and paths (`listings`),
 //! calls that are given again where memory ran out (`again`), the plain body of `step` beside the
 //! fast one (`plain_step`, `bodies`), and changes without a message (`skipped_writes`, `creates`).
-//! And calls that no script and no other test makes (`value_calls`, `entry_rows`, `folds`). Begin
-//! with `events`. Nothing here waits.
+//! And calls that no script and no other test makes (`value_calls`, `entry_rows`, `folds`,
+//! `restores`). Begin with `events`. Nothing here waits.
 #![tactic(auto)]
 
 #[cfg(test)]
@@ -28,6 +28,8 @@ mod folds;
 mod listings;
 #[cfg(test)]
 mod plain_step;
+#[cfg(test)]
+mod restores;
 #[cfg(test)]
 mod skipped_writes;
 #[cfg(test)]

@@ -1,18 +1,20 @@
 -- An accepted change keeps the numbers, the nodes and the tree, and alters no record but those it
 -- touches.
 use Rattle.std.proofs.Common.{◌≡◌, ◌≢◌, ℕ, ℤ, ◌+◌, ◌<◌, List, [], ◌∷◌, ◌++◌, refl, sym, arith, eqb, ap, ◌∙◌, Bool, true, false}
-use Rattle.std.specs.Prelude.{not, filter, nat_eq, Option, Some, None, is_none, ◌&&◌}
+use Rattle.std.specs.Prelude.{not, filter, nat_eq, Option, Some, None, is_none, ◌&&◌, cond, nat_lt, ◌≤◌}
 use Rattle.std.specs.Option.{option_map, option_map_or, option_to_list}
 use Rattle.std.specs.List.{AllByRecursion}
 use Rattle.std.specs.Map.{lookup}
+use Rattle.std.specs.Str.{bytes_eq}
+use Rattle.lq_value.specs.declared.value.Value.{Value}
 use Rattle.std.proofs.lemmas.Bool.Decides.{nat_tests}
 use Rattle.lq_value.specs.declared.kind.Kind.{Kind}
 use Rattle.lq_volume.specs.declared.change.Change.{Change}
 use Rattle.lq_volume.specs.declared.change.Change.TheVariants.{Create, Remove, Move, Write, SetAttr, RemoveAttr}
-use Rattle.lq_volume_entries.specs.Attributes.{Attributes, HasOwnNames, with_attr, without_attr}
+use Rattle.lq_volume_entries.specs.Attributes.{Attributes, HasOwnNames, is_reserved, with_attr, without_attr}
 use Rattle.lq_volume_entries.specs.AttributeLaws.{NamesStayApart}
 use Rattle.lq_volume_entries.specs.Kind.{is_folder}
-use Rattle.lq_volume.specs.State.{State, Record, root, record_at, kind_at, is_folder_at, dir_of, reaches, node_in, has_entries, IsTree, IsVolume}
+use Rattle.lq_volume.specs.State.{State, Record, root, record_at, kind_at, is_folder_at, dir_of, reaches, node_in, has_entries, IsTree, IsFit, IsVolume}
 use Rattle.lq_volume.specs.Change.{refused, refusals, after, node_of, record_left, at_place, rewritten, with_attrs, with_records, altered, without, other_at, other_than, is_other}
 use Rattle.lq_volume_entries.specs.PlaceIndex.{CanMoveEntry}
 use Rattle.lq_volume.specs.Laws.{ChangesKeepTrees, UntouchedStay, ClobberedGo}
@@ -23,10 +25,41 @@ use Rattle.lq_volume.proofs.Changes.{none_holds, accepted_number, IsNumbered-cre
 use Rattle.lq_volume.proofs.Tree.{IsChildless, childless-from_test, less-folder, IsTree-less, IsTree-edited, IsTree-kept, IsTree-more, dir_of-is, reaches-all, reaches-none, record-of}
 
 -- a node that is there and is no file is a folder
-is_folder-from_tests : (o : Option Kind)
+pub is_folder-from_tests : (o : Option Kind)
     → is_none o ≡ false → option_map_or (λ k. not (is_folder k)) o false ≡ false
     → option_map_or is_folder o false ≡ true
 is_folder-from_tests o h k = grind arith
+
+-- a size that the test passes fits
+small-from_test : (size : ℕ) → nat_lt 9223372036854775807 size ≡ false
+    → size ≤ 9223372036854775807
+small-from_test size h = grind (arith, nat_tests)
+
+-- no name is that of a property
+abbrev HasPlainNames : Attributes → Type 0
+HasPlainNames attrs = AllByRecursion (λ a. is_reserved a.0 ≡ false) attrs
+
+-- nor is one after another attribute is set
+plain-with : (attrs : Attributes) (attr : List ℕ) (value : Value) → is_reserved attr ≡ false
+    → HasPlainNames attrs → HasPlainNames (with_attr attrs attr value)
+plain-with [] attr value off h = (off, tt)
+plain-with (a ∷ attrs) attr value off h =
+    elim (bytes_eq attr a.0) as (λ b. HasPlainNames
+    (cond b ((a.0, value) ∷ attrs) (a ∷ with_attr attrs attr value))) [
+      | true ↦ (h.0, h.1)
+      | false ↦ (h.0, plain-with attrs attr value off h.1)
+    ]
+
+-- nor after one is removed
+plain-without : (attrs : Attributes) (attr : List ℕ)
+    → HasPlainNames attrs → HasPlainNames (without_attr attrs attr)
+plain-without [] attr h = tt
+plain-without (a ∷ attrs) attr h =
+    elim (not (bytes_eq attr a.0)) as (λ b. HasPlainNames
+    (cond b (a ∷ without_attr attrs attr) (without_attr attrs attr))) [
+      | true ↦ (h.0, plain-without attrs attr h.1)
+      | false ↦ plain-without attrs attr h.1
+    ]
 
 -- one record more
 pub keeps-create : RecordsAreKept → (s : State) (new : Record) → new.attrs ≡ []
@@ -45,8 +78,12 @@ keeps-create laws s new bare v h =
       tree = IsTree-more laws s s.limit (s.number + 1) (s.next + 1) new v.numbered v.tree
           (is_folder-from_tests (kind_at s new.dir) rows.0 rows.1.0) rows.1.1.0
           (λ is. let r = rows.1.1.1.0 in grind (arith, nat_tests));
-      named = All-then (λ e. HasOwnNames e.1.attrs) (λ e. HasOwnNames e.1.attrs) s.records
-          (s.next, new) (λ e own. own) v.named (rw bare tt);
+      fit = All-then (λ e. IsFit e.1) (λ e. IsFit e.1) s.records (s.next, new) (λ e h. h) v.fit
+          (record {
+            own = rw bare tt;
+            plain = rw bare tt;
+            small = small-from_test new.size rows.1.1.1.1.0;
+          });
     }
 
 -- an accepted removal leaves a volume
@@ -61,7 +98,7 @@ keeps-remove laws s node v h =
           (accepted_number s (Remove node) h);
       tree = IsTree-less laws s s.limit (s.number + 1) s.next node v.tree
           (childless-from_test laws s node v.tree rows.1.1.0) differs;
-      named = All-filter (λ e. HasOwnNames e.1.attrs) (λ e. not (eqb e.0 node)) s.records v.named;
+      fit = All-filter (λ e. IsFit e.1) (λ e. not (eqb e.0 node)) s.records v.fit;
     }
 
 -- another node than this that is found at a place
@@ -169,9 +206,10 @@ keeps-move laws s node dir name clobber v h =
       tree = keeps-moved laws s node dir name (other_at s node dir name) v refl
           (is_folder-from_tests (kind_at s dir) rows.1.1.0 rows.1.1.1.0) rows.1.1.1.1.0
           rows.1.1.1.1.1.1.1.0;
-      named = All-kept (λ e. HasOwnNames e.1.attrs) node
-          (at_place dir name) (without (other_at s node dir name) s.records) (λ e h. h)
-          (All-without (λ e. HasOwnNames e.1.attrs) (other_at s node dir name) s.records v.named);
+      fit = All-kept (λ e. IsFit e.1) node
+          (at_place dir name) (without (other_at s node dir name) s.records)
+          (λ e h. record { own = h.own; plain = h.plain; small = h.small })
+          (All-without (λ e. IsFit e.1) (other_at s node dir name) s.records v.fit);
     }
 
 -- an accepted write leaves a volume
@@ -188,20 +226,27 @@ keeps-write laws s node size time v h =
           (λ r. refl) (λ r. refl) (λ r. refl)
           (λ r is folder. absurd (let clash : is_folder_at s node ≡ true =
           grind (arith, nat_tests) in let no : ⊥ = cc in no));
-      named = All-kept (λ e. HasOwnNames e.1.attrs) node (rewritten size time) s.records
-          (λ e h. h) v.named;
+      fit = All-kept (λ e. IsFit e.1) node (rewritten size time) s.records
+          (λ e h. record {
+            own = h.own;
+            plain = h.plain;
+            small = small-from_test size rows.1.1.1.0;
+          })
+          v.fit;
     }
 
 -- attributes are no part of a tree
 pub keeps-attrs : RecordsAreKept → (s : State) (node : ℕ) (f : Record → Attributes)
-    → ((r : Record) → HasOwnNames r.attrs → HasOwnNames (f r)) → IsVolume s → s.number < s.limit
+    → ((r : Record) → HasOwnNames r.attrs → HasOwnNames (f r))
+    → ((r : Record) → HasPlainNames r.attrs → HasPlainNames (f r))
+    → IsVolume s → s.number < s.limit
     → IsVolume (with_records s (altered node (λ r. with_attrs (f r) r) s.records))
-keeps-attrs laws s node f own v more = record {
+keeps-attrs laws s node f own plain v more = record {
   numbered = IsNumbered-altered laws s None node (λ r. with_attrs (f r) r) v.numbered more;
   tree = IsTree-kept laws s node (λ r. with_attrs (f r) r) v.tree
       (λ r. refl) (λ r. refl) (λ r. refl) (λ r is folder. v.tree.sizes node r is folder);
-  named = All-kept (λ e. HasOwnNames e.1.attrs) node (λ r. with_attrs (f r) r) s.records
-      (λ e h. own e.1 h) v.named;
+  fit = All-kept (λ e. IsFit e.1) node (λ r. with_attrs (f r) r) s.records
+      (λ e h. record { own = own e.1 h.own; plain = plain e.1 h.plain; small = h.small }) v.fit;
 }
 
 -- what the entries need of a creation and of a move
@@ -235,10 +280,14 @@ keeps-all own laws s (Move node dir name clobber) v h = keeps-move laws s node d
 keeps-all own laws s (Write node size time) v h = keeps-write laws s node size time v h
 keeps-all own laws s (SetAttr node attr value) v h =
     keeps-attrs laws s node (λ r. with_attr r.attrs attr value)
-    (λ r h. own.set r.attrs attr value h) v (accepted_number s (SetAttr node attr value) h)
+    (λ r h. own.set r.attrs attr value h)
+    (λ r plain. plain-with r.attrs attr value
+    (none_holds (refusals s (SetAttr node attr value)) h).1.1.0 plain)
+    v (accepted_number s (SetAttr node attr value) h)
 keeps-all own laws s (RemoveAttr node attr) v h =
     keeps-attrs laws s node (λ r. without_attr r.attrs attr)
-    (λ r h. own.removed r.attrs attr h) v (accepted_number s (RemoveAttr node attr) h)
+    (λ r h. own.removed r.attrs attr h)
+    (λ r h. plain-without r.attrs attr h) v (accepted_number s (RemoveAttr node attr) h)
 
 -- an altered record is what became of it, and each other is as it was
 altered-here : RecordsAreKept → (es : Entries) (node : ℕ) (f : Record → Record)

@@ -7,6 +7,7 @@ pub mod EntryRow
 pub mod Result
 pub mod Book
 pub mod Laws
+pub mod Restore
 pub use Rattle.lq_volume_entries.specs.Attributes
 pub use Rattle.lq_volume_entries.specs.AttributeLaws
 pub use Rattle.lq_volume_entries.specs.Kind

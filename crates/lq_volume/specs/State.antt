@@ -7,7 +7,7 @@ use Rattle.std.specs.Map.{lookup, values_of}
 use Rattle.std.specs.Str.{bytes_eq}
 use Rattle.lq_value.specs.declared.kind.Kind.{Kind}
 use Rattle.lq_value.specs.declared.kind.Kind.TheVariants.{Folder}
-use Rattle.lq_volume_entries.specs.Attributes.{HasOwnNames}
+use Rattle.lq_volume_entries.specs.Attributes.{HasOwnNames, is_reserved}
 use Rattle.lq_volume_entries.specs.Kind.{is_folder}
 pub use Rattle.lq_volume_entries.specs.Record.{Record, root, dir_of, climbs, node_in, Rises}
 
@@ -71,9 +71,17 @@ pub record IsTree (s : State) : Type 0 where
   -- the root has no record
   pub no_root : record_at s root ≡ None
 
+-- what each record of a volume keeps
+pub record IsFit (r : Record) : Type 0 where
+  -- no two attributes of an entry have the same name
+  pub own : HasOwnNames r.attrs
+  -- no attribute has a name under which every entry shows a property of its own
+  pub plain : AllByRecursion (λ a. is_reserved a.0 ≡ false) r.attrs
+  -- the size fits into an i64
+  pub small : r.size ≤ 9223372036854775807
+
 -- the invariants of a volume
 pub record IsVolume (s : State) : Type 0 where
   pub numbered : IsNumbered s
   pub tree : IsTree s
-  -- no two attributes of an entry have the same name
-  pub named : AllByRecursion (λ e. HasOwnNames e.1.attrs) s.records
+  pub fit : AllByRecursion (λ e. IsFit e.1) s.records

@@ -17,7 +17,7 @@ use lq_value::{AttrName, Kind, Name, Refusal};
 use lq_volume_entries::{StoredRecord, records_are_kept};
 
 /// The most bytes of a file: the size is shown as an `i64`.
-const MAX_SIZE: u64 = 9_223_372_036_854_775_807;
+pub const MAX_SIZE: u64 = 9_223_372_036_854_775_807;
 
 #[inline(always)]
 pub fn check_create(
@@ -218,7 +218,8 @@ pub fn check_folder(volume: &Volume, dir: u64) -> Result<(), Refusal>
     }
 }
 
-fn is_reserved(attr: &AttrName) -> bool
+/// Whether every entry shows a property of its own under this name.
+pub fn is_reserved(attr: &AttrName) -> bool
     ensures { result ≡ is_reserved attr.now }
 {
     let attr = attr.as_str();

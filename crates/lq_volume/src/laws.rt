@@ -1,5 +1,6 @@
 //! Laws of trees and changes: each is the contract of a function that does nothing.
 ghost use Rattle.lq_volume.specs.Laws.{ChangesCount, ChangesKeepTrees, UntouchedStay, ClobberedGo};
+ghost use Rattle.lq_volume.specs.Restore.{VolumesAreRestored};
 ghost use Rattle.lq_volume.specs.Walk.{ReachesAll};
 
 use lq_volume_entries::{names_stay_apart, records_are_kept};
@@ -37,3 +38,10 @@ pub fn clobbered_nodes_go()
 pub fn changes_are_counted()
     ensures { ChangesCount }
 {}
+
+/// A state is a volume just where no call of `Restoring` refuses its numbers and records.
+pub fn volumes_are_restored()
+    ensures { VolumesAreRestored }
+{
+    records_are_kept();
+}

@@ -1,8 +1,13 @@
 //! The volume: it checks and makes changes, and numbers those that it accepts.
-ghost use Rattle.std.specs.Prelude.{◌≡◌, ◌≤◌, ◌+◌, Some, None, IfOk, IfErr, OnErr, OnOk};
+ghost use Rattle.std.specs.Prelude.{◌≡◌, ◌⊎◌, ◌≤◌, ◌+◌, Some, None, IfOk, IfErr, OnErr, OnOk, map};
+ghost use Rattle.lq_volume.specs.declared.restore_fault.RestoreFault.TheVariants.{NoMemory};
 
 use crate::change::{Applied, Change, Resolved};
-use crate::laws::accepted_changes_keep_trees;
+use crate::entry_ref::Listing;
+use crate::laws::{accepted_changes_keep_trees, volumes_are_restored};
+use crate::restore_fault::RestoreFault;
+use crate::restoring::Restoring;
+use crate::saved::Saved;
 use lq_value::Refusal;
 use lq_volume_entries::{Entries, StoredRecord, records_are_kept};
 use std::alloc::Global;
@@ -86,6 +91,7 @@ impl Volume {
     ghost use Rattle.lq_volume.specs.State.{empty_state, IsVolume};
     ghost use Rattle.lq_volume.specs.Change.{refused, after, node_of, is_full, IsLawful};
     ghost use Rattle.lq_volume.specs.Plan.{resolved_of};
+    ghost use Rattle.lq_volume.specs.Restore.{FailsBy, first_fault, listed_pair, restore_faults, state_with};
 
     /// A volume with the root alone. It accepts at most `limit` changes, 1 to 1,000,000,000,000.
     ///
@@ -100,6 +106,36 @@ impl Volume {
             next: 2,
             alloc,
             entries: Entries::new(alloc),
+        }
+    }
+
+    /// The volume with these numbers and entries.
+    pub(crate) fn from_parts(
+        alloc: Global,
+        limit: u64,
+        changes: u64,
+        next: u64,
+        entries: Entries,
+    ) -> Volume
+        requires { IsVolume (record {
+          limit = limit;
+          number = changes;
+          next = next;
+          records = entries;
+        }) }
+        ensures { result ≡ record {
+          limit = limit;
+          number = changes;
+          next = next;
+          records = entries;
+        } }
+    {
+        Volume {
+            limit,
+            changes,
+            next,
+            alloc,
+            entries,
         }
     }
 
@@ -119,6 +155,24 @@ impl Volume {
         ensures { result ≡ self.now.limit }
     {
         self.limit
+    }
+
+    /// The node of the entry that is created next. It takes no memory.
+    pub fn next(&self) -> u64
+        ensures { result ≡ self.now.next }
+    {
+        self.next
+    }
+
+    /// All entries with their nodes, by rising node. Refused: `NoMemory`.
+    ///
+    /// Together with `limit`, `changes` and `next` they determine the volume: `restore` makes the
+    /// same volume of them.
+    pub fn saved(&self) -> Result<Saved<'_>, Refusal>
+        ensures refused { FailsOnlyForMemory result }
+        ensures records { IfOk result (λ saved. saved ≡ self.now.records) }
+    {
+        Ok(Saved::new(self.entries.in_order()?))
     }
 
     /// What `apply` would answer. It takes no memory and changes nothing.
@@ -216,6 +270,58 @@ impl Volume {
             alloc: self.alloc,
             entries: self.entries.copy()?,
         })
+    }
+
+    /// The volume with this limit, number of changes and next node, and with these entries.
+    ///
+    /// The limit is at most `MAX_CHANGES`. Refused with the fault of the first call of `Restoring`
+    /// that refuses its part of them, and so just where there is no such volume; or `NoMemory`.
+    pub fn restore(
+        alloc: Global,
+        limit: u64,
+        changes: u64,
+        next: u64,
+        records: Vec<(u64, Listing)>,
+    ) -> Result<Volume, RestoreFault>
+        requires { limit ≤ 1000000000000 }
+        ensures refused { FailsBy result
+            (first_fault (restore_faults limit changes next (map listed_pair records.items))) }
+        ensures value { IfOk result (λ volume.
+            volume ≡ state_with limit changes next records.items) }
+        ensures err { IfErr result (λ e.
+            (e ≡ NoMemory) ⊎ (IsVolume (state_with limit changes next records.items) → ⊥)) }
+    {
+        volumes_are_restored();
+        let mut restoring = Restoring::new(alloc, limit, changes, next)?;
+        for (node, listing) in records {
+            restoring.push(node, listing)?;
+        }
+        restoring.finish()
+    }
+
+    /// A copy that is restored from the volume's own numbers and entries. Refused: `NoMemory`.
+    ///
+    /// Its contract shows that a volume which is saved and restored is the same volume. `copy` is
+    /// faster.
+    pub fn restored_copy(&self) -> Result<Volume, RestoreFault>
+        ensures refused { FailsBy result None }
+        ensures value { IfOk result (λ copy. copy ≡ self.now) }
+    {
+        volumes_are_restored();
+        let saved = self.saved().map_err(|_| RestoreFault::NoMemory)?;
+        let mut restoring = Restoring::new(self.alloc, self.limit, self.changes, self.next)?;
+        for index in 0..saved.len() {
+            match saved.at(index) {
+                None => unreachable!(),
+                Some((node, entry)) => {
+                    let listing = entry
+                        .listing(self.alloc)
+                        .map_err(|_| RestoreFault::NoMemory)?;
+                    restoring.push(node, listing)?;
+                }
+            }
+        }
+        restoring.finish()
     }
 
     /// What an accepted change answers: its number, and the node that it creates or names.

@@ -8,4 +8,5 @@ pub mod Order
 pub mod PlaceIndex
 pub mod Folder
 pub mod NodeHash
+pub mod NodeSet
 pub mod Laws

@@ -4,6 +4,7 @@ ghost use Rattle.std.specs.List.{list_any, AllByRecursion};
 ghost use Rattle.std.specs.Map.{lookup, values_of};
 ghost use Rattle.std.specs.Option.{option_copied};
 ghost use Rattle.lq_value.specs.Refusal.{FailsOnlyForMemory};
+ghost use Rattle.lq_volume_entries.specs.Order.{shown_pair};
 
 use crate::places::Places;
 use crate::record_filter::RecordFilter;
@@ -217,6 +218,22 @@ impl Entries {
             ≡ map entry_of (filter (λ e. T.picks test.now e.1) self.now)) }
     {
         self.records.fetch(self.alloc, test)
+    }
+
+    /// The records with their nodes, by rising node. Refused: `NoMemory`.
+    pub fn in_order(&self) -> Result<Vec<(u64, &StoredRecord)>, Refusal>
+        ensures refused { FailsOnlyForMemory result }
+        ensures records { IfOk result (λ records. map shown_pair records.items ≡ self.now) }
+        ensures rise { Rises self.now }
+    {
+        self.records.in_order(self.alloc)
+    }
+
+    /// How many records there are.
+    pub fn len(&self) -> usize
+        ensures { result ≡ length self.now }
+    {
+        self.records.len()
     }
 
     /// A copy: the same records under the same nodes. Refused: `NoMemory`.

@@ -14,6 +14,7 @@ mod attributes;
 mod entries;
 mod laws;
 mod node_hash;
+mod node_set;
 mod places;
 mod record_changes;
 mod record_filter;
@@ -22,5 +23,6 @@ mod stored_record;
 
 pub use entries::Entries;
 pub use laws::{names_stay_apart, records_are_kept, values_are_found};
+pub use node_set::NodeSet;
 pub use record_filter::RecordFilter;
 pub use stored_record::StoredRecord;

@@ -86,7 +86,8 @@ impl Records {
         at == to
     }
 
-    fn len(&self) -> usize
+    /// How many records there are.
+    pub fn len(&self) -> usize
         ensures { result ≡ length self.now }
     {
         self.stored.len()
