@@ -5,7 +5,7 @@ use Rattle.lq_volume.specs.Book.{Book, grown}
 use Rattle.lq_board.specs.Known.{Author, Register}
 use Rattle.lq_board.specs.Book.{IsFullBook}
 use Rattle.lq_board.specs.Roll.{is_listed}
-use Rattle.lq_board.specs.Author.{IsAuthor, AreDisjoint, new_author, come_home, with_author, with_change}
+use Rattle.lq_board.specs.Author.{IsAuthor, AreDisjoint, HasHeard, new_author, come_home, with_author, with_change, with_heard, author_heard}
 use Rattle.lq_board.specs.Rule.{BookFits, Roll, Owns}
 use Rattle.lq_board.proofs.RollLemmas.{own_after, else_after, seats_more, seats_later, none_after, none_has, one_author, others_added}
 use Rattle.lq_board.proofs.ViewLemmas.{owner_here, owner_else, moved, numbers_apart}
@@ -98,6 +98,52 @@ pub owns_home : {r : Register} {roll : Roll} {by : ℕ} {a : Author} (slot : ℕ
     → Owns r roll by a → Owns (come_home r slot) roll by a
 owns_home {r = r} zero o = owns_out (r.out - 1) o
 owns_home (suc slot) o = o
+
+-- the book and an author are as before where more was heard
+pub fits_heard : {book : Book} {r : Register} (roll : Roll) (heard : List ℕ)
+    → BookFits book r roll → BookFits book (with_heard r heard) roll
+fits_heard roll heard b =
+    record {
+      full = b.full;
+      signed = record { each = b.signed.each; seats = b.signed.seats };
+      enlisted = b.enlisted;
+      gathered = b.gathered;
+    }
+
+pub owns_heard : {r : Register} {roll : Roll} {by : ℕ} {a : Author} (heard : List ℕ)
+    → Owns r roll by a → Owns (with_heard r heard) roll by a
+owns_heard heard o =
+    let is = o.author in
+    record {
+      author =
+          record { least = is.least; most = is.most; changes = is.changes; free = is.free };
+      only = o.only;
+      signs = o.signs;
+      leads = o.leads;
+    }
+
+pub owns_heard_author : {r : Register} {roll : Roll} {by : ℕ} {a : Author} (heard : List ℕ)
+    → Owns r roll by a → Owns r roll by (author_heard a heard)
+owns_heard_author heard o =
+    let is = o.author in
+    record {
+      author =
+          record { least = is.least; most = is.most; changes = is.changes; free = is.free };
+      only = o.only;
+      signs = o.signs;
+      leads = λ is'. let l = o.leads is' in record {
+        number = l.number;
+        counted = l.counted;
+        enlisted = l.enlisted;
+        gathered = l.gathered;
+      };
+    }
+
+-- what was heard is as before where a seat of this slot came home
+pub heard_home : (words : List ℕ) (r : Register) (slot : ℕ) → HasHeard words r.heard
+    → HasHeard words (come_home r slot).heard
+heard_home words r zero h = h
+heard_home words r (suc slot) h = h
 
 -- no more seats are out then
 pub out_home : (r : Register) (slot n : ℕ) → r.out ≤ n → (come_home r slot).out ≤ n

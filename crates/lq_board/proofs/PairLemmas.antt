@@ -8,11 +8,11 @@ use Rattle.atomic_table.specs.Table.{State, Me, step, Allows, Splits, Joins}
 use Rattle.atomic_table.proofs.Lists.{set_else}
 use Rattle.lq_board.specs.Known.{Moment, Sitting, TokenView, Seat, Pair, Spent}
 use Rattle.lq_board.specs.Roll.{is_listed, without_number, others_after, AreSeats}
-use Rattle.lq_board.specs.View.{paired, IsSeat, second_of, first_seat, of_roll, of_signs}
-use Rattle.lq_board.specs.Rule.{ViewFits, BoardState, BoardRule, IsKept}
-use Rattle.lq_board.specs.Step.{Compares, Enlists, Dismisses}
+use Rattle.lq_board.specs.View.{paired, IsSeat, second_of, first_seat, of_roll, of_signs, of_heard}
+use Rattle.lq_board.specs.Rule.{ViewFits, HeardFits, BoardState, BoardRule, IsKept}
+use Rattle.lq_board.specs.Step.{Compares, Enlists, Dismisses, HearsOf}
 use Rattle.lq_board.proofs.RollLemmas.{seats_without, has_here, has_else, without_here, without_else, others_enlisted, others_dismissed}
-use Rattle.lq_board.proofs.AuthorLemmas.{author_same, owns_called, share_none}
+use Rattle.lq_board.proofs.AuthorLemmas.{owns_heard_author, author_same, owns_called, share_none}
 use Rattle.lq_board.proofs.ViewLemmas.{moved, numbers_apart, owns_moved, owns_here, owns_else, fits_set, fits_split, fits_join, fits_still, splits_as, joins_as}
 use Rattle.lq_board.proofs.PlayLemmas.{looks, viewed}
 
@@ -50,6 +50,13 @@ module _ {M : Type 0} where
                 ne,
               )
               tt;
+          heard = fits_join (λ by. HeardFits s.words) s.views id other (Pair a b)
+              (λ by v away e. k.heard by v e) (
+                k.heard id (Seat a) at,
+                k.heard other (Seat b)
+                    (sym (set_else s.views id other (Pair a b) apart) ∙ there),
+              )
+              tt;
         },
       ))
 
@@ -76,8 +83,22 @@ module _ {M : Type 0} where
       looks slots id 0 (Pair a b) (Compares (step slots 0 0 0 none)) is (λ s kept at.
       let fit = kept.1.fits id (Pair a b) at in (
         Pair a b,
-        viewed s kept id (Pair a b) fit,
+        viewed s kept id (Pair a b) fit (kept.1.heard id (Pair a b) at),
         (refl, fit.2, share_none fit.0.1.author fit.1.1.author fit.2),
+      ))
+
+  -- the first of a pair hears of the second
+  pub hears_of : {me : Me ℕ (TokenView M)} (slots id : ℕ) (a b : Sitting M) → me ≡ (Pair a b, [])
+      → Allows IsKept slots id me 0 (λ n. n) (HearsOf (step slots 0 0 0 none) me)
+  hears_of slots id a b is =
+      looks slots id 0 (Pair a b) (HearsOf (step slots 0 0 0 none)) is (λ s kept at.
+      let fit = kept.1.fits id (Pair a b) at in
+      let h = kept.1.heard id (Pair a b) at in (
+        Pair (of_heard a s.words) b,
+        viewed s kept id (Pair (of_heard a s.words) b)
+            ((fit.0.0, owns_heard_author s.words fit.0.1, fit.0.2, fit.0.3), fit.1, fit.2)
+            ((λ k pos. omega arith), h.1),
+        (refl, h.0, h.1, λ pos. let t = fit.1.2 pos in omega (arith, t.word)),
       ))
 
   -- what the rule knows, with this roll
@@ -164,6 +185,8 @@ module _ {M : Type 0} where
                 ),
                 fit.2,
               );
+          heard = fits_set (λ by. HeardFits s.words) s.views id _
+              (λ by v apart e. k.heard by v e) (k.heard id (Pair a b) at);
         },
       )
 
@@ -237,5 +260,8 @@ module _ {M : Type 0} where
               (λ by w apart f. (f.0, owns_else n two apart f.1, f.2, f.3)))
               (fit.0.0, owns_moved b.author.number n fit.2 fit.0.1, fit.0.2, fit.0.3)
               (fit.1.0, owns_here n two, fit.1.2, fit.1.3);
+          heard = fits_split (λ by. HeardFits s.words) s.views id (first_seat (Pair a b))
+              (last (Pair a b)) (λ by v apart e. k.heard by v e) (k.heard id (Pair a b) at).0
+              (k.heard id (Pair a b) at).1;
         },
       ))

@@ -13,15 +13,15 @@ use Rattle.lq_volume.specs.Book.{Book, grown, state_of}
 use Rattle.lq_board.specs.Known.{Author, Sitting, Keeping, TokenView, Keeper, Seat}
 use Rattle.lq_board.specs.Book.{IsFullBook}
 use Rattle.lq_board.specs.Roll.{numbers, others_after}
-use Rattle.lq_board.specs.Author.{IsWhole, with_author, with_change, come_home}
+use Rattle.lq_board.specs.Author.{IsWhole, with_author, with_change, with_heard, come_home}
 use Rattle.lq_board.specs.Slot.{counted}
 use Rattle.lq_board.specs.View.{keeping, keeping_of, newborn}
-use Rattle.lq_board.specs.Rule.{ViewFits, Owns, BoardState, BoardRule, IsKept}
-use Rattle.lq_board.specs.Step.{AddsChange, Sees, Checks, ComesHome, Counts, AsksAgain}
+use Rattle.lq_board.specs.Rule.{ViewFits, HeardFits, Owns, BoardState, BoardRule, IsKept}
+use Rattle.lq_board.specs.Step.{AddsChange, Sees, Checks, ComesHome, Counts, Hears, AsksAgain}
 use Rattle.lq_board.proofs.RollLemmas.{others_all}
-use Rattle.lq_board.proofs.AuthorLemmas.{fits_more, owns_more, owns_added, fits_home, owns_home, out_home}
+use Rattle.lq_board.proofs.AuthorLemmas.{fits_more, owns_more, owns_added, fits_home, owns_home, out_home, fits_heard, owns_heard, heard_home}
 use Rattle.lq_board.proofs.WordLemmas.{extends_more, full_more, room_of, counted_same, agrees_unused, agrees_slot, agrees_word}
-use Rattle.lq_board.proofs.ViewLemmas.{numbers_apart, fits_set, fits_still, rule_of, came_self, sits_at, sits_same, slots_apart}
+use Rattle.lq_board.proofs.ViewLemmas.{numbers_apart, fits_set, fits_still, heard_none, heard_word, rule_of, came_self, sits_at, sits_same, slots_apart}
 
 module _ {M : Type 0} where
   -- the words of a new board
@@ -42,6 +42,7 @@ module _ {M : Type 0} where
                 gathered = λ counted. absurd (true≢false counted);
               };
           fits = one;
+          heard = none_heard;
         },
       )
     where
@@ -61,6 +62,13 @@ module _ {M : Type 0} where
           (refl, refl, λ (lt : 0 < 0). absurd (omega arith))
       one (suc by) v e = absurd (some-ne-none v (sym e))
 
+      none_heard : (by : ℕ) (v : TokenView M) → get_elem? (newborn start ∷ []) by ≡ some v
+          → HeardFits (replicate 65 0) v
+      none_heard zero v e =
+          subst (HeardFits (replicate 65 0)) (some-injective _ _ e)
+          (heard_none (replicate 65 0), heard_none (replicate 65 0))
+      none_heard (suc by) v e = absurd (some-ne-none v (sym e))
+
   -- a step that leaves its word, of a token that is known
   pub looks : {me : Me ℕ (TokenView M)} (slots id i : ℕ) (v : TokenView M)
       (proves : Me ℕ (TokenView M) → ℕ → Me ℕ (TokenView M) → Type 0) → me ≡ (v, [])
@@ -76,8 +84,9 @@ module _ {M : Type 0} where
 
   -- one view changes, and nothing else
   pub viewed : (s : State ℕ (TokenView M)) (kept : IsKept s) (id : ℕ) (v : TokenView M)
-      → ViewFits kept.0 s.words id v → IsKept (record s { views = slice_set s.views id v })
-  viewed s kept id v fit =
+      → ViewFits kept.0 s.words id v → HeardFits s.words v
+      → IsKept (record s { views = slice_set s.views id v })
+  viewed s kept id v fit heard =
       let k = kept.1 in (
         kept.0,
         record {
@@ -87,6 +96,8 @@ module _ {M : Type 0} where
           books = k.books;
           fits = fits_set (ViewFits kept.0 s.words) s.views id v (λ by u apart e. k.fits by u e)
               fit;
+          heard = fits_set (λ by. HeardFits s.words) s.views id v (λ by u apart e. k.heard by u e)
+              heard;
         },
       )
 
@@ -150,6 +161,11 @@ module _ {M : Type 0} where
                     seat.3,
                   ),
                 );
+            heard = fits_set (λ by. HeardFits words) s.views id (Keeper w)
+                (λ by u apart e. heard_word s.words 0 n u (λ (lt : 0 < 0). absurd (omega arith))
+                (k.heard by u e))
+                (heard_word s.words 0 n (Keeper v) (λ (lt : 0 < 0). absurd (omega arith))
+                (k.heard id (Keeper v) at));
           },
         ),
         (refl, k.number, full, k.came),
@@ -177,7 +193,8 @@ module _ {M : Type 0} where
       let book : Book = kept.0.view.book in
       let now : TokenView M = Seat (record w { book = book }) in (
         now,
-        viewed s kept id now (([], rw append-nil), mine.1, mine.2, mine.3),
+        viewed s kept id now (([], rw append-nil), mine.1, mine.2, mine.3)
+            (k.heard id (Seat w) at),
         (refl, mine.0, k.number, k.books.full, whole k mine.1),
       ))
 
@@ -188,7 +205,8 @@ module _ {M : Type 0} where
       looks slots id 0 (Keeper v) (Checks (step slots 0 0 0 none)) is (λ s kept at.
       let k = rule_of s kept id v at in (
         Keeper v,
-        viewed s kept id (Keeper v) (kept.1.fits id (Keeper v) at),
+        viewed s kept id (Keeper v) (kept.1.fits id (Keeper v) at)
+            (kept.1.heard id (Keeper v) at),
         (
           refl,
           k.came,
@@ -225,6 +243,11 @@ module _ {M : Type 0} where
                   λ leads. out_home v.register slot _ (f.3 leads),
                 )))
                 (refl, refl, λ (lt : 0 < 0). absurd (omega arith));
+            heard = fits_set (λ by. HeardFits s.words) s.views id (Keeper w)
+                (λ by u apart e. k.heard by u e) (
+                  heard_home s.words v.register slot (k.heard id (Keeper v) at).0,
+                  heard_none s.words,
+                );
           },
         ),
         (refl, k.came, k.number, λ pos. whole k ((k.fits id (Keeper v) at).2 pos).1),
@@ -259,9 +282,50 @@ module _ {M : Type 0} where
                   f.3,
                 )))
                 (refl, refl, λ (lt : 0 < 0). absurd (omega arith));
+            heard = fits_set (λ by. HeardFits s.words) s.views id (Keeper w)
+                (λ by u apart e. k.heard by u e)
+                ((k.heard id (Keeper v) at).0, heard_none s.words);
           },
         ),
-        (refl, k.agrees.known i pos within, k.agrees.idle i pos within),
+        (
+          refl,
+          k.agrees.known i pos within,
+          (k.heard id (Keeper v) at).0 i pos,
+          k.agrees.idle i pos within,
+        ),
+      ))
+
+  -- the keeper hears of all asks
+  pub hears : {me : Me ℕ (TokenView M)} (slots id : ℕ) (v : Keeping M) → me ≡ (Keeper v, [])
+      → Allows IsKept slots id me 0 (λ n. n) (Hears (step slots 0 0 0 none) me)
+  hears slots id v is =
+      looks slots id 0 (Keeper v) (Hears (step slots 0 0 0 none)) is (λ s kept at.
+      let k = rule_of s kept id v at in
+      let h = k.heard id (Keeper v) at in
+      let w : Keeping M = record v { register = with_heard v.register s.words } in
+      let b : BoardState M = record kept.0 { id = id; view = w } in (
+        Keeper w,
+        (
+          b,
+          record {
+            number = k.number;
+            agrees = k.agrees;
+            came = k.came;
+            books = fits_heard kept.0.roll s.words k.books;
+            fits = fits_set (ViewFits b s.words) s.views id (Keeper w)
+                (fits_still k b s.words (λ by. by ≢ id) (λ by apart is. absurd (apart is))
+                (λ by u apart f. (f.0, owns_heard s.words f.1, f.2, f.3))) (
+                  refl,
+                  refl,
+                  λ pos.
+                      let f = (k.fits id (Keeper v) at).2 pos in
+                      (f.0, owns_heard s.words f.1, f.2, f.3),
+                );
+            heard = fits_set (λ by. HeardFits s.words) s.views id (Keeper w)
+                (λ by u apart e. k.heard by u e) (λ k pos. omega arith, h.1);
+          },
+        ),
+        (refl, k.came, h.0, h.1),
       ))
 
   -- a slot's seat asks
@@ -305,6 +369,11 @@ module _ {M : Type 0} where
                   f.3,
                 )))
                 (mine.0, mine.1, λ _. sits_at (word ∙ next) t, mine.3);
+            heard = fits_set (λ by. HeardFits words) s.views id now
+                (λ by u apart e. heard_word s.words w.slot n u
+                (λ _. omega (arith, next, t.word)) (k.heard by u e))
+                (heard_word s.words w.slot n (Seat w)
+                (λ _. omega (arith, next, t.word)) (k.heard id (Seat w) at));
           },
         ),
         (refl, t.word),

@@ -5,13 +5,13 @@ use mathlib.Core.Option.{some}
 use lib.ListN.{get_elem?}
 use Rattle.atomic_table.specs.Table.{State, Me, Splits}
 use Rattle.lq_board.specs.Known.{KnownSlot, Author, Register, Sitting, Keeping, TokenView, Keeper, Seat}
-use Rattle.lq_board.specs.Author.{no_register, leader_register, new_author, with_out}
+use Rattle.lq_board.specs.Author.{HasHeard, no_register, leader_register, new_author, with_out}
 use Rattle.lq_board.specs.Slot.{slot_at, go_out, come_back}
-use Rattle.lq_board.specs.View.{keeping, keeper, keeping_of, sitting_of, taken, with_new_number, with_new_seat, copy_of, led, lead_of, with_slot_seat, seated, parted, again_of, parted_with_seat, again_with_seat}
-use Rattle.lq_board.specs.Rule.{Agrees, Sits, CountsOut, ViewFits, BookFits, Roll, Owns, BoardState, IsKept}
+use Rattle.lq_board.specs.View.{keeping, keeper, keeping_of, sitting_of, taken, with_new_number, with_new_seat, copy_of, led, lead_of, with_slot_seat, seated, parted, again_of, again_recorded, parted_with_seat, again_with_seat}
+use Rattle.lq_board.specs.Rule.{Agrees, Sits, CountsOut, ViewFits, HeardFits, BookFits, Roll, Owns, BoardState, IsKept}
 use Rattle.lq_board.proofs.AuthorLemmas.{numbered, fits_later, owns_new, owns_later, fits_out, owns_out}
 use Rattle.lq_board.proofs.WordLemmas.{slot_here, out_else, agrees_out}
-use Rattle.lq_board.proofs.ViewLemmas.{owner_set, owner_here, owner_else, moved, numbers_apart, owns_here, owns_else, fits_split, fits_still, rule_of, splits_as, came_self, sits_same}
+use Rattle.lq_board.proofs.ViewLemmas.{owner_set, owner_here, owner_else, moved, numbers_apart, owns_here, owns_else, fits_split, fits_still, rule_of, splits_as, came_self, sits_same, heard_none}
 
 module _ {M : Type 0} where
   -- what the keeper knows of the slot of a seat that can go out
@@ -74,12 +74,13 @@ module _ {M : Type 0} where
       → ((by : ℕ) (u : Sitting M) → by ≢ id → Owns v.register kept.0.roll by u.author
       → CountsOut v.register u → CountsOut r u)
       → Owns r roll (length s.views) new.author → CountsOut r new
+      → HasHeard s.words r.heard → HasHeard s.words new.author.heard
       → IsKept (record s {
         views =
             slice_set s.views id (keeper v.book (go_out v.slots new.slot new.name) r)
             ++ Seat (record new { book = v.book }) ∷ [];
       })
-  goes_out s kept id v at r roll new within free books still few mine mine_few =
+  goes_out s kept id v at r roll new within free books still few mine mine_few heard mine_heard =
       let k = rule_of s kept id v at in
       let holder : ℕ → ℕ = kept.0.holder in
       let w : Keeping M = keeping v.book (go_out v.slots new.slot new.name) r in
@@ -119,6 +120,9 @@ module _ {M : Type 0} where
                     free k.agrees,
                 mine_few,
               );
+          heard = fits_split (λ by. HeardFits s.words) s.views id (Keeper w)
+              (Seat (record new { book = v.book })) (λ by u apart e. k.heard by u e)
+              (heard, heard_none s.words) mine_heard;
         },
       )
 
@@ -138,6 +142,7 @@ module _ {M : Type 0} where
       (fits_later f h v.book v.register kept.0.roll books) (λ by a apart o. owns_later f h n o)
       (λ by u apart o. few u kept.0.roll by o)
       (owns_new f h n v.book v.register kept.0.roll books) (λ is. absurd (true≢false (sym is)))
+      ((rule_of s kept id v at).heard id (Keeper v) at).0 (heard_none s.words)
 
   -- a new seat of no slot, which goes out where no seat leads, or stays within a call
   pub copies : {me : Me ℕ (TokenView M)} (id : ℕ) (v : Keeping M) → me ≡ (Keeper v, [])
@@ -199,7 +204,7 @@ module _ {M : Type 0} where
         signs = λ counted. refl;
         leads = λ is. record { number = refl; counted = refl; enlisted = refl; gathered = refl };
       }
-      (λ is. omega arith))
+      (λ is. omega arith) (heard_none s.words) (heard_none s.words))
 
   -- the latest seat that came back
   pub again : {now : Me ℕ (TokenView M)} {more : List (ℕ × ℕ)} (id : ℕ) (name : Option M)
@@ -213,7 +218,21 @@ module _ {M : Type 0} where
       goes_out s kept id v at v.register (moved kept.0.roll v.back.author.number n)
       (sitting_of (again_of name openings (Keeper v))) back.1 back.2 k.books
       (λ by a apart other. owns_else n seat.1 apart other) (λ by u apart other few. few)
-      (owns_here n seat.1) seat.3)
+      (owns_here n seat.1) seat.3 (k.heard id (Keeper v) at).0 (k.heard id (Keeper v) at).1)
+
+  -- the same, and it records this moment
+  pub again_recorded_may : {now : Me ℕ (TokenView M)} {more : List (ℕ × ℕ)} (id : ℕ)
+      (name : Option M) (openings : ℕ → ℕ) (v : Keeping M) → now ≡ (Keeper v, more) → IsBack v
+      → Splits IsKept id now.0 (parted name now.0) (again_recorded name openings now.0)
+  again_recorded_may id name openings v is back =
+      splits_as id (parted name) (again_recorded name openings) is (λ s kept at.
+      let k = rule_of s kept id v at in
+      let n : ℕ = length s.views in
+      let seat = (k.fits id (Keeper v) at).2 back.0 in
+      goes_out s kept id v at v.register (moved kept.0.roll v.back.author.number n)
+      (sitting_of (again_recorded name openings (Keeper v))) back.1 back.2 k.books
+      (λ by a apart other. owns_else n seat.1 apart other) (λ by u apart other few. few)
+      (owns_here n seat.1) seat.3 (k.heard id (Keeper v) at).0 (k.heard id (Keeper v) at).1)
 
   -- the same, where it leads and one seat more is made for it, which is out
   pub again_for : {now : Me ℕ (TokenView M)} {more : List (ℕ × ℕ)} (id : ℕ) (v : Keeping M)
@@ -231,4 +250,5 @@ module _ {M : Type 0} where
       (λ by a apart other. owns_out out (owns_else n seat.1 apart other))
       (λ by u apart other few is'. absurd (numbers_apart seat.1 apart other
       ((other.leads is').number ∙ sym (seat.1.leads leads).number)))
-      (owns_out out (owns_here n seat.1)) (λ is'. let few = seat.3 leads in omega (arith, few)))
+      (owns_out out (owns_here n seat.1)) (λ is'. let few = seat.3 leads in omega (arith, few))
+      (k.heard id (Keeper v) at).0 (k.heard id (Keeper v) at).1)

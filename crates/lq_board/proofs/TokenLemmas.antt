@@ -8,7 +8,7 @@ use Rattle.atomic_table.specs.Table.{Me, Final, Seen, Joins}
 use Rattle.lq_board.specs.Known.{Keeping, TokenView, Keeper, Sitting, Seat, Spent}
 use Rattle.lq_board.specs.Token.{BoardName, KeeperToken, SeatToken, seat_token, table_of, me_of}
 use Rattle.lq_board.specs.View.{IsSitting, sitting_of, IsSeat, keeping_of, taken}
-use Rattle.lq_board.specs.Rule.{IsKept, ViewFits, BoardState}
+use Rattle.lq_board.specs.Rule.{IsKept, ViewFits, HeardFits, BoardState}
 use Rattle.lq_board.proofs.ViewLemmas.{rule_of, moved, numbers_apart, owns_here, owns_else, fits_join, fits_still, joins_as, sits_same, slots_apart}
 use Rattle.atomic_table.specs.Seated.{TableId}
 use Rattle.atomic_table.proofs.Lists.{set_else}
@@ -98,6 +98,13 @@ module _ {M : Type 0} where
                   λ (lt : 0 < 0). absurd (omega arith),
                   seat.3,
                 ),
+              )
+              tt;
+          heard = fits_join (λ by. HeardFits s.words) s.views id other (Keeper now)
+              (λ by v away e. k.heard by v e) (
+                (k.heard id (Keeper v) at).0,
+                k.heard other (Seat w)
+                    (sym (set_else s.views id other (Keeper now) apart) ∙ there),
               )
               tt;
         },

@@ -1,16 +1,18 @@
 -- The views of the tokens, where one of them changes.
-use Rattle.std.proofs.Common.{◌≡◌, ◌≢◌, ◌⊎◌, ℕ, zero, suc, ◌<◌, Bool, eqb, eq-eqb, ne_eqb, cond, List, [], ◌∷◌, ◌++◌, length, refl, sym, ap, ◌∙◌, subst, inl, inr, ⊎_elim, arith, length-set, Option, append-nil}
+use Rattle.std.proofs.Common.{◌≡◌, ◌≢◌, ◌⊎◌, ℕ, zero, suc, ◌<◌, ◌≤◌, get_or-set_other, Bool, eqb, eq-eqb, ne_eqb, cond, List, [], ◌∷◌, ◌++◌, length, refl, sym, ap, ◌∙◌, subst, inl, inr, ⊎_elim, arith, length-set, Option, append-nil}
 use Rattle.std.specs.Prelude.{slice_index, slice_set}
+use mathlib.Core.Logic.{dite}
+use native.Mathlib.Decide.{ℕ_discrete}
 use mathlib.Core.Option.{some, some-injective, some-ne-none}
 use lib.ListN.{get_elem?}
 use Rattle.atomic_table.specs.Table.{State, Me, Splits, Joins}
 use Rattle.atomic_table.proofs.Lists.{at_set}
 use Rattle.lq_volume.specs.Book.{Book}
 use Rattle.lq_board.specs.Known.{KnownSlot, Author, Register, Sitting, Keeping, TokenView, Keeper, Seat, Pair, Spent}
-use Rattle.lq_board.specs.Author.{no_author}
+use Rattle.lq_board.specs.Author.{no_author, HasHeard}
 use Rattle.lq_board.specs.Slot.{unused, slot_at}
 use Rattle.lq_board.specs.View.{slotless_sitting, of_no_slot}
-use Rattle.lq_board.specs.Rule.{CameBack, Sits, SeatFits, ViewFits, Roll, Owns, BoardState, BoardRule, IsKept}
+use Rattle.lq_board.specs.Rule.{CameBack, Sits, SeatFits, ViewFits, HeardFits, Roll, Owns, BoardState, BoardRule, IsKept}
 
 -- the last of a list, and where it stands
 at_end : {A : Type 0} (l : List A) (a b : A) (j : ℕ) → get_elem? (l ++ a ∷ []) j ≡ some b
@@ -31,6 +33,37 @@ owner_here owner k n = ap (λ (b : Bool). cond b n (owner k)) (eq-eqb k k refl)
 -- another number keeps its owner
 pub owner_else : (owner : ℕ → ℕ) (k n j : ℕ) → j ≢ k → owner_set owner k n j ≡ owner j
 owner_else owner k n j e = ap (λ (b : Bool). cond b n (owner j)) (ne_eqb j k e)
+
+-- what nobody has heard is true
+pub heard_none : (words : List ℕ) → HasHeard words []
+heard_none words k pos = omega arith
+
+-- a place that is set has what was set, or is outside
+set_or : (words : List ℕ) (k n : ℕ)
+    → (slice_index (slice_set words k n) k ≡ n)
+    ⊎ (slice_index (slice_set words k n) k ≡ slice_index words k)
+set_or [] zero n = inr refl
+set_or [] (suc k) n = inr refl
+set_or (x ∷ xs) zero n = inl refl
+set_or (x ∷ xs) (suc k) n = set_or xs k n
+
+-- a word rises
+heard_rises : (words : List ℕ) (k n : ℕ) (heard : List ℕ) → (0 < k → slice_index words k ≤ n)
+    → HasHeard words heard → HasHeard (slice_set words k n) heard
+heard_rises words k n heard rises h j pos =
+    dite (ℕ_discrete j k)
+    (λ e. ⊎_elim
+    (λ (here : slice_index (slice_set words k n) k ≡ n).
+    let r = rises (omega (arith, pos, e)) in
+    let old = h k (omega (arith, pos, e)) in
+    rw e (omega (arith, here, r, old)))
+    (λ (here : slice_index (slice_set words k n) k ≡ slice_index words k).
+    let old = h k (omega (arith, pos, e)) in
+    rw e (omega (arith, here, old)))
+    (set_or words k n))
+    (λ ne. let old = h j pos in
+    let else = get_or-set_other words k j n 0 ne in
+    omega (arith, else, old))
 
 -- the roll, where the author of this number has another token
 abbrev pub moved : Roll → ℕ → ℕ → Roll
@@ -154,6 +187,21 @@ module _ {M : Type 0} where
       subst
       (λ (p : TokenView M × TokenView M). Joins IsKept id p.0 other p.1 (both p.0 p.1) Spent)
       (λ i. ((sym is i).0, (sym are i).0)) join
+
+  -- what a token has heard stays true where a word rises
+  pub heard_word : (words : List ℕ) (k n : ℕ) (v : TokenView M)
+      → (0 < k → slice_index words k ≤ n) → HeardFits words v
+      → HeardFits (slice_set words k n) v
+  heard_word words k n (Keeper v) rises h = (
+    heard_rises words k n v.register.heard rises h.0,
+    heard_rises words k n v.back.author.heard rises h.1,
+  )
+  heard_word words k n (Seat w) rises h = heard_rises words k n w.author.heard rises h
+  heard_word words k n (Pair u w) rises h = (
+    heard_rises words k n u.author.heard rises h.0,
+    heard_rises words k n w.author.heard rises h.1,
+  )
+  heard_word words k n Spent rises h = tt
 
   -- a seat of no slot came back that knew all
   pub came_self : (book : Book) → CameBack {M = M} book (slotless_sitting book no_author) unused

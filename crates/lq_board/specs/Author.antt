@@ -1,6 +1,6 @@
 -- Who made each change of a book. Each seat is an author, under a number that no other seat has.
 -- The changes of a book have the numbers 1, 2, 3 and so on.
-use Rattle.std.specs.Prelude.{◌≡◌, ℕ, zero, suc, ◌+◌, ◌-◌, ◌<◌, ◌≤◌, Bool, true, false, List, [], ◌∷◌, ◌++◌, length, Contains}
+use Rattle.std.specs.Prelude.{◌≡◌, ℕ, zero, suc, ◌+◌, ◌-◌, ◌<◌, ◌≤◌, Bool, true, false, List, [], ◌∷◌, ◌++◌, length, Contains, slice_index}
 use Rattle.lq_volume.specs.Book.{Book}
 use Rattle.lq_board.specs.Known.{Author, Register}
 use Rattle.lq_board.specs.Roll.{changes_after, numbers, AreSeats}
@@ -25,9 +25,14 @@ pub record AreDisjoint (one two : List ℕ) : Type 0 where
 abbrev pub IsWhole : Author → ℕ → Type 0
 IsWhole a n = a.leads ≡ true → a.enlisted ≡ [] → a.gathered ≡ numbers n
 
+-- who has heard `more` of the slots' words has heard of at least as many asks as `less`; the words
+-- themselves are the most that can be heard of
+abbrev pub HasHeard : List ℕ → List ℕ → Type 0
+HasHeard more less = (k : ℕ) → 0 < k → slice_index less k ≤ slice_index more k
+
 -- no author and no seat
 abbrev pub no_register : Register
-no_register = record { authors = []; seats = 0; openings = 0; out = 0; free = true }
+no_register = record { authors = []; seats = 0; openings = 0; out = 0; free = true; heard = [] }
 
 -- the first seat of a counted board, which leads
 abbrev pub leader : Author
@@ -40,10 +45,12 @@ leader =
       leads = true;
       enlisted = [];
       gathered = [];
+      heard = [];
     }
 
 abbrev pub leader_register : Register
-leader_register = record { authors = []; seats = 1; openings = 0; out = 1; free = false }
+leader_register =
+    record { authors = []; seats = 1; openings = 0; out = 1; free = false; heard = [] }
 
 -- no author, and no change
 abbrev pub no_author : Author
@@ -79,6 +86,13 @@ with_author r author = record r { authors = r.authors ++ author ∷ [] }
 
 abbrev pub with_change : Author → ℕ → Author
 with_change a n = record a { changes = a.changes ++ n ∷ [] }
+
+-- it has heard this
+abbrev pub with_heard : Register → List ℕ → Register
+with_heard r heard = record r { heard = heard }
+
+abbrev pub author_heard : Author → List ℕ → Author
+author_heard a heard = record a { heard = heard }
 
 -- it may make changes, or may not
 abbrev pub with_signs : Author → Bool → Author

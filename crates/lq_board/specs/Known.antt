@@ -12,7 +12,8 @@ pub record KnownSlot (M : Type 0) : Type 0 where
 -- A seat as an author: its number, from 1, the numbers of the changes that it made, whether each
 -- seat of its board may make changes (`free`), and whether it may itself (`signs`). The leading
 -- seat of a counted board also knows the numbers of the seats that are enlisted, and has gathered
--- the numbers of the changes that other seats made.
+-- the numbers of the changes that other seats made. `heard` has, by slot, how often each slot's
+-- seats have asked at least, as far as this seat has heard.
 pub record Author : Type 0 where
   pub number : ℕ
   pub changes : List ℕ
@@ -21,16 +22,18 @@ pub record Author : Type 0 where
   pub leads : Bool
   pub enlisted : List ℕ
   pub gathered : List ℕ
+  pub heard : List ℕ
 
 -- Who made a book: the number of each change's author, how many seats have a number, how many of
 -- them went out to a slot, how many seats of no slot are out, and whether each seat may make
--- changes, or just those that the leading seat enlists.
+-- changes, or just those that the leading seat enlists. `heard` is as in an author.
 pub record Register : Type 0 where
   pub authors : List ℕ
   pub seats : ℕ
   pub openings : ℕ
   pub out : ℕ
   pub free : Bool
+  pub heard : List ℕ
 
 -- The keeper at one moment: its book, what it knew of each slot, and how many seats had gone out
 -- to a slot by then.

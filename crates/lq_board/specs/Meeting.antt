@@ -1,5 +1,5 @@
 -- What the keeper and a seat are after a call that takes both, by what they were before it.
-use Rattle.std.specs.Prelude.{◌≡◌, ◌<◌, ◌≤◌, ℕ, true, List, [], ◌∷◌, Option}
+use Rattle.std.specs.Prelude.{◌≡◌, ◌<◌, ◌≤◌, ℕ, true, List, [], ◌∷◌, ◌++◌, Option}
 use Rattle.atomic_table.specs.Seated.{TableId}
 use Rattle.atomic_table.specs.Table.{Me}
 use Rattle.lq_volume.specs.declared.change.Change.{Change}
@@ -9,7 +9,7 @@ use Rattle.lq_board.specs.Known.{KnownSlot, Sitting, TokenView, Seat}
 use Rattle.lq_board.specs.Author.{new_author, with_author, with_change, with_opening}
 use Rattle.lq_board.specs.Book.{IsFullBook}
 use Rattle.lq_board.specs.Slot.{slot_at, gone_out, go_out, come_back}
-use Rattle.lq_board.specs.Token.{KeeperToken, SeatToken, slotless_token}
+use Rattle.lq_board.specs.Token.{KeeperToken, SeatToken, moment_of, slotless_token}
 use Rattle.lq_board.specs.Rule.{CameBack}
 
 module _ {M : Type 0} where
@@ -56,7 +56,8 @@ module _ {M : Type 0} where
     pub was_out : WasOut old.slots s
 
   -- A seat, s before and t after, added a lawful change to the keeper's book, under this number. It
-  -- knows the new book, and the number is among its own changes. Nothing else of it changes.
+  -- knows the new book, the number is among its own changes, and it has recorded the moment of the
+  -- keeper then. Nothing else of it changes.
   pub record HasAdded (change : Change) (number : ℕ) (old new : KeeperToken M)
       (s t : SeatToken M) : Type 0 where
     pub later : Extends old.book s.book
@@ -67,6 +68,7 @@ module _ {M : Type 0} where
           board = old.board;
           book = new.book;
           author = with_change s.author number;
+          moments = s.moments ++ moment_of new ∷ [];
         }
     pub keeper : new
         ≡ record old {

@@ -6,7 +6,7 @@ use Rattle.atomic_table.specs.Table.{State}
 use Rattle.lq_volume.specs.Book.{Book, Extends}
 use Rattle.lq_board.specs.Known.{KnownSlot, Author, Register, Sitting, Keeping, TokenView, Keeper, Seat, Pair, Spent}
 use Rattle.lq_board.specs.Book.{IsFullBook}
-use Rattle.lq_board.specs.Author.{IsSigned, IsAuthor}
+use Rattle.lq_board.specs.Author.{IsSigned, IsAuthor, HasHeard}
 use Rattle.lq_board.specs.Roll.{AreSeats, others_after, is_listed}
 use Rattle.lq_board.specs.Slot.{slot_at}
 use Rattle.lq_board.specs.View.{of_no_slot}
@@ -103,6 +103,14 @@ module _ {M : Type 0} where
       × (u.author.number ≢ w.author.number)
   ViewFits b words by Spent = Unit {0}
 
+  -- what a token has heard of the slots' words is true of them
+  abbrev pub HeardFits : List ℕ → TokenView M → Type 0
+  HeardFits words (Keeper v) =
+      HasHeard words v.register.heard × HasHeard words v.back.author.heard
+  HeardFits words (Seat w) = HasHeard words w.author.heard
+  HeardFits words (Pair u w) = HasHeard words u.author.heard × HasHeard words w.author.heard
+  HeardFits words Spent = Unit {0}
+
   -- a slot's word is at least what the keeper knows, and equals it where no seat of the slot is out
   pub record Agrees (words : List ℕ) (slots : List (KnownSlot M)) : Type 0 where
     pub wide : length words ≡ 65
@@ -121,6 +129,7 @@ module _ {M : Type 0} where
     pub came : CameBack b.view.book b.view.back b.view.was
     pub books : BookFits b.view.book b.view.register b.roll
     pub fits : (by : ℕ) (v : TokenView M) → get_elem? views by ≡ some v → ViewFits b words by v
+    pub heard : (by : ℕ) (v : TokenView M) → get_elem? views by ≡ some v → HeardFits words v
 
   abbrev pub IsKept : State ℕ (TokenView M) → Type 0
   IsKept s = (b : BoardState M) × BoardRule b s.words s.views

@@ -1,14 +1,14 @@
 -- What a step on the words proves.
-use Rattle.std.specs.Prelude.{◌≡◌, ◌≢◌, ℕ, ◌+◌, ◌<◌, ◌≤◌, true, false, ◌∷◌, length, Option, option_to_list}
+use Rattle.std.specs.Prelude.{◌≡◌, ◌≢◌, ℕ, ◌+◌, ◌<◌, ◌≤◌, true, false, ◌∷◌, length, Option, option_to_list, slice_index}
 use Rattle.atomic_table.specs.Table.{Step, Me}
 use Rattle.lq_volume.specs.declared.change.Change.{Change}
 use Rattle.lq_volume.specs.Book.{grown, Extends}
 use Rattle.lq_board.specs.Known.{TokenView, Keeper, Seat, Pair}
 use Rattle.lq_board.specs.Book.{IsFullBook}
 use Rattle.lq_board.specs.Roll.{IsMerged, without_number}
-use Rattle.lq_board.specs.Author.{AreDisjoint, IsWhole, with_author, with_change, come_home}
+use Rattle.lq_board.specs.Author.{AreDisjoint, IsWhole, HasHeard, with_author, with_change, with_heard, come_home}
 use Rattle.lq_board.specs.Slot.{slot_at, counted}
-use Rattle.lq_board.specs.View.{keeper, keeping_of, sitting_of, first_sitting, second_of, of_roll, of_signs}
+use Rattle.lq_board.specs.View.{keeper, keeping_of, sitting_of, first_sitting, second_of, of_roll, of_signs, of_heard}
 use Rattle.lq_board.specs.Rule.{CameBack, CountsOut}
 
 module _ {M : Type 0} where
@@ -62,7 +62,18 @@ module _ {M : Type 0} where
       let was = keeping_of m.0 in
       (n ≡ (keeper was.book (counted was.slots s.word found) was.register, m.1))
       × ((slot_at was.slots s.word).asks ≤ found)
+      × (slice_index was.register.heard s.word ≤ found)
       × ((slot_at was.slots s.word).out ≡ false → found ≡ (slot_at was.slots s.word).asks)
+
+  -- the keeper has heard of as many asks as it had, and as the latest seat that came back
+  abbrev pub Hears : Step ℕ → Me ℕ (TokenView M) → ℕ → Me ℕ (TokenView M) → Type 0
+  Hears s m found n =
+      let was = keeping_of m.0 in
+      let heard = (keeping_of n.0).register.heard in
+      (n ≡ (Keeper (record was { register = with_heard was.register heard }), m.1))
+      × CameBack was.book was.back was.was
+      × HasHeard heard was.register.heard
+      × HasHeard heard was.back.author.heard
 
   -- the seat has asked once more
   abbrev pub AsksAgain : Step ℕ → Me ℕ (TokenView M) → ℕ → Me ℕ (TokenView M) → Type 0
@@ -76,6 +87,17 @@ module _ {M : Type 0} where
       let one = (first_sitting m.0).author in
       let two = (second_of m.0).author in
       (n ≡ m) × (one.number ≢ two.number) × AreDisjoint one.changes two.changes
+
+  -- the first seat of a pair has heard what both had, and how often the second has asked
+  abbrev pub HearsOf : Step ℕ → Me ℕ (TokenView M) → ℕ → Me ℕ (TokenView M) → Type 0
+  HearsOf s m found n =
+      let a = first_sitting m.0 in
+      let b = second_of m.0 in
+      let heard = (first_sitting n.0).author.heard in
+      (n ≡ (Pair (of_heard a heard) b, m.1))
+      × HasHeard heard a.author.heard
+      × HasHeard heard b.author.heard
+      × (0 < b.slot → b.asks ≤ slice_index heard b.slot)
 
   -- the first seat of a pair leads, and enlists the second
   abbrev pub Enlists : Step ℕ → Me ℕ (TokenView M) → ℕ → Me ℕ (TokenView M) → Type 0

@@ -5,7 +5,7 @@ use Rattle.lq_volume.specs.State.{State}
 use Rattle.lq_volume.specs.Book.{Book}
 use Rattle.lq_board.specs.Known.{KnownSlot, Author, Register, Moment, Sitting, Keeping, TokenView, Keeper, Seat, Pair}
 use Rattle.lq_board.specs.Book.{no_book, IsFullBook}
-use Rattle.lq_board.specs.Author.{no_author, no_register, leader, leader_register, with_seat, with_number, with_out, with_opening, new_author, with_signs, with_roll}
+use Rattle.lq_board.specs.Author.{no_author, no_register, leader, leader_register, with_seat, with_number, with_out, with_opening, new_author, with_signs, with_roll, author_heard}
 use Rattle.lq_board.specs.Slot.{unused, unused_slots, slot_at, gone_out, go_out, come_back}
 
 module _ {M : Type 0} where
@@ -49,6 +49,16 @@ module _ {M : Type 0} where
   sitting_of (Seat w) = w
   sitting_of _ = slotless_sitting no_book no_author
 
+  -- the moment that a keeper is at
+  abbrev pub moment_in : TokenView M → Moment M
+  moment_in v =
+      let k = keeping_of v in
+      record { book = k.book; slots = k.slots; openings = k.register.openings }
+
+  -- a seat that has recorded one moment more
+  abbrev pub with_moment : Sitting M → Moment M → Sitting M
+  with_moment w moment = record w { moments = w.moments ++ moment ∷ [] }
+
   -- two seats, the first of no slot, while a call compares them
   abbrev pub first_sitting : TokenView M → Sitting M
   first_sitting (Pair a b) = a
@@ -70,6 +80,10 @@ module _ {M : Type 0} where
 
   abbrev pub of_signs : Sitting M → Bool → Sitting M
   of_signs w signs = record w { author = with_signs w.author signs }
+
+  -- a seat that has heard this
+  abbrev pub of_heard : Sitting M → List ℕ → Sitting M
+  of_heard w heard = record w { author = author_heard w.author heard }
 
   -- the second has recorded the first's moments too
   abbrev pub second_recorded : TokenView M → TokenView M
@@ -96,9 +110,7 @@ module _ {M : Type 0} where
   abbrev pub copy_of : TokenView M → TokenView M
   copy_of v =
       let k = keeping_of v in
-      let moment : Moment M =
-      record { book = k.book; slots = k.slots; openings = k.register.openings } in
-      Seat (record (slotless_sitting k.book (new_author k.register)) { moments = moment ∷ [] })
+      Seat (record (slotless_sitting k.book (new_author k.register)) { moments = moment_in v ∷ [] })
 
   -- the keeper and the seat after the leading seat is split off
   abbrev pub led : TokenView M → TokenView M
@@ -137,6 +149,12 @@ module _ {M : Type 0} where
   abbrev pub again_of : Option M → (ℕ → ℕ) → TokenView M → TokenView M
   again_of name openings v =
       Seat (sits_again (keeping_of v).back (keeping_of v).book name openings)
+
+  -- the same for a seat that records this moment
+  abbrev pub again_recorded : Option M → (ℕ → ℕ) → TokenView M → TokenView M
+  again_recorded name openings v =
+      let k = keeping_of v in
+      Seat (with_moment (sits_again k.back k.book name openings) (moment_in (parted name v)))
 
   -- the same for a seat that keeps its name, and for which one seat more is made, which is out
   abbrev pub parted_with_seat : TokenView M → TokenView M

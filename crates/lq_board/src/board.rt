@@ -1,6 +1,6 @@
 //! Makes a board and its tokens, and reads its words: a thread learns the number of changes, or
 //! asks for an end, without the lock.
-ghost use Rattle.std.specs.Prelude.{◌≡◌, ◌+◌, ◌<◌, ◌≤◌, [], length, IfOk, true, false, Some};
+ghost use Rattle.std.specs.Prelude.{◌≡◌, ◌+◌, ◌<◌, ◌≤◌, [], length, slice_index, IfOk, true, false, Some};
 ghost use Rattle.lq_value.specs.Refusal.{FailsOnlyForMemory};
 ghost use Rattle.lq_volume.specs.Book.{Extends};
 ghost use Rattle.lq_board.specs.Author.{IsWhole, leader, leader_register, no_register, with_seat, come_home};
@@ -98,6 +98,7 @@ impl<M> Board<M> {
         Seat {
             token: Some(token),
             slot: 0,
+            has_heard: false,
         }
     }
 
@@ -134,6 +135,7 @@ impl<M> Board<M> {
         Seat {
             token: Some(self.slot_token::<Brand>(keeper, slot)),
             slot,
+            has_heard: false,
         }
     }
 
@@ -153,7 +155,11 @@ impl<M> Board<M> {
         ensures later { Extends keeper.old.book seat.book }
         ensures was_out { 0 < seat.slot → WasOut keeper.old.slots seat }
     {
-        let Seat { token, slot: _ } = seat;
+        let Seat {
+            token,
+            slot: _,
+            has_heard: _,
+        } = seat;
         self.table
             .shared
             .join_seat::<Back>(&mut keeper.token, token.unwrap());
@@ -163,11 +169,13 @@ impl<M> Board<M> {
 
     /// How often a slot's seats have asked. The keeper then knows it. It takes no memory.
     ///
-    /// The answer is at least what the keeper knew, and equals it where no seat of the slot is out.
+    /// The answer is at least what the keeper knew, and at least what it has heard of. It is what
+    /// the keeper knew where no seat of the slot is out.
     pub fn asks(&self, keeper: &mut Keeper<M>, slot: u64) -> u64
         requires board { keeper.old.board ≡ self.now }
         requires slot { (0 < slot) × (slot < 65) }
         ensures known { (slot_at keeper.old.slots slot).asks ≤ result }
+        ensures heard { slice_index keeper.old.register.heard slot ≤ result }
         ensures idle { (slot_at keeper.old.slots slot).out ≡ false
             → result ≡ (slot_at keeper.old.slots slot).asks }
         ensures keeper { keeper.new ≡ record keeper.old {

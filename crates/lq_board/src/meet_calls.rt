@@ -1,8 +1,8 @@
 //! Calls in which a seat meets the keeper, or another seat.
-ghost use Rattle.std.specs.Prelude.{◌≡◌, ◌≢◌, ◌+◌, ◌<◌, ◌≤◌, [], ◌∷◌, ◌++◌, length, Some, true, false};
+ghost use Rattle.std.specs.Prelude.{◌≡◌, ◌≢◌, ◌+◌, ◌<◌, ◌≤◌, [], ◌∷◌, ◌++◌, length, slice_index, Some, true, false};
 ghost use Rattle.lq_volume.specs.Book.{grown, state_of, Extends};
 ghost use Rattle.lq_volume.specs.Change.{after, IsLawful};
-ghost use Rattle.lq_board.specs.Author.{AreDisjoint, with_number, with_seat, with_author, with_signs, with_roll};
+ghost use Rattle.lq_board.specs.Author.{AreDisjoint, HasHeard, with_number, with_seat, with_author, with_signs, with_roll, with_heard, author_heard};
 ghost use Rattle.lq_board.specs.Book.{IsFullBook};
 ghost use Rattle.lq_board.specs.Meeting.{GoesOut, HasAdded, HasMet, WasOut, slots_met};
 ghost use Rattle.lq_board.specs.Roll.{IsMerged, without_number};
@@ -11,7 +11,7 @@ ghost use Rattle.lq_board.specs.Slot.{slot_at};
 
 use crate::board::Board;
 use crate::tokens::{Keeper, Seat};
-use crate::word_steps::{Compare, Dismiss, Enlist, Inner, Part, RecordMoment, Together};
+use crate::word_steps::{Compare, Dismiss, Enlist, HearOf, Inner, Part, RecordMoment, Together};
 use lq_volume::Change;
 use std::marker::Brand;
 
@@ -42,8 +42,9 @@ impl<M> Board<M> {
     /// As `add`, for a change whose author is this seat, which then knows the keeper's book.
     ///
     /// The seat has to be one that may make changes: any where no seat leads, else an enlisted one.
-    /// The number that it answers is then among the seat's own changes. The rest is as in `meet` or
-    /// `meet_slot`, and the seat keeps its name. It takes no memory.
+    /// The number that it answers is then among the seat's own changes, and the seat has recorded
+    /// the moment of the keeper with this change. The rest is as in `meet` or `meet_slot`, and the
+    /// seat keeps its name. It takes no memory.
     pub fn add_by(&self, keeper: &mut Keeper<M>, seat: &mut Seat<M>, change: &Change) -> u64
         requires board { (keeper.old.board ≡ self.now) × (seat.old.board ≡ self.now) }
         requires signs { seat.old.author.signs ≡ true }
@@ -96,6 +97,49 @@ impl<M> Board<M> {
         number
     }
 
+    /// The keeper hears of all requests that the seat has heard of.
+    ///
+    /// The rest is as in `meet` or `meet_slot`, and the seat keeps its name. It takes no memory.
+    pub fn hear(&self, keeper: &mut Keeper<M>, seat: &mut Seat<M>)
+        requires board { (keeper.old.board ≡ self.now) × (seat.old.board ≡ self.now) }
+        ensures heard { HasHeard keeper.new.register.heard seat.old.author.heard }
+        ensures rises { HasHeard keeper.new.register.heard keeper.old.register.heard }
+        ensures later { Extends keeper.old.book seat.old.book }
+        ensures full { IsFullBook keeper.old.book }
+        ensures seat { seat.new ≡ record seat.old { book = keeper.old.book } }
+        ensures keeper { keeper.new ≡ record keeper.old {
+          slots = slots_met keeper.old.slots seat.old;
+          register = with_heard keeper.old.register keeper.new.register.heard;
+        } }
+        ensures was_out { 0 < seat.old.slot → WasOut keeper.old.slots seat.old }
+    {
+        // For the proof: this call says that the seat's slot is one of 64, or 0.
+        let _ = seat.slot();
+        let token = seat.token.take().unwrap();
+        seat.token = Some(self.heard::<Brand>(keeper, token));
+    }
+
+    /// The seat meets the keeper, as in `meet` or `meet_slot`, and records this moment of it. The
+    /// seat keeps its name. It takes no memory.
+    pub fn meet_and_record(&self, keeper: &mut Keeper<M>, seat: &mut Seat<M>)
+        requires board { (keeper.old.board ≡ self.now) × (seat.old.board ≡ self.now) }
+        ensures later { Extends keeper.old.book seat.old.book }
+        ensures full { IsFullBook keeper.old.book }
+        ensures seat { seat.new ≡ record seat.old {
+          book = keeper.old.book;
+          moments = seat.old.moments ++ moment_of keeper.new ∷ [];
+        } }
+        ensures keeper { keeper.new ≡ record keeper.old {
+          slots = slots_met keeper.old.slots seat.old;
+        } }
+        ensures was_out { 0 < seat.old.slot → WasOut keeper.old.slots seat.old }
+    {
+        // For the proof: this call says that the seat's slot is one of 64, or 0.
+        let _ = seat.slot();
+        let token = seat.token.take().unwrap();
+        seat.token = Some(self.recorded::<Brand>(keeper, token));
+    }
+
     /// A seat of no slot, as `seat` gives it, made for a leading seat, which counts it.
     ///
     /// The leading seat then knows the keeper's book. It takes no memory.
@@ -120,6 +164,7 @@ impl<M> Board<M> {
         Seat {
             token: Some(self.table.shared.split_seat::<Inner>(&mut keeper.token)),
             slot: 0,
+            has_heard: false,
         }
     }
 
@@ -150,6 +195,7 @@ impl<M> Board<M> {
         Seat {
             token: Some(self.slot_token::<Brand>(keeper, slot)),
             slot,
+            has_heard: false,
         }
     }
 
@@ -190,6 +236,31 @@ impl<M> Board<M> {
         self.table.shared.load::<Compare>(&mut first, 0);
         two.token = Some(self.table.shared.split_seat::<Part>(&mut first));
         one.token = Some(first);
+    }
+
+    /// A seat of no slot hears how often another has asked, and of all requests that the other has
+    /// heard of.
+    ///
+    /// For contracts alone. It needs no keeper, and neither waits nor takes memory.
+    pub fn hear_of(&self, one: &mut Seat<M>, two: &mut Seat<M>)
+        requires board { (one.old.board ≡ self.now) × (two.old.board ≡ self.now) }
+        requires slot { one.old.slot ≡ 0 }
+        ensures one { one.new ≡ record one.old {
+          author = author_heard one.old.author one.new.author.heard;
+        } }
+        ensures two { two.new ≡ two.old }
+        ensures more { HasHeard one.new.author.heard one.old.author.heard }
+        ensures heard { HasHeard one.new.author.heard two.old.author.heard }
+        ensures asks { 0 < two.old.slot
+            → two.old.asks ≤ slice_index one.new.author.heard two.old.slot }
+    {
+        let mut first = one.token.take().unwrap();
+        let second = two.token.take().unwrap();
+        self.table.shared.join_seat::<Together>(&mut first, second);
+        self.table.shared.load::<HearOf>(&mut first, 0);
+        two.token = Some(self.table.shared.split_seat::<Part>(&mut first));
+        one.token = Some(first);
+        one.has_heard = true;
     }
 
     /// The leading seat enlists another, which made no change and may make changes from then on.

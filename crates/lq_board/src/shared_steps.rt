@@ -3,17 +3,19 @@
 ghost use Rattle.std.specs.Prelude.{◌≡◌, ◌⊎◌, ◌+◌, ◌<◌, [], ◌∷◌, length, true, false, Some};
 ghost use Rattle.lq_volume.specs.Book.{grown, state_of};
 ghost use Rattle.lq_volume.specs.Change.{after, IsLawful};
-ghost use Rattle.lq_board.specs.Author.{with_seat, with_out, with_opening, new_author, with_author, with_change};
+ghost use Rattle.lq_board.specs.Author.{HasHeard, with_seat, with_out, with_opening, new_author, with_author, with_change, with_heard};
 ghost use Rattle.lq_board.specs.Book.{IsFullBook};
 ghost use Rattle.lq_board.specs.Slot.{slot_at, gone_out};
-ghost use Rattle.lq_board.specs.View.{sitting_of, slotless_sitting, sits_again, IsSeat};
+ghost use Rattle.lq_board.specs.View.{sitting_of, slotless_sitting, sits_again, with_moment, IsSeat};
 ghost use Rattle.lq_board.specs.Meeting.{GoesOutAgain};
 ghost use Rattle.lq_board.specs.Rule.{CountsOut};
-ghost use Rattle.lq_board.specs.Token.{new_seat_of};
+ghost use Rattle.lq_board.specs.Token.{moment_of, new_seat_of};
 
 use crate::board::Board;
 use crate::tokens::{Keeper, Seat, Token};
-use crate::word_steps::{Add, Again, AgainFor, Back, Check, Chosen, Open, Slotless};
+use crate::word_steps::{
+    Add, Again, AgainFor, AgainRecorded, Back, Check, Chosen, Hear, Open, Slotless,
+};
 use lq_volume::{Change, accepted_changes_keep_trees, changes_are_counted};
 
 impl<M> Board<M> {
@@ -32,6 +34,7 @@ impl<M> Board<M> {
         Seat {
             token: Some(self.table.shared.split_seat::<Slotless>(&mut keeper.token)),
             slot: 0,
+            has_heard: false,
         }
     }
 
@@ -86,6 +89,47 @@ impl<M> Board<M> {
         (number, again)
     }
 
+    // As `met`, and the seat records the moment of the keeper at which it went out again.
+    pub(crate) fn recorded<W: Chosen<M>>(&self, keeper: &mut Keeper<M>, token: Token<M>) -> Token<M>
+        requires board { (keeper.old.board ≡ self.now) × (token.table_id ≡ self.now.table) }
+        requires view { IsSeat token.me (sitting_of token.me.0) }
+        requires number { 0 < (sitting_of token.me.0).author.number }
+        requires slot { (sitting_of token.me.0).slot < 65 }
+        ensures again { let w = sitting_of token.me.0 in GoesOutAgain keeper.old keeper.new w
+            (with_moment (sits_again w keeper.old.book W.name W.openings) (moment_of keeper.new))
+            result.table_id result.me }
+        ensures register { keeper.new.register ≡ keeper.old.register }
+    {
+        self.table
+            .shared
+            .join_seat::<Back>(&mut keeper.token, token);
+        self.table.shared.load::<Check>(&mut keeper.token, 0);
+        self.table
+            .shared
+            .split_seat::<AgainRecorded<W>>(&mut keeper.token)
+    }
+
+    // As `met`, and the keeper hears of all requests that the seat has heard of.
+    pub(crate) fn heard<W: Chosen<M>>(&self, keeper: &mut Keeper<M>, token: Token<M>) -> Token<M>
+        requires board { (keeper.old.board ≡ self.now) × (token.table_id ≡ self.now.table) }
+        requires view { IsSeat token.me (sitting_of token.me.0) }
+        requires number { 0 < (sitting_of token.me.0).author.number }
+        requires slot { (sitting_of token.me.0).slot < 65 }
+        ensures again { let w = sitting_of token.me.0 in GoesOutAgain keeper.old keeper.new w
+            (sits_again w keeper.old.book W.name W.openings) result.table_id result.me }
+        ensures register { keeper.new.register
+            ≡ with_heard keeper.old.register keeper.new.register.heard }
+        ensures rises { HasHeard keeper.new.register.heard keeper.old.register.heard }
+        ensures heard { HasHeard keeper.new.register.heard
+            (sitting_of token.me.0).author.heard }
+    {
+        self.table
+            .shared
+            .join_seat::<Back>(&mut keeper.token, token);
+        self.table.shared.load::<Hear>(&mut keeper.token, 0);
+        self.table.shared.split_seat::<Again<W>>(&mut keeper.token)
+    }
+
     // As `met` for the leading seat, which keeps its name. One more seat is made for it, and is
     // out, before it is split off.
     pub(crate) fn met_for_seat(&self, keeper: &mut Keeper<M>, token: Token<M>) -> Token<M>
@@ -106,8 +150,8 @@ impl<M> Board<M> {
         self.table.shared.split_seat::<AgainFor>(&mut keeper.token)
     }
 
-    // As `met`, with a change by the seat in between. `change` is for the proof: the call takes W's
-    // change from it.
+    // As `recorded`, with a change by the seat in between. `change` is for the proof: the call
+    // takes W's change from it.
     #[tactic(auto, using(crate::proofs::WordLemmas::state_of_grown))]
     pub(crate) fn added<W: Chosen<M>>(
         &self,
@@ -124,9 +168,11 @@ impl<M> Board<M> {
         requires lawful { IsLawful (state_of keeper.old.book) change.now }
         ensures number { result.0 ≡ length keeper.new.book.changes }
         ensures again { let w = sitting_of token.me.0 in GoesOutAgain keeper.old keeper.new w
+            (with_moment
             (record (sits_again w (grown keeper.old.book (change.now ∷ [])) W.name W.openings) {
               author = with_change w.author result.0;
             })
+            (moment_of keeper.new))
             result.1.table_id result.1.me }
         ensures state { state_of keeper.new.book ≡ after (state_of keeper.old.book) change.now }
         ensures register { keeper.new.register
@@ -144,7 +190,10 @@ impl<M> Board<M> {
             .shared
             .fetch_add::<Add<W>>(&mut keeper.token, 0, 1)
             + 1;
-        let again = self.table.shared.split_seat::<Again<W>>(&mut keeper.token);
+        let again = self
+            .table
+            .shared
+            .split_seat::<AgainRecorded<W>>(&mut keeper.token);
         (number, again)
     }
 }

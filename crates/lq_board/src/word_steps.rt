@@ -78,6 +78,15 @@ impl<M> Play<u8, TokenView<M>> for Count {
     ghost then = { Counts };
 }
 
+// The keeper hears of all requests.
+pub(crate) struct Hear;
+
+impl<M> Play<u8, TokenView<M>> for Hear {
+    ghost use Rattle.lq_board.specs.Step.{Hears};
+
+    ghost then = { Hears };
+}
+
 // A slot's seat asks.
 pub(crate) struct Ask;
 
@@ -146,6 +155,19 @@ impl<M, W: Chosen<M>> Split<TokenView<M>> for Again<W> {
     ghost right = { again_of W.name W.openings };
 }
 
+// As `Again`, and the seat records this moment of the keeper.
+pub(crate) struct AgainRecorded<W> {
+    said: PhantomData<W>,
+}
+
+impl<M, W: Chosen<M>> Split<TokenView<M>> for AgainRecorded<W> {
+    ghost use Rattle.lq_board.specs.View.{parted, again_recorded};
+
+    ghost left = { parted W.name };
+
+    ghost right = { again_recorded W.name W.openings };
+}
+
 // As `Again`, for a seat for which one seat of no slot more is made, which is out.
 pub(crate) struct AgainFor;
 
@@ -188,6 +210,15 @@ impl<M> Play<u8, TokenView<M>> for Compare {
     ghost use Rattle.lq_board.specs.Step.{Compares};
 
     ghost then = { Compares };
+}
+
+// The first of the two hears of the second.
+pub(crate) struct HearOf;
+
+impl<M> Play<u8, TokenView<M>> for HearOf {
+    ghost use Rattle.lq_board.specs.Step.{HearsOf};
+
+    ghost then = { HearsOf };
 }
 
 // The first of the two enlists the second.

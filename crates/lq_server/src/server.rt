@@ -1,9 +1,9 @@
 //! The server: the state under its lock, and the board, which threads read without the lock. Here
 //! are its beginning, its seats and its end.
-ghost use Rattle.std.specs.Prelude.{◌≡◌, ◌≢◌, ◌+◌, ◌≤◌, [], ◌∷◌, IfOk, IfErr, OnOk, OnErr, true, false};
+ghost use Rattle.std.specs.Prelude.{◌≡◌, ◌≢◌, ◌+◌, ◌<◌, ◌≤◌, [], ◌∷◌, slice_index, IfOk, IfErr, OnOk, OnErr, true, false};
 ghost use Rattle.lq_value.specs.declared.refusal.Refusal.TheVariants.{NoSeat};
 ghost use Rattle.lq_volume.specs.Book.{Extends};
-ghost use Rattle.lq_board.specs.Author.{AreDisjoint, IsWhole, with_roll, with_signs};
+ghost use Rattle.lq_board.specs.Author.{AreDisjoint, HasHeard, IsWhole, author_heard, with_roll, with_signs};
 ghost use Rattle.lq_board.specs.Roll.{IsMerged, without_number};
 ghost use Rattle.lq_board.specs.Token.{counted_board};
 ghost use Rattle.lq_server_slots.specs.Leading.{leading_seat};
@@ -226,6 +226,26 @@ impl<N: Named> Server<N> {
         ensures two { two.new ≡ two.old }
     {
         self.board.compare(one, two);
+    }
+
+    /// A seat of no slot hears how often a reader's seat has asked, and of all requests that the
+    /// other seat has heard of. For contracts alone.
+    ///
+    /// A change that the first seat then makes comes after the end of each subscription whose
+    /// request it has heard of. It neither waits nor takes memory.
+    pub fn hear_of(&self, one: &mut Seat, two: &mut Seat)
+        requires boards { (one.old.board ≡ N.board) × (two.old.board ≡ N.board) }
+        requires slot { one.old.slot ≡ 0 }
+        ensures one { one.new ≡ record one.old {
+          author = author_heard one.old.author one.new.author.heard;
+        } }
+        ensures two { two.new ≡ two.old }
+        ensures more { HasHeard one.new.author.heard one.old.author.heard }
+        ensures heard { HasHeard one.new.author.heard two.old.author.heard }
+        ensures asks { 0 < two.old.slot
+            → two.old.asks ≤ slice_index one.new.author.heard two.old.slot }
+    {
+        self.board.hear_of(one, two);
     }
 
     /// The volume and the number of its changes, at the end of the server.

@@ -8,7 +8,7 @@ ghost use Rattle.lq_volume.specs.Result.{result_of};
 ghost use Rattle.lq_volume.specs.State.{record_at, node_in};
 ghost use Rattle.lq_volume.specs.Lookup.{find_refusals, entry_refusals, listed};
 ghost use Rattle.lq_board.specs.Author.{IsWhole, with_change};
-ghost use Rattle.lq_server_slots.specs.Applied.{IsAdded};
+ghost use Rattle.lq_server_slots.specs.Applied.{HasLooked, IsAdded};
 ghost use Rattle.lq_server_slots.specs.Own.{StaysOwn};
 
 use crate::server::{Accepted, Server};
@@ -25,10 +25,10 @@ impl<N: Named> Server<N> {
     /// one an enlisted seat. It then knows a book that ends with this change, under the number that
     /// the call answers, and has this number among those of its own changes. No seat and no reader
     /// is made for it. Refused as `Volume::apply` is after the book that the seat then knows, or
-    /// `NoMemory`. A subscription whose reader hung up before ends, even where it is refused. No
-    /// clause of this call says what becomes of the subscriptions, or that a refused change leaves
-    /// the volume as it was: clauses of `ServerState::apply` do, for the requests that its keeper
-    /// knows of.
+    /// `NoMemory`. A subscription whose reader hung up before ends, even where it is refused: the
+    /// seat records a moment at which the keeper knew of as many requests as the seat had heard of.
+    /// No other clause of this call says what becomes of the subscriptions, or that a refused
+    /// change leaves the volume as it was: clauses of `ServerState::apply` do.
     pub fn apply<R: Wait>(
         &self,
         rt: &R,
@@ -40,8 +40,12 @@ impl<N: Named> Server<N> {
         ensures seat { seat.new ≡ record seat.old {
           book = seat.new.book;
           author = seat.new.author;
+          moments = seat.new.moments;
         } }
         ensures own { StaysOwn seat.old seat.new }
+
+        // Accepted or refused, it looked at the requests of each slot whose seat is out.
+        ensures looked { HasLooked seat.old seat.new }
         ensures author { IfOk result (λ a.
             seat.new.author ≡ with_change seat.old.author a.change) }
         ensures others { OnErr result (seat.new.author ≡ seat.old.author) }

@@ -16,3 +16,7 @@ pub mod SyncLemmas
 pub mod ApplyLemmas
 pub mod OpenLemmas
 pub mod ShownLemmas
+pub mod TurnLemmas
+pub mod MoveLemmas
+pub mod ActLemmas
+pub mod TurnRunLemmas

@@ -113,7 +113,7 @@ marks true s book is stands n long =
     rw is (drop_of_length-le (mark_behind n (mark_ending s.sub.held.mark)) (omega arith))
 
 -- a subscription under the lock stands for one of the world
-passed_on : (asked : Bool) (taken : ℕ) (s : Subscription) (book : Book) → IsFullBook book
+pub passed_on : (asked : Bool) (taken : ℕ) (s : Subscription) (book : Book) → IsFullBook book
     → IsConsistentAt s book → PassesOnAs book (shown_subscription asked taken s) s
 passed_on asked taken s book full stands =
     let due = dues asked taken s book full stands in

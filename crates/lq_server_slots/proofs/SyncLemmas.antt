@@ -6,7 +6,7 @@ use Rattle.lq_volume.specs.declared.change.Change.{Change}
 use Rattle.lq_volume.specs.Book.{Book}
 use Rattle.lq_board.specs.Known.{KnownSlot}
 use Rattle.lq_board.specs.Slot.{slot_at, unused, gone_out, go_out, come_back}
-use Rattle.lq_board.specs.Author.{come_home}
+use Rattle.lq_board.specs.Author.{come_home, with_heard}
 use Rattle.lq_board.specs.Token.{KeeperToken, SeatToken}
 use Rattle.lq_board.specs.Meeting.{GoesOut, HasAdded, HasMet, WasOut}
 use Rattle.lq_port.specs.End.{End}
@@ -20,13 +20,13 @@ use Rattle.lq_server_slots.specs.Marking.{hung_mark}
 use Rattle.lq_server_slots.specs.Identity.{identity_of, port_id_inj}
 use Rattle.lq_server_slots.specs.Reading.{ReadingHold}
 use Rattle.lq_server_slots.specs.Standing.{IsConsistentAt, IsDrained, IsSeen, CannotPut, SameButHeld, SideBySide, report_of}
-use Rattle.lq_server_slots.specs.Slots.{IsTakenSlot, SlotStands, IsSlotMet, KeepsBook, asks_of, OnlyAt, AreConsistent, slot_in, KeepsSlots, KnowsAsks, SameButKnown}
+use Rattle.lq_server_slots.specs.Slots.{IsTakenSlot, SlotStands, IsSlotMet, KeepsBook, asks_of, OnlyAt, AreConsistent, slot_in, KeepsSlots, KnowsAsks, OthersStay, SameButKnown}
 use Rattle.lq_server_slots.specs.Opening.{IdentityFits, asks_after, name_or}
 use Rattle.lq_server_slots.proofs.EndLemmas.{told_now}
 use Rattle.lq_server_slots.proofs.SlotLemmas.{stuck_filled}
 use Rattle.lq_server_slots.specs.declared.slots.ServerSlots.{ServerSlots}
 use Rattle.lq_server_slots.proofs.TakenLemmas.{taken_out}
-use Rattle.lq_server_slots.proofs.TableLemmas.{only_set, slots_known, taken_at}
+use Rattle.lq_server_slots.proofs.TableLemmas.{in_else, only_set, slots_alike, slots_known, taken_at}
 
 -- the name that is there
 some_name : (o : Option Identity) → IsSome o → Some (name_or o) ≡ o
@@ -243,3 +243,60 @@ slots_added change n old new s t added lt least =
     ap (λ (k : KeeperToken Identity). k.slots) added.keeper
     ∙ back_out old.slots s.slot s.asks s.name lt (λ pos. (added.was_out pos).name)
     (λ pos. (added.was_out pos).asks) (λ pos. (added.was_out pos).out) least
+
+-- a seat that meets the keeper again leaves all slots, where nothing is known anew
+pub slots_heard : (slots : ServerSlots) (new : KeeperToken Identity) (s : SeatToken Identity)
+    (heard : List ℕ)
+    → new ≡ record slots.keeper {
+      slots = go_out (come_back slots.keeper.slots s.slot s.asks s.name) s.slot s.name;
+      register = with_heard slots.keeper.register heard;
+    }
+    → (0 < s.slot → WasOut slots.keeper.slots s) → s.slot < 65
+    → KnowsAsks slots.keeper.slots s → AreConsistent slots slots.keeper.book
+    → (new.slots ≡ slots.keeper.slots) × KeepsSlots slots (record slots { keeper = new })
+slots_heard slots new s heard is was within least h =
+    let same : new.slots ≡ slots.keeper.slots =
+    ap (λ (k : KeeperToken Identity). k.slots) is
+    ∙ back_out slots.keeper.slots s.slot s.asks s.name (omega (arith, within, h.known))
+    (λ pos. (was pos).name) (λ pos. (was pos).asks) (λ pos. (was pos).out) least in
+    let book : new.book ≡ slots.keeper.book = ap (λ (k : KeeperToken Identity). k.book) is in (
+      same,
+      record {
+        counts = record {
+          board = ap (λ (k : KeeperToken Identity). k.board) is;
+          counted = ap (λ (k : KeeperToken Identity). k.register.openings) is;
+          out = ap (λ (k : KeeperToken Identity). k.register.out) is;
+          openings = refl;
+        };
+        book = book;
+        holding = slots_alike slots new slots.keeper.book new.book h same (sym book);
+      },
+    )
+
+-- calls at one slot, the last of which puts its subscription back, leave the others
+pub others_then : (first old : ServerSlots) (mid keeper : KeeperToken Identity) (i slot two : ℕ)
+    (s : Subscription) → first.subscriptions ≡ old.subscriptions
+    → KeepsBook old.keeper first.keeper slot → KeepsBook first.keeper mid (i + 1)
+    → KeepsBook mid keeper two → i + 1 ≡ two → two ≡ slot
+    → OthersStay old (record first {
+      keeper = keeper;
+      subscriptions = slice_set first.subscriptions i (Some s);
+    }) slot
+others_then first old mid keeper i slot two s same a b c at is =
+    record {
+      subscriptions = λ j ne.
+          in_else first.subscriptions i j (Some s) (λ e. ne (omega (arith, e, at, is)))
+          ∙ ap (λ (l : List (Option Subscription)). slot_in l j) same;
+      known = λ k ne. c.only.others k (λ e. ne (e ∙ is))
+          ∙ b.only.others k (λ e. ne (omega (arith, e, at, is)))
+          ∙ a.only.others k ne;
+    }
+
+-- and so do two calls, one after the other
+pub others_twice : (old mid new : ServerSlots) (slot : ℕ) → OthersStay old mid slot
+    → OthersStay mid new slot → OthersStay old new slot
+others_twice old mid new slot a b =
+    record {
+      subscriptions = λ i ne. b.subscriptions i ne ∙ a.subscriptions i ne;
+      known = λ k ne. b.known k ne ∙ a.known k ne;
+    }

@@ -1,6 +1,7 @@
 -- The taken slots, and visits of all of them.
 use Rattle.std.proofs.Common.{◌≡◌, ◌≢◌, ◌∙◌, ℕ, ◌+◌, ◌≤◌, List, length, true, false, true≢false, Option, Some, None, refl, sym, ap, arith, Bool, subst, ◌<◌}
-use Rattle.std.specs.Prelude.{◌&&◌, IsSome, slice_get}
+use Rattle.std.specs.Prelude.{◌&&◌, IsSome, slice_get, slice_index, slice_set}
+use Rattle.lq_board.specs.Author.{HasHeard}
 use Rattle.std.specs.Option.{option_flatten}
 use mathlib.Core.Logic.{dite}
 use native.Mathlib.Decide.{ℕ_discrete}
@@ -13,13 +14,13 @@ use Rattle.lq_volume.specs.Book.{Book}
 use Rattle.lq_server_slots.specs.declared.identity.Identity.{Identity}
 use Rattle.lq_server_slots.specs.declared.slots.ServerSlots.{ServerSlots}
 use Rattle.lq_server_slots.specs.declared.subscription.Subscription.{Subscription}
-use Rattle.lq_server_slots.specs.Slots.{AreConsistent, IsServed, MarksCover, SlotIsWatched, SlotMarkCovers, OnlyAt, Serves, SlotIs, SlotStands, SlotsAre, asks_of, slot_in, IsNoticed, HasPreparedAt, IsTakenNoticed}
+use Rattle.lq_server_slots.specs.Slots.{AreConsistent, IsServed, KnowsHeard, SlotHears, MarksCover, SlotIsWatched, SlotMarkCovers, OnlyAt, Serves, SlotIs, SlotStands, SlotsAre, asks_of, slot_in, IsNoticed, HasPreparedAt, IsTakenNoticed}
 use Rattle.lq_volume.specs.declared.change.Change.{Change}
 use Rattle.lq_server_slots.specs.Changing.{Prepares}
 use Rattle.lq_volume.specs.State.{State}
 use Rattle.std.proofs.lemmas.Option.{slice_get_within}
 use Rattle.lq_server_slots.proofs.SlotLemmas.{taken_alike}
-use Rattle.lq_server_slots.proofs.TableLemmas.{watched_same}
+use Rattle.lq_server_slots.proofs.TableLemmas.{in_here, in_else, watched_same}
 use Rattle.lq_server_slots.proofs.MarkLemmas.{mark_covers-same, slot_covers-same}
 
 -- a slot whose seat is out is taken
@@ -35,6 +36,49 @@ pub asks_rise : (first old new : List (KnownSlot Identity)) (place : ℕ) → On
 asks_rise first old new place only more before k =
     dite (ℕ_discrete k place) (λ (e : k ≡ place). rw e (omega (arith, before place, more)))
     (λ (ne : k ≢ place). rw (only.others k ne) (before k))
+
+-- what holds of what the keeper knows of a slot, whatever its subscription
+any_slot : (P : KnownSlot Identity → Type 0) (o : Option Subscription) (p : KnownSlot Identity)
+    → P p → SlotIs (λ s q. P q) o p
+any_slot P None p is = tt
+any_slot P (Some s) p is = is
+
+-- what was heard of the taken slots is known where the same slots are taken
+pub knows_on : (heard : List ℕ) (n : ℕ) (old new : List (Option Subscription))
+    (known : List (KnownSlot Identity)) → MarksCover n old new → KnowsHeard heard old known
+    → KnowsHeard heard new known
+knows_on heard n old new known marks is i low = by (slot_in old i) refl
+  where
+    by : (o : Option Subscription) → slot_in old i ≡ o
+        → SlotHears heard i (slot_in new i) (slot_at known (i + 1))
+    by None was = rw (rw was at (marks i low)) tt
+    by (Some s) was =
+        any_slot (λ q. slice_index heard (i + 1) ≤ q.asks) (slot_in new i) (slot_at known (i + 1))
+        (rw was at (is i low))
+
+-- who knows what more was heard knows what less was heard
+pub knows_less : (more less : List ℕ) (slots : List (Option Subscription))
+    (known : List (KnownSlot Identity)) → HasHeard more less → KnowsHeard more slots known
+    → KnowsHeard less slots known
+knows_less more less slots known has is i low = by (slot_in slots i) (is i low)
+  where
+    by : (o : Option Subscription) → SlotHears more i o (slot_at known (i + 1))
+        → SlotHears less i o (slot_at known (i + 1))
+    by None at = tt
+    by (Some s) at = let most = has (i + 1) (omega arith) in omega (arith, at, most)
+
+-- one slot was noticed
+pub heard_set : (heard : List ℕ) (slots : List (Option Subscription))
+    (ps qs : List (KnownSlot Identity)) (k j : ℕ) (t : Subscription) → k < length slots
+    → OnlyAt ps qs (k + 1) → slice_index heard (k + 1) ≤ (slot_at qs (k + 1)).asks
+    → (j ≢ k → SlotHears heard j (slot_in slots j) (slot_at ps (j + 1)))
+    → SlotHears heard j (slot_in (slice_set slots k (Some t)) j) (slot_at qs (j + 1))
+heard_set heard slots ps qs k j t lt only here others =
+    dite (ℕ_discrete j k) (λ (e : j ≡ k). rw (e, in_here slots k (Some t) lt) here)
+    (λ (ne : j ≢ k). rw (
+      in_else slots k j (Some t) ne,
+      only.others (j + 1) (λ e. ne (omega (arith, e))),
+    ) (others ne))
 
 -- what holds of a free slot holds of each outside the set of the taken
 pub outside_taken : (P : Option Subscription → Type 0) (set : ℕ)

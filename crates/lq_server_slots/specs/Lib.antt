@@ -15,6 +15,9 @@ pub mod Progress
 pub mod Changing
 pub mod Closing
 pub mod Shown
+pub mod Acts
+pub mod Turn
+pub mod TurnRun
 pub mod Hold
 pub mod Own
 pub mod Leading

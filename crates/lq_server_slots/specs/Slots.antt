@@ -1,5 +1,5 @@
 -- What the lock has of the slots, beside what the keeper knows of them.
-use Rattle.std.specs.Prelude.{◌≡◌, ◌≢◌, ℕ, ◌+◌, ◌<◌, ◌≤◌, ◌-◌, true, false, List, ◌∷◌, [], length, take, Option, Some, None, IsSome, IsSomeAnd, slice_get}
+use Rattle.std.specs.Prelude.{◌≡◌, ◌≢◌, ℕ, ◌+◌, ◌<◌, ◌≤◌, ◌-◌, true, false, List, ◌∷◌, [], length, take, Option, Some, None, IsSome, IsSomeAnd, slice_get, slice_index}
 use Rattle.lq_volume.specs.State.{State}
 use Rattle.lq_volume.specs.declared.change.Change.{Change}
 use Rattle.lq_volume.specs.Change.{IsLawful}
@@ -117,6 +117,15 @@ abbrev pub SlotsAre :
 SlotsAre P slots known =
     (i : ℕ) → i < 64 → SlotIs P (slot_in slots i) (slot_at known (i + 1))
 
+-- of a slot that is taken the keeper knows of as many asks as were heard of
+abbrev pub SlotHears : List ℕ → ℕ → Option Subscription → KnownSlot Identity → Type 0
+SlotHears heard i o p = SlotIs (λ s q. slice_index heard (i + 1) ≤ q.asks) o p
+
+-- and so it is in all slots
+abbrev pub KnowsHeard : List ℕ → List (Option Subscription) → List (KnownSlot Identity) → Type 0
+KnowsHeard heard slots known =
+    (i : ℕ) → i < 64 → SlotHears heard i (slot_in slots i) (slot_at known (i + 1))
+
 -- only what the keeper knows of the slots may differ, and how many seats have a number or are out
 pub record SameButKnown (old new : ServerSlots) : Type 0 where
   pub board : new.keeper.board ≡ old.keeper.board
@@ -138,6 +147,12 @@ pub record KeepsBook (old new : KeeperToken Identity) (place : ℕ) : Type 0 whe
   pub out : new.register.out ≡ old.register.out
   pub book : new.book ≡ old.book
   pub only : OnlyAt old.slots new.slots place
+
+-- what stands in the slots beside this one stays, and what is known of them
+pub record OthersStay (old new : ServerSlots) (slot : ℕ) : Type 0 where
+  pub subscriptions : (i : ℕ) → i + 1 ≢ slot
+      → slot_in new.subscriptions i ≡ slot_in old.subscriptions i
+  pub known : (k : ℕ) → k ≢ slot → slot_at new.keeper.slots k ≡ slot_at old.keeper.slots k
 
 -- the keeper knows how often a slot's seat has asked
 abbrev pub KnowsAsks : List (KnownSlot Identity) → SeatToken Identity → Type 0

@@ -4,6 +4,8 @@ ghost use Rattle.std.specs.Prelude.{◌≡◌, length, None};
 ghost use Rattle.lq_volume.specs.Book.{state_of};
 ghost use Rattle.lq_volume.specs.Change.{refused};
 ghost use Rattle.lq_server_slots.specs.Changing.{IsPrepared};
+ghost use Rattle.lq_server_slots.specs.Turn.{AllPut};
+ghost use Rattle.lq_desk_world.specs.World.{after_change};
 ghost use Rattle.lq_server_slots.specs.Slots.{AreConsistent, IsConsistentWith, AllPrepared, before_of, IsGrown, IsNoticed, IsServed, MarksCover, SlotsAre};
 
 use crate::fill_port::fill;
@@ -77,12 +79,16 @@ impl<'a, R: Wait> Visit<Subscription, ()> for Commit<'a, R> {
     ghost use Rattle.lq_board.specs.Slot.{slot_at};
     ghost use Rattle.lq_desk_sub.specs.SlotSet.{has};
     ghost use Rattle.lq_server_slots.specs.Changing.{MayCommit};
-    ghost use Rattle.lq_server_slots.specs.Slots.{Serves, before_of};
+    ghost use Rattle.lq_server_slots.specs.Slots.{before_of};
+    ghost use Rattle.lq_server_slots.specs.Turn.{ServesAs};
+    ghost use Rattle.lq_desk_world.specs.World.{after_change};
 
     ghost allows = { λ v s i x. MayCommit v.change.now (has v.asked.word i) x
         (slot_at v.keeper.now.slots (i + 1)) v.keeper.now.book };
 
-    ghost did = { λ v t i x y. Serves (length (before_of v.keeper.now.book).changes) x y
+    ghost did = { λ v t i x y. ServesAs
+        (after_change (before_of v.keeper.now.book) v.change.now)
+        (length (before_of v.keeper.now.book).changes) x y
         (slot_at v.keeper.now.slots (i + 1)) v.keeper.now.book };
 
     fn visit(&self, _state: &mut (), slot: SlotIndex, item: &mut Subscription) {
@@ -104,6 +110,9 @@ pub(crate) fn commit_all<R: Wait>(rt: &R, slots: &mut ServerSlots, change: &Chan
     ensures served { SlotsAre IsServed slots.new.subscriptions slots.new.keeper.slots }
     ensures marks { MarksCover (length (before_of slots.old.keeper.book).changes)
         slots.old.subscriptions slots.new.subscriptions }
+    ensures puts { AllPut slots.new.keeper.book
+        (after_change (before_of slots.old.keeper.book) change.now)
+        slots.old.subscriptions slots.new.subscriptions slots.new.keeper.slots }
 {
     let taken = slots.subscriptions.taken();
     let commit = Commit {

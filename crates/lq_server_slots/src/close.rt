@@ -2,7 +2,7 @@
 ghost use Rattle.std.specs.Prelude.{◌≡◌, ◌<◌, ◌≢◌, ◌-◌, ℕ, IsSome, IsSomeAnd, None};
 ghost use Rattle.lq_volume.specs.Book.{Extends};
 ghost use Rattle.lq_server_slots.specs.Closing.{IsClosed, IsClosing};
-ghost use Rattle.lq_server_slots.specs.Slots.{AreConsistent, KeepsSlots, slot_in};
+ghost use Rattle.lq_server_slots.specs.Slots.{AreConsistent, KeepsSlots, OthersStay, slot_in};
 ghost use Rattle.lq_server_slots.specs.Opening.{IdentityFits, asks_after};
 
 use crate::identity::Identity;
@@ -28,6 +28,7 @@ fn close_at(
     requires holding { AreConsistent slots.old slots.old.keeper.book }
     ensures closed { IsClosed slots.old.keeper.book seat.old seat.new result }
     ensures keeps { KeepsSlots slots.old slots.new }
+    ensures others { OthersStay slots.old slots.new seat.old.slot }
 {
     let number = refresh(board, slots, seat);
     let Some(index) = SlotIndex::of(seat.slot()) else {
@@ -48,7 +49,7 @@ impl<N: Named> ServerState<N> {
     ///
     /// `None` where it had ended before, also where its reader asked for that. The port is filled
     /// as in `sync`. The seat then knows the book, and its name says what the first close answered.
-    /// It takes no memory.
+    /// The other slots stay as they are. It takes no memory.
     pub fn close<R: Wait>(
         &mut self,
         rt: &R,
@@ -63,6 +64,7 @@ impl<N: Named> ServerState<N> {
         ensures openings { self.new.slots.openings ≡ self.old.slots.openings }
         ensures seats { self.new.seats ≡ self.old.seats }
         ensures book { seat.new.book ≡ self.old.slots.keeper.book }
+        ensures others { OthersStay self.old.slots self.new.slots seat.old.slot }
         ensures closed { IsClosing seat.old seat.new reading.old reading.new result }
     {
         let closed = close_at(board, &mut self.slots, seat);

@@ -1,6 +1,9 @@
 //! Puts: held messages and the mark move into the port.
 ghost use Rattle.std.specs.Prelude.{◌≡◌, ◌<◌, ◌≤◌, length, MatchBool};
 ghost use Rattle.lq_server_slots.specs.Standing.{IsConsistentAt, SameButPuts, left_to_put, CannotPut, SideBySide, IsDrained};
+ghost use Rattle.lq_board.specs.Known.{KnownSlot};
+ghost use Rattle.lq_server_slots.specs.declared.identity.Identity.{Identity as IdentityOf};
+ghost use Rattle.lq_server_slots.specs.Turn.{GainsParcels, PutsAndTakes, known_subscription};
 
 use crate::delivery::Delivery;
 use crate::ghost_copy::GhostCopy;
@@ -21,6 +24,7 @@ pub fn put_one<R: Wait>(rt: &R, keeper: &Keeper<Identity>, slot: &mut Subscripti
     ensures stands { IsConsistentAt slot.new keeper.now.book }
     ensures alike { SameButPuts slot.old slot.new }
     ensures taken { length slot.old.input.taken ≤ length slot.new.input.taken }
+    ensures gained { GainsParcels slot.old.input slot.new.input }
     ensures moved { MatchBool result (left_to_put slot.new < left_to_put slot.old)
         ((slot.new.input ≡ slot.old.input) × CannotPut slot.new) }
 {
@@ -52,6 +56,8 @@ pub fn fill<R: Wait>(rt: &R, keeper: &Keeper<Identity>, slot: &mut Subscription)
     ensures alike { SameButPuts slot.old slot.new }
     ensures taken { length slot.old.input.taken ≤ length slot.new.input.taken }
     ensures stuck { CannotPut slot.new }
+    ensures puts { (q : KnownSlot IdentityOf) → PutsAndTakes keeper.now.book
+        (known_subscription slot.old q) (known_subscription slot.new q) }
 {
     // Asked first, so that nothing is moved where nothing is left.
     while slot.sub.has_next() && put_one(rt, keeper, slot) {}

@@ -1,6 +1,8 @@
 //! Laws of books, subscriptions and the slots under the lock, each the contract of a function that
 //! does nothing.
 ghost use Rattle.lq_server_slots.specs.Shown.{ActsShowWorlds, SlotsShowWorlds};
+ghost use Rattle.lq_server_slots.specs.TurnRun.{MadeAreRuns, RefusedAreRuns};
+ghost use Rattle.lq_server_slots.specs.Turn.{PutsAreRuns};
 ghost use Rattle.lq_server_slots.specs.Laws.{BooksExtendOn, BooksExtendThemselves, NewSubscriptionsStand, StatesStay, UpdatesAreUpdateLists};
 
 /// The slots under the lock show a world of the core, whatever the counts of parcels taken are,
@@ -16,6 +18,22 @@ pub fn slots_show_worlds()
 /// change, notice and close do to the end of the one that it stands for.
 pub fn acts_show_worlds()
     ensures { ActsShowWorlds }
+{}
+
+/// Where puts under the lock and takes of a reader led from one subscription of a world to another,
+/// acts of the core lead there, each of which moves a parcel; one put more moves none.
+pub fn puts_are_runs()
+    ensures { PutsAreRuns }
+{}
+
+/// What a change that is made does under the lock is a run of the world that the lock knows of.
+pub fn made_are_runs()
+    ensures { MadeAreRuns }
+{}
+
+/// What a refused change does under the lock is a run of the world that the lock knows of.
+pub fn refused_are_runs()
+    ensures { RefusedAreRuns }
 {}
 
 /// Each book extends itself.

@@ -29,7 +29,8 @@ mod take_parcel;
 pub use delivery::Delivery;
 pub use identity::{Identity, LastReport};
 pub use laws::{
-    acts_show_worlds, books_extend_on, books_extend_themselves, slots_show_worlds, states_stay,
+    acts_show_worlds, books_extend_on, books_extend_themselves, made_are_runs, puts_are_runs,
+    refused_are_runs, slots_show_worlds, states_stay,
 };
 pub use open::Opened;
 pub use reading::Reading;

@@ -1,5 +1,5 @@
 //! An opening under the lock: the lowest free slot gets a subscription, and its seat goes out.
-ghost use Rattle.std.specs.Prelude.{◌≡◌, ◌+◌, ◌<◌, ◌≤◌, length, IfOk, OnOk, OnErr, Some, None, false};
+ghost use Rattle.std.specs.Prelude.{◌≡◌, ◌≢◌, ◌+◌, ◌<◌, ◌≤◌, ℕ, length, IfOk, OnOk, OnErr, Some, None, false};
 ghost use Rattle.lq_value.specs.Refusal.{FailsOnlyForMemory};
 ghost use Rattle.lq_volume.specs.Book.{Extends, state_of};
 ghost use Rattle.lq_board.specs.Book.{IsFullBook};
@@ -129,6 +129,8 @@ fn settle(
     ensures by { CountsOpening slots.old.keeper.book by.old by.new }
     ensures holding { AreConsistent slots.new slots.new.keeper.book }
     ensures slot { result.slot ≡ index.index + 1 }
+    ensures others { (i : ℕ) → i ≢ index.index
+        → slot_in slots.new.subscriptions i ≡ slot_in slots.old.subscriptions i }
     ensures reading { result.reading ≡ reading }
     ensures opened { IsOpened result slots.old.keeper.board slots.old.keeper.book
         slot.sub.held.query slot.sub.held.flags slot.places slot.sub.held.backlog }
@@ -203,6 +205,8 @@ impl<N: Named> ServerState<N> {
             options.now.port options.now.backlog) }
         ensures counted { OnOk result (self.new.slots.openings ≡ self.old.slots.openings + 1) }
         ensures err { OnErr result (SameButKnown self.old.slots self.new.slots) }
+        ensures others { IfOk result (λ o. (i : ℕ) → i + 1 ≢ o.slot
+            → slot_in self.new.slots.subscriptions i ≡ slot_in self.old.slots.subscriptions i) }
 
         // The first refusal that fits and no other, or the lowest free slot, by the keeper whose
         // moment the seat has recorded.

@@ -2,6 +2,7 @@
 //! the lock; those for changes and subscriptions are in `apply_change`, `open`, `sync` and `close`.
 ghost use Rattle.std.specs.Prelude.{◌≡◌, ◌+◌, ◌-◌, ◌<◌, ◌≤◌, [], ◌∷◌, ◌++◌, length, true, OnOk, OnErr};
 ghost use Rattle.lq_volume.specs.Book.{Extends, state_of};
+ghost use Rattle.lq_board.specs.Author.{HasHeard};
 ghost use Rattle.lq_board.specs.Token.{moment_of};
 ghost use Rattle.lq_server_slots.specs.Slots.{SameButKnown, IsState, KnowsAsks};
 ghost use Rattle.lq_server_slots.specs.Leading.{GivesSeat};
@@ -10,7 +11,7 @@ ghost use Rattle.lq_server_slots.specs.Own.{StaysOwn};
 use crate::identity::Identity;
 use crate::server_base::Named;
 use crate::slots::ServerSlots;
-use crate::sync::refresh;
+use crate::sync::{hear_at, record_at, refresh};
 use lq_board::{Board, Keeper, Seat};
 use lq_value::{Entry, Refusal};
 use lq_volume::Volume;
@@ -160,6 +161,8 @@ impl<N: Named> ServerState<N> {
         ensures later { Extends seat.new.book seat.old.book }
         ensures number { result ≡ length self.old.slots.keeper.book.changes }
         ensures seats { self.new.seats ≡ self.old.seats }
+        ensures heard { self.new.slots.keeper.register.heard
+            ≡ self.old.slots.keeper.register.heard }
     {
         if seat.slot() == 0 {
             return board.meet(&mut self.slots.keeper, seat);
@@ -179,6 +182,40 @@ impl<N: Named> ServerState<N> {
         if seat.slot() > 0 {
             self.meet(board, seat);
         }
+    }
+
+    /// The keeper hears of all requests that the seat has heard of. It knows how often the seat of
+    /// a slot has asked.
+    pub(crate) fn hear(&mut self, board: &Board<Identity>, seat: &mut Seat<Identity>)
+        requires board { (board.now ≡ N.board) × (seat.old.board ≡ N.board) }
+        requires known { KnowsAsks self.old.slots.keeper.slots seat.old }
+        ensures same { SameButKnown self.old.slots self.new.slots }
+        ensures seat { seat.new ≡ record seat.old { book = seat.new.book } }
+        ensures known { KnowsAsks self.new.slots.keeper.slots seat.old }
+        ensures heard { HasHeard self.new.slots.keeper.register.heard seat.old.author.heard }
+        ensures later { Extends seat.new.book seat.old.book }
+        ensures seats { self.new.seats ≡ self.old.seats }
+    {
+        if seat.has_heard() {
+            hear_at(board, &mut self.slots, seat);
+        }
+    }
+
+    /// As `meet`, and the seat records this moment of the keeper. The keeper knows how often the
+    /// seat of a slot has asked, so all slots stay.
+    pub(crate) fn record(&mut self, board: &Board<Identity>, seat: &mut Seat<Identity>)
+        requires board { (board.now ≡ N.board) × (seat.old.board ≡ N.board) }
+        requires known { KnowsAsks self.old.slots.keeper.slots seat.old }
+        ensures same { SameButKnown self.old.slots self.new.slots }
+        ensures slots { self.new.slots.keeper.slots ≡ self.old.slots.keeper.slots }
+        ensures seat { seat.new ≡ record seat.old {
+          book = self.old.slots.keeper.book;
+          moments = seat.old.moments ++ moment_of self.new.slots.keeper ∷ [];
+        } }
+        ensures later { Extends seat.new.book seat.old.book }
+        ensures seats { self.new.seats ≡ self.old.seats }
+    {
+        record_at(board, &mut self.slots, seat);
     }
 
     /// As `meet`, and the seat records this moment of the keeper, for contracts alone.

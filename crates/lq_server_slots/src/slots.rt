@@ -1,10 +1,11 @@
 //! The slots under the lock, and the passes over them that end subscriptions and fill ports.
-ghost use Rattle.std.specs.Prelude.{◌≡◌, ◌+◌, ◌<◌, ◌≤◌, ℕ, length, IsSome, IfOk};
+ghost use Rattle.std.specs.Prelude.{◌≡◌, ◌+◌, ◌<◌, ◌≤◌, ℕ, length, IsSome, IfOk, slice_index};
 ghost use Rattle.lq_value.specs.Refusal.{FailsOnlyForMemory};
 ghost use Rattle.lq_board.specs.Slot.{slot_at, counted};
 ghost use Rattle.lq_server_slots.specs.Standing.{SameButHeld};
 ghost use Rattle.lq_server_slots.specs.Marking.{MarkCovers};
-ghost use Rattle.lq_server_slots.specs.Slots.{IsTakenSlot, AreConsistent, KeepsBook, KeepsSlots, IsNoticed, IsServed, MarksCover, SlotsAre};
+ghost use Rattle.lq_server_slots.specs.Turn.{AllNoticed, AllPut, known_subscription, after_notice};
+ghost use Rattle.lq_server_slots.specs.Slots.{IsTakenSlot, AreConsistent, KeepsBook, KeepsSlots, IsNoticed, IsServed, KnowsHeard, MarksCover, SlotsAre};
 
 use crate::fill_port::fill;
 use crate::identity::Identity;
@@ -64,12 +65,18 @@ pub(crate) fn notice_slot(
     ensures keeper { KeepsBook keeper.old keeper.new (index.index + 1) }
     ensures slots { keeper.new.slots ≡ counted keeper.old.slots (index.index + 1) result }
     ensures asks { (slot_at keeper.old.slots (index.index + 1)).asks ≤ result }
+    ensures heard { slice_index keeper.old.register.heard (index.index + 1)
+        ≤ (slot_at keeper.new.slots (index.index + 1)).asks }
+    ensures register { keeper.new.register ≡ keeper.old.register }
     ensures taken { IsTakenSlot slot.new (slot_at keeper.new.slots (index.index + 1))
         keeper.new.book }
     ensures ended { slot.old.asks < result → IsSome slot.new.sub.held.mark }
     ensures noticed { IsNoticed slot.new (slot_at keeper.new.slots (index.index + 1)) }
     ensures others { SameButHeld slot.old slot.new × (slot.new.first_close ≡ slot.old.first_close) }
     ensures mark { MarkCovers number slot.old.sub.held.mark slot.new.sub.held.mark }
+    ensures shown { known_subscription slot.new (slot_at keeper.new.slots (index.index + 1))
+        ≡ after_notice keeper.old.book (known_subscription slot.old
+        (slot_at keeper.new.slots (index.index + 1))) }
 {
     let asks = board.asks(keeper, index.number());
     let hang_up_asked = asks > slot.asks;
@@ -84,10 +91,15 @@ pub(crate) fn notice_all(board: &Board<Identity>, slots: &mut ServerSlots, numbe
     requires holding { AreConsistent slots.old slots.old.keeper.book }
     ensures keeps { KeepsSlots slots.old slots.new }
     ensures noticed { SlotsAre IsNoticed slots.new.subscriptions slots.new.keeper.slots }
+    ensures heard { KnowsHeard slots.old.keeper.register.heard slots.new.subscriptions
+        slots.new.keeper.slots }
+    ensures same { slots.new.keeper.register.heard ≡ slots.old.keeper.register.heard }
     ensures rises { (k : ℕ) → (slot_at slots.old.keeper.slots k).asks
         ≤ (slot_at slots.new.keeper.slots k).asks }
     ensures marks { MarksCover number slots.old.subscriptions slots.new.subscriptions }
     ensures watch { slots.new.watch ≡ slots.old.watch }
+    ensures shown { AllNoticed slots.old.keeper.book slots.old.subscriptions
+        slots.new.subscriptions slots.new.keeper.slots }
 {
     let mut rest = slots.subscriptions.taken();
     while let Some(index) = rest.pop_lowest() {
@@ -107,12 +119,13 @@ struct Fill<'a, R> {
 impl<'a, R: Wait> Visit<Subscription, ()> for Fill<'a, R> {
     ghost use Rattle.std.specs.Prelude.{◌+◌, length};
     ghost use Rattle.lq_board.specs.Slot.{slot_at};
-    ghost use Rattle.lq_server_slots.specs.Slots.{IsTakenNoticed, Serves};
+    ghost use Rattle.lq_server_slots.specs.Slots.{IsTakenNoticed};
+    ghost use Rattle.lq_server_slots.specs.Turn.{ServesAs};
 
     ghost allows = { λ v s i x.
         IsTakenNoticed x (slot_at v.keeper.now.slots (i + 1)) v.keeper.now.book };
 
-    ghost did = { λ v t i x y. Serves (length v.keeper.now.book.changes) x y
+    ghost did = { λ v t i x y. ServesAs (λ u. u) (length v.keeper.now.book.changes) x y
         (slot_at v.keeper.now.slots (i + 1)) v.keeper.now.book };
 
     fn visit(&self, _state: &mut (), _slot: SlotIndex, item: &mut Subscription) {
@@ -132,7 +145,13 @@ pub(crate) fn serve_all<R: Wait>(
     requires holding { AreConsistent slots.old slots.old.keeper.book }
     ensures keeps { KeepsSlots slots.old slots.new }
     ensures served { SlotsAre IsServed slots.new.subscriptions slots.new.keeper.slots }
+    ensures heard { KnowsHeard slots.old.keeper.register.heard slots.new.subscriptions
+        slots.new.keeper.slots }
+    ensures rises { (k : ℕ) → (slot_at slots.old.keeper.slots k).asks
+        ≤ (slot_at slots.new.keeper.slots k).asks }
     ensures marks { MarksCover number slots.old.subscriptions slots.new.subscriptions }
+    ensures turned { AllPut slots.old.keeper.book (after_notice slots.old.keeper.book)
+        slots.old.subscriptions slots.new.subscriptions slots.new.keeper.slots }
 {
     notice_all(board, slots, number);
     let taken = slots.subscriptions.taken();

@@ -1,5 +1,5 @@
 //! A subscription under a lock: what a change does to it, and how it ends.
-ghost use Rattle.std.specs.Prelude.{◌≡◌, ◌<◌, ◌^◌, ◌⊎◌, ℕ, None, [], ◌∷◌, length, true, is_none, is_some, IsSome, IfSome, OnOk};
+ghost use Rattle.std.specs.Prelude.{◌≡◌, ◌<◌, ◌^◌, ◌⊎◌, ℕ, None, [], ◌∷◌, length, true, false, is_none, is_some, IsSome, IfSome, OnOk};
 ghost use Rattle.lq_value.specs.Refusal.{FailsOnlyForMemory};
 ghost use Rattle.lq_volume.specs.Book.{Book, grown, state_of};
 ghost use Rattle.lq_volume.specs.Change.{IsLawful};
@@ -108,6 +108,8 @@ pub(crate) fn commit_if(slot: &mut Subscription, change: &Change, asked: bool)
     ensures hung { hung_mark slot.new.sub.held.mark → hung_mark slot.old.sub.held.mark }
     ensures still { IsSome slot.old.sub.held.mark
         → slot.new.sub.held.mark ≡ slot.old.sub.held.mark }
+    ensures made { asked ≡ true → slot.new.sub.held ≡ held_committed slot.old.sub }
+    ensures left { asked ≡ false → slot.new.sub.held ≡ slot.old.sub.held }
     ensures mark { (n : ℕ)
         → (asked ≡ true → slot.old.sub.held.mark ≡ None → slot.old.sub.before ≡ n)
         → MarkCovers n slot.old.sub.held.mark slot.new.sub.held.mark }

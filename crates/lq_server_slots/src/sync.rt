@@ -1,10 +1,13 @@
 //! A reader's sync under the lock, and how a slot's seat meets the keeper.
-ghost use Rattle.std.specs.Prelude.{◌≡◌, ◌+◌, ◌<◌, ℕ, length, IsSome, IsSomeAnd, Some};
+ghost use Rattle.std.specs.Prelude.{◌≡◌, ◌+◌, ◌<◌, ℕ, [], ◌∷◌, ◌++◌, length, IsSome, IsSomeAnd, Some};
+ghost use Rattle.lq_volume.specs.Book.{Extends};
+ghost use Rattle.lq_board.specs.Author.{HasHeard};
+ghost use Rattle.lq_board.specs.Token.{moment_of};
 ghost use Rattle.lq_server_slots.specs.Identity.{identity_of};
 ghost use Rattle.lq_server_slots.specs.Standing.{report_of};
 ghost use Rattle.lq_server_slots.specs.declared.subscription.Subscription.{Subscription as SubscriptionOf};
 ghost use Rattle.lq_server_slots.specs.declared.identity.Identity.{Identity as IdentityOf};
-ghost use Rattle.lq_server_slots.specs.Slots.{AreConsistent, KeepsSlots, IsSlotMet, SameButKnown, slot_in};
+ghost use Rattle.lq_server_slots.specs.Slots.{AreConsistent, KeepsSlots, KnowsAsks, IsSlotMet, OthersStay, SameButKnown, slot_in};
 ghost use Rattle.lq_server_slots.specs.Opening.{IdentityFits};
 ghost use Rattle.lq_server_slots.specs.Progress.{ShowsProgress};
 
@@ -66,6 +69,7 @@ pub(crate) fn refresh(
     ensures met { IsSlotMet slots.old.keeper slots.new.keeper seat.old seat.new seat.old.name
         result }
     ensures same { SameButKnown slots.old slots.new }
+    ensures register { slots.new.keeper.register ≡ slots.old.keeper.register }
     ensures holding { AreConsistent slots.new slots.new.keeper.book }
     ensures taken { (i : ℕ) → i + 1 ≡ seat.old.slot
         → IsSome (slot_in slots.new.subscriptions i) }
@@ -73,6 +77,43 @@ pub(crate) fn refresh(
     // For the proof: this call says that the slot is one of 64, and that the seat has a name.
     let _ = seat.slot();
     board.meet_slot(&mut slots.keeper, seat)
+}
+
+// The keeper hears of all requests that the seat has heard of. It has met a slot's seat before, so
+// all slots stay.
+pub(crate) fn hear_at(board: &Board<Identity>, slots: &mut ServerSlots, seat: &mut Seat<Identity>)
+    requires board { (slots.old.keeper.board ≡ board.now) × (seat.old.board ≡ board.now) }
+    requires known { KnowsAsks slots.old.keeper.slots seat.old }
+    requires holding { AreConsistent slots.old slots.old.keeper.book }
+    ensures keeps { KeepsSlots slots.old slots.new }
+    ensures slots { slots.new.keeper.slots ≡ slots.old.keeper.slots }
+    ensures subscriptions { slots.new.subscriptions ≡ slots.old.subscriptions }
+    ensures seat { seat.new ≡ record seat.old { book = seat.new.book } }
+    ensures heard { HasHeard slots.new.keeper.register.heard seat.old.author.heard }
+    ensures later { Extends seat.new.book seat.old.book }
+{
+    // For the proof: this call says that the slot is one of 64, or 0.
+    let _ = seat.slot();
+    board.hear(&mut slots.keeper, seat);
+}
+
+// The seat meets the keeper, which has met a slot's seat before, and records this moment of it.
+pub(crate) fn record_at(board: &Board<Identity>, slots: &mut ServerSlots, seat: &mut Seat<Identity>)
+    requires board { (slots.old.keeper.board ≡ board.now) × (seat.old.board ≡ board.now) }
+    requires known { KnowsAsks slots.old.keeper.slots seat.old }
+    requires holding { AreConsistent slots.old slots.old.keeper.book }
+    ensures keeps { KeepsSlots slots.old slots.new }
+    ensures slots { slots.new.keeper.slots ≡ slots.old.keeper.slots }
+    ensures subscriptions { slots.new.subscriptions ≡ slots.old.subscriptions }
+    ensures seat { seat.new ≡ record seat.old {
+      book = slots.old.keeper.book;
+      moments = seat.old.moments ++ moment_of slots.new.keeper ∷ [];
+    } }
+    ensures later { Extends seat.new.book seat.old.book }
+{
+    // For the proof: this call says that the slot is one of 64, or 0.
+    let _ = seat.slot();
+    board.meet_and_record(&mut slots.keeper, seat);
 }
 
 // What a sync answers its reader after this many changes, where this many parcels were taken: that
@@ -99,6 +140,7 @@ fn sync_at<R: Wait>(
         × IsSomeAnd seat.old.name (λ t. IdentityFits t reading.old.port) }
     requires holding { AreConsistent slots.old slots.old.keeper.book }
     ensures keeps { KeepsSlots slots.old slots.new }
+    ensures others { OthersStay slots.old slots.new seat.old.slot }
     ensures seat { seat.new.book ≡ slots.old.keeper.book }
     ensures progress { (s : SubscriptionOf)
         × ShowsProgress s seat.old seat.new reading.old reading.new result }
@@ -128,7 +170,8 @@ fn sync_at<R: Wait>(
 impl<N: Named> ServerState<N> {
     /// The progress of a reader's subscription. Its port is filled, and the seat knows the book.
     ///
-    /// First the subscription ends as hung up where its reader asked for that. It takes no memory.
+    /// First the subscription ends as hung up where its reader asked for that. The other slots stay
+    /// as they are. It takes no memory.
     pub fn sync<R: Wait>(
         &mut self,
         rt: &R,
@@ -143,6 +186,7 @@ impl<N: Named> ServerState<N> {
         ensures openings { self.new.slots.openings ≡ self.old.slots.openings }
         ensures seats { self.new.seats ≡ self.old.seats }
         ensures book { seat.new.book ≡ self.old.slots.keeper.book }
+        ensures others { OthersStay self.old.slots self.new.slots seat.old.slot }
         ensures progress { (s : SubscriptionOf)
             × ShowsProgress s seat.old seat.new reading.old reading.new result }
     {

@@ -5,7 +5,20 @@ use Rattle.lq_server_slots.proofs.TableLemmas.{slots_alike}
 use Rattle.lq_volume.specs.State.{State}
 use Rattle.lq_server_slots.specs.declared.slots.ServerSlots.{ServerSlots}
 use Rattle.lq_server_slots.specs.Slots.{IsConsistentWith, MarksCover}
+use Rattle.std.specs.Prelude.{IfErr, ◌≢◌, Result}
+use Rattle.lq_value.specs.declared.refusal.Refusal.{Refusal}
+use Rattle.lq_value.specs.declared.refusal.Refusal.TheVariants.{NoMemory}
+use Rattle.lq_volume.specs.declared.change.Applied.{Applied}
+use Rattle.std.proofs.Common.{◌≡◌, Ok, Err}
+use Rattle.lq_board.specs.Token.{SeatToken}
+use Rattle.lq_server_slots.specs.declared.identity.Identity.{Identity}
 use Rattle.lq_server_slots.proofs.apply_change.add.Goals as goal
+
+-- what fails for memory fails for nothing else
+tried_none : (r : Result Applied Refusal) (P : Type 0) (e : Refusal) → IfErr r (λ x. x ≡ NoMemory)
+    → IfErr r (λ x. x ≢ NoMemory → P)
+tried_none (Ok a) P e is = tt
+tried_none (Err x) P e is = λ ne. absurd (ne is)
 
 -- the number of the volume is that of the book's changes
 marks : (old new : ServerSlots) (v : State) → IsConsistentWith old v
@@ -69,3 +82,36 @@ returns-clause-holding c =
 
 pub returns-clause-noticed : goal.returns-clause-noticed
 returns-clause-noticed c = search (rules, arith, slots_added)
+
+pub returns-clause-heard : goal.returns-clause-heard
+returns-clause-heard c = search (rules, arith, slots_added)
+
+pub returns-clause-shown : goal.returns-clause-shown
+returns-clause-shown c =
+    let r = c.prepare.ensures in
+    let within = c.slot.ensures.within in
+    let value = c.slot.ensures.value in
+    let same = slots_added _ _ _ _ _ _ c.add_by.ensures.added
+    (omega (arith, within, value, r.keeps.holding.known))
+    (λ pos. omega (arith, c.requires.known pos, r.rises c.args.seat.now.slot)) in
+    rw same c.in_ok-resolved.ensures.shown
+
+pub returns-in_err-resolved-clause-tried : goal.returns-in_err-resolved-clause-tried
+returns-in_err-resolved-clause-tried c = search rules
+
+pub returns-in_err-applied-clause-tried : goal.returns-in_err-applied-clause-tried
+returns-in_err-applied-clause-tried c = tried_none _ _ NoMemory (search rules)
+
+pub returns-clause-rises : goal.returns-clause-rises
+returns-clause-rises c =
+    let r = c.prepare.ensures in
+    let within = c.slot.ensures.within in
+    let value = c.slot.ensures.value in
+    let same = slots_added _ _ _ _ _ _ c.add_by.ensures.added
+    (omega (arith, within, value, r.keeps.holding.known))
+    (λ pos. omega (arith, c.requires.known pos, r.rises c.args.seat.now.slot)) in
+    rw same r.rises
+
+pub returns-clause-recorded : goal.returns-clause-recorded
+returns-clause-recorded c =
+    ap (λ (x : SeatToken Identity). x.moments) c.add_by.ensures.added.seat

@@ -22,6 +22,10 @@ returns-then-is_empty c =
           c.intersection-asked.ensures (c.is_empty.ensures.empty c.if-is_empty.true) n.marks i low
           (rw (c.slots_for.ensures, ← n.watch) is);
       noticed = n.noticed;
+      heard = n.heard;
+      shown = n.shown;
+      tried = tt;
+      same = n.same;
       keeps = n.keeps;
       marks = subst (λ (k : ℕ). MarksCover k old new) c.changes.ensures.number n.marks;
       rises = n.rises;

@@ -2,6 +2,7 @@ use Rattle.lq_server_slots.proofs.change_passes.commit_all.Given.{Over}
 use Rattle.lq_server_slots.specs.Slots.{AreConsistent, HasPreparedAt, IsServed, MarksCover, SlotIsWatched, SlotsAre, before_of}
 use Rattle.std.proofs.Common.{Option, Some, ap, arith, length, subst}
 use Rattle.lq_server_slots.specs.declared.subscription.Subscription.{Subscription}
+use Rattle.lq_server_slots.proofs.TurnLemmas.{put_all, visits_less}
 use Rattle.lq_server_slots.proofs.TakenLemmas.{all_served, noticed_at}
 use Rattle.std.specs.Option.{option_flatten}
 use Rattle.std.proofs.lemmas.Option.{slice_get_within}
@@ -39,7 +40,8 @@ served : (g : Over) (c : goal.After-visit g)
 served g c =
     let slots = c.args.slots.now in
     all_served _ slots c.taken-taken.result.word _ c.visit.new.self (before_of slots.keeper.book)
-    _ _ c.requires.holding c.taken-taken.ensures.taken c.visit.ensures.wide c.visit.ensures.visits
+    _ _ c.requires.holding c.taken-taken.ensures.taken c.visit.ensures.wide
+    (visits_less (λ u i x y d. d.serves) c.visit.ensures.visits)
 
 pub returns-clause-holding : goal.returns-clause-holding
 returns-clause-holding g c = (served g c).0
@@ -49,3 +51,9 @@ returns-clause-served g c = (served g c).1
 
 pub returns-clause-marks : goal.returns-clause-marks
 returns-clause-marks g c = (served g c).2
+
+pub returns-clause-puts : goal.returns-clause-puts
+returns-clause-puts g c =
+    let slots = c.args.slots.now in
+    put_all slots.keeper.book _ _ slots.subscriptions c.visit.new.self slots.keeper.slots _ _ _ _
+    c.visit.ensures.visits c.taken-taken.ensures.taken

@@ -1,7 +1,8 @@
-use Rattle.lq_server_slots.proofs.TakenLemmas.{all_prepared, noticed_at}
+use Rattle.lq_server_slots.proofs.TakenLemmas.{all_prepared, knows_on, noticed_at}
 use Rattle.std.proofs.Common.{refl, arith, rules, subst, ℕ}
 use Rattle.lq_server_slots.specs.Slots.{MarksCover}
 use Rattle.lq_server_slots.proofs.MarkLemmas.{marks_cover-on}
+use Rattle.lq_server_slots.proofs.TurnLemmas.{noticed_prepared}
 use Rattle.lq_server_slots.proofs.CommitLemmas.{few_sent}
 use Rattle.lq_server_slots.proofs.TableLemmas.{slots_kept-on}
 use Rattle.lq_server_slots.proofs.change_passes.prepare_all.Goals as goal
@@ -33,6 +34,10 @@ returns-then-full c =
       resolved = tt;
       prepared = tt;
       noticed = tt;
+      heard = tt;
+      shown = tt;
+      tried = λ ne. absurd (ne refl);
+      same = n.same;
       keeps = slots_kept-on c.args.slots.now c.notice_all.new.slots c.visit.new.self n.keeps p.0;
       marks = marks_cover-on c.args.planned.now.before.number c.args.slots.now.subscriptions
           c.notice_all.new.slots.subscriptions c.visit.new.self
@@ -55,6 +60,15 @@ returns c =
       prepared = λ i low is.
           p.2 c.if-full.false i low (rw (c.slots_for-asked.ensures, c.change.ensures) is);
       noticed = p.1;
+      shown = noticed_prepared c.args.slots.now.keeper.book c.args.slots.now.subscriptions
+          c.notice_all.new.slots.subscriptions c.visit.new.self
+          c.notice_all.new.slots.keeper.slots _ _ _ _ _ (λ u i x y d. (d.others, d.held))
+          c.visit.ensures.visits n.shown;
+      tried = tt;
+      heard = knows_on c.args.slots.now.keeper.register.heard _
+          c.notice_all.new.slots.subscriptions c.visit.new.self
+          c.notice_all.new.slots.keeper.slots p.3 n.heard;
+      same = n.same;
       keeps = slots_kept-on c.args.slots.now c.notice_all.new.slots c.visit.new.self n.keeps p.0;
       marks = marks_cover-on c.args.planned.now.before.number c.args.slots.now.subscriptions
           c.notice_all.new.slots.subscriptions c.visit.new.self

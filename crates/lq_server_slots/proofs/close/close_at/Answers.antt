@@ -1,5 +1,7 @@
-use Rattle.std.proofs.Common.{arith, rules, sym, ◌∙◌}
-use Rattle.lq_server_slots.proofs.SyncLemmas.{keeps_then, kept_known, seat_named, taken_closed}
+use Rattle.std.proofs.Common.{ap, arith, rules, sym, ◌∙◌}
+use Rattle.lq_board.specs.Token.{SeatToken}
+use Rattle.lq_server_slots.specs.declared.identity.Identity.{Identity}
+use Rattle.lq_server_slots.proofs.SyncLemmas.{keeps_then, kept_known, others_then, seat_named, taken_closed}
 use Rattle.lq_server_slots.proofs.TableLemmas.{slots_kept-taken, taken_at}
 use Rattle.lq_server_slots.proofs.close.close_at.Goals as goal
 
@@ -41,3 +43,12 @@ returns-clause-keeps c =
     m.ensures.met.number)) f.others f.messages f.hung u.ensures.asks u.ensures.place))
     (f.others.asks ∙ n.others.0.asks)
     (f.others.query ∙ n.others.0.query, f.others.flags ∙ n.others.0.flags)
+
+pub returns-clause-others : goal.returns-clause-others
+returns-clause-others c =
+    let m = c.refresh-number in
+    others_then m.new.slots c.args.slots.now c.notice_slot.new.keeper c.refresh_slot.new.keeper
+    c.in-Some.index.index c.args.seat.now.slot m.new.seat.slot _ m.ensures.same.subscriptions
+    m.ensures.met.keeper c.notice_slot.ensures.keeper c.refresh_slot.ensures.keeper
+    (c.in-Some.ensures ∙ c.slot.ensures.value)
+    (ap (λ (s : SeatToken Identity). s.slot) m.ensures.met.seat)

@@ -2,6 +2,7 @@ use Rattle.std.proofs.Common.{inr, refl, ap, sym, arith, rules, length, length-a
 use Rattle.lq_board.specs.Token.{KeeperToken}
 use Rattle.lq_server_slots.specs.declared.identity.Identity.{Identity}
 use Rattle.lq_server_slots.proofs.PutLemmas.{may_put, put_ok, none_out, none_next, back_out, alike_held}
+use Rattle.lq_server_slots.proofs.TurnLemmas.{gained_none, gained_one}
 use Rattle.lq_server_slots.proofs.fill_port.put_one.Goals as goal
 
 pub put-requires : goal.put-requires
@@ -58,3 +59,12 @@ pub returns-in-Ok-clause-taken : goal.returns-in-Ok-clause-taken
 returns-in-Ok-clause-taken g c =
     let before = c.in-Ok.ensures.ok.taken in
     omega (arith, ap length before.1, length-append c.args.slot.now.input.taken before.0)
+
+pub returns-in-Ok-clause-gained : goal.returns-in-Ok-clause-gained
+returns-in-Ok-clause-gained g c = gained_one _ _ _ c.in-Ok.ensures.ok
+
+pub returns-in_default-clause-gained : goal.returns-in_default-clause-gained
+returns-in_default-clause-gained g c = gained_none _ _ refl
+
+pub returns-in-Err-clause-gained : goal.returns-in-Err-clause-gained
+returns-in-Err-clause-gained g c = gained_none _ _ c.in-Err.ensures.err

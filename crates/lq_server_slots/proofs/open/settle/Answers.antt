@@ -4,6 +4,7 @@ use Rattle.lq_server_slots.specs.declared.identity.Identity.{Identity}
 use Rattle.lq_server_slots.specs.declared.subscription.Subscription.{Subscription}
 use Rattle.lq_server_slots.proofs.OpenLemmas.{settled, begun_seen}
 use Rattle.lq_server_slots.specs.Slots.{AreConsistent}
+use Rattle.lq_server_slots.proofs.TableLemmas.{in_else}
 use Rattle.lq_server_slots.proofs.open.settle.Goals as goal
 
 pub returns-clause-holding : goal.returns-clause-holding
@@ -37,3 +38,7 @@ returns-clause-holding c =
     (rw number at c.asks.ensures.idle) (ap (λ (k : KeeperToken Identity). k.slots) seated) refl
     b.stands (begun_seen c.args.slot c.args.reading was.keeper.book _ _ _ _ b) b.messages b.live
     c.set.new.self c.set.ensures.here c.set.ensures.others))
+
+pub returns-clause-others : goal.returns-clause-others
+returns-clause-others c i ne =
+    rw c.insert.ensures (in_else c.args.slots.now.subscriptions c.args.index.index i _ ne)

@@ -1,6 +1,7 @@
 use Rattle.lq_server_slots.proofs.slots.serve_all.Given.{Over}
 use Rattle.lq_server_slots.specs.Slots.{AreConsistent, IsServed, MarksCover, SlotsAre}
-use Rattle.lq_server_slots.proofs.TakenLemmas.{all_served, noticed_at}
+use Rattle.lq_server_slots.proofs.TurnLemmas.{all_turned, put_all, visits_less}
+use Rattle.lq_server_slots.proofs.TakenLemmas.{all_served, knows_on, noticed_at}
 use Rattle.lq_server_slots.proofs.TableLemmas.{slots_kept-on}
 use Rattle.std.proofs.Common.{length, subst, sym, ap, ◌∙◌, ℕ}
 use Rattle.lq_volume.specs.Book.{Book}
@@ -24,7 +25,7 @@ served : (g : Over) (c : goal.After-visit g)
     c.notice_all.new.slots.subscriptions c.visit.new.self
 served g c = all_served _ c.notice_all.new.slots c.taken-taken.result.word _ c.visit.new.self _ _ _
     c.notice_all.ensures.keeps.holding c.taken-taken.ensures.taken c.visit.ensures.wide
-    c.visit.ensures.visits
+    (visits_less (λ u i x y d. d.serves) c.visit.ensures.visits)
 
 pub returns-clause-keeps : goal.returns-clause-keeps
 returns-clause-keeps g c =
@@ -42,3 +43,18 @@ returns-clause-marks g c =
     c.visit.new.self n.marks
     (subst (λ (k : ℕ). MarksCover k c.notice_all.new.slots.subscriptions c.visit.new.self) number
     (served g c).2)
+
+pub returns-clause-heard : goal.returns-clause-heard
+returns-clause-heard g c =
+    let n = c.notice_all.new.slots in
+    knows_on c.args.slots.now.keeper.register.heard _ n.subscriptions c.visit.new.self
+    n.keeper.slots (served g c).2 c.notice_all.ensures.heard
+
+pub returns-clause-turned : goal.returns-clause-turned
+returns-clause-turned g c =
+    let n = c.notice_all.ensures in
+    let slots = c.notice_all.new.slots in
+    all_turned c.args.slots.now.keeper.book c.args.slots.now.keeper.book (λ u. u)
+    c.args.slots.now.subscriptions slots.subscriptions c.visit.new.self slots.keeper.slots n.shown
+    (rw (← n.keeps.book) (put_all slots.keeper.book (λ u. u) _ slots.subscriptions c.visit.new.self
+    slots.keeper.slots _ _ _ _ c.visit.ensures.visits c.taken-taken.ensures.taken))

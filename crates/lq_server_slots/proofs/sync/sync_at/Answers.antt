@@ -2,7 +2,7 @@ use Rattle.lq_server_slots.specs.declared.identity.Identity.{Identity}
 use Rattle.lq_board.specs.Token.{SeatToken}
 use Rattle.std.proofs.Common.{ap, arith, rules, sym, ◌∙◌}
 use Rattle.lq_server_slots.proofs.SlotLemmas.{identity_alike, identity_others}
-use Rattle.lq_server_slots.proofs.SyncLemmas.{keeps_then, kept_known, same_port, seat_named, taken_shown}
+use Rattle.lq_server_slots.proofs.SyncLemmas.{keeps_then, kept_known, others_then, same_port, seat_named, taken_shown}
 use Rattle.lq_board.specs.Slot.{slot_at}
 use Rattle.lq_server_slots.proofs.TableLemmas.{slots_kept-taken, taken_at}
 use Rattle.lq_server_slots.proofs.sync.sync_at.Goals as goal
@@ -64,3 +64,12 @@ returns-clause-progress g c =
     let asks = rw at at c.notice_slot.ensures.asks in
     let slots = rw at at c.notice_slot.ensures.slots in
     search (rules, arith, identity_alike, identity_others)
+
+pub returns-clause-others : goal.returns-clause-others
+returns-clause-others g c =
+    let m = c.refresh-number in
+    others_then m.new.slots c.args.slots.now c.notice_slot.new.keeper c.refresh_slot.new.keeper
+    c.in-Some.index.index c.args.seat.now.slot m.new.seat.slot _ m.ensures.same.subscriptions
+    m.ensures.met.keeper c.notice_slot.ensures.keeper c.refresh_slot.ensures.keeper
+    (c.in-Some.ensures ∙ c.slot.ensures.value)
+    (ap (λ (s : SeatToken Identity). s.slot) m.ensures.met.seat)

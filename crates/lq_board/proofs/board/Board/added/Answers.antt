@@ -2,7 +2,7 @@
 use Rattle.std.proofs.Common.{sym, ◌∙◌, arith}
 use Rattle.lq_board.proofs.TokenLemmas.{back_may, same_table, keeper_table}
 use Rattle.lq_board.proofs.PlayLemmas.{adds}
-use Rattle.lq_board.proofs.SplitLemmas.{is_back, again}
+use Rattle.lq_board.proofs.SplitLemmas.{is_back, again_recorded_may}
 use Rattle.lq_board.proofs.ViewLemmas.{after}
 use Rattle.lq_board.proofs.board.Board.added.Goals as goal
 
@@ -26,7 +26,7 @@ split_seat-again-requires g c = (
   c.fetch_add-number.ensures.0 ∙ c.join_seat.ensures.0
       ∙ keeper_table c.keeper.view_is c.requires.board.0 c.self.view_is,
   omega (arith, c.self.invariant.0),
-  again _ _ g.W.Chosen.openings _ c.fetch_add-number.ensures.2.0
+  again_recorded_may _ _ g.W.Chosen.openings _ c.fetch_add-number.ensures.2.0
       (is_back c.keeper.inside.token.me c.args.token.me c.join_seat.new.seat.me
       c.join_seat.ensures.2 c.keeper.invariant.1 c.requires.number c.requires.slot),
 )

@@ -2,8 +2,12 @@ use Rattle.std.proofs.Common.{sym, ap, ◌∙◌, subst}
 use Rattle.lq_volume.specs.Book.{Book}
 use Rattle.lq_board.specs.Token.{SeatToken}
 use Rattle.lq_server_slots.specs.declared.identity.Identity.{Identity}
+use Rattle.lq_server_slots.specs.declared.slots.ServerSlots.{ServerSlots}
 use Rattle.lq_server_slots.specs.Closing.{IsClosed}
+use Rattle.lq_server_slots.specs.Hold.{LockHold}
+use Rattle.lq_server_slots.specs.Slots.{OthersStay}
 use Rattle.lq_server_slots.proofs.ApplyLemmas.{state_kept}
+use Rattle.lq_server_slots.proofs.SyncLemmas.{others_twice}
 use Rattle.lq_server_slots.proofs.server_state.ServerState.close.Goals as goal
 
 pub invariant_of-self : goal.invariant_of-self
@@ -27,3 +31,13 @@ returns-clause-closed g c =
       progress = c.sync.result;
       shown = p.1;
     }
+
+pub returns-clause-others : goal.returns-clause-others
+returns-clause-others g c =
+    let f = c.close_at-closed.ensures in
+    let slot = ap (λ (x : SeatToken Identity). x.slot) f.closed.seat in
+    others_twice c.args.self.now.slots c.close_at-closed.new.slots c.sync.new.self.slots
+    c.args.seat.now.slot (subst (λ (x : ServerSlots). OthersStay x c.close_at-closed.new.slots
+    c.args.seat.now.slot)
+    (ap (λ (h : LockHold). h.slots) c.self.view_is) f.others)
+    (rw slot at c.sync.ensures.others)
