@@ -2,7 +2,8 @@
    call of lq_c, whose contract takes them as tested. What is here isn't proved: that a handle is open, that no pointer
    is null, what is passed in place of a null that is allowed, and what is told of slots that become ready. While a
    handle is open its fields `result` and `pushes` are counts that proved calls alone read and write. */
-#include "proved.h"
+#include "keeper.h"
+#include "kept/kept.h"
 
 /* The most bytes of a line; a longer one is refused unread. */
 enum { LINE_SIZE = 65536 };
@@ -30,6 +31,24 @@ static bool is_open(const lq *handle)
     return handle && handle->at && handle->tag == open_tag(handle);
 }
 
+/* The tag of a handle whose call has something of the caller's to call, which may not use the handle. */
+static uint64_t busy_tag(const lq *handle)
+{
+    return UINT64_C(0x6c712d6275737921) ^ (uint64_t)(uintptr_t)handle;
+}
+
+/* Whether a volume can be put into the handle. */
+static bool is_closed(const lq *handle)
+{
+    return handle && !is_open(handle) && handle->tag != busy_tag(handle);
+}
+
+/* The number of the last result of a handle that isn't open. Only one that was closed here goes on with its numbers. */
+static uint64_t results_of(const lq *handle)
+{
+    return handle->tag == closed_tag(handle) ? handle->result : 0;
+}
+
 /* The pointer that a proved call takes. It is never written through, so a const handle stays as it is. */
 static served *in(const lq *handle)
 {
@@ -52,19 +71,65 @@ static bool is_text(const char **text, size_t *size, size_t most)
 
 /* ---- slots that become ready ---- */
 
+/* What the handle calls for them, or null. */
+static lq_ready_fn ready_of(const lq *handle)
+{
+    const keeper *keeps = keeper_of(handle);
+    return keeps ? keeps->ready : handle->ready;
+}
+
 /* The slots that are ready before a call that may make others ready, if the handle has something to call then. */
 static uint64_t ready_before(const lq *handle)
 {
-    return handle->ready ? lqp_ready(in(handle)) : 0;
+    return ready_of(handle) ? lqp_ready(in(handle)) : 0;
 }
 
 /* Calls what the handle has for slots that became ready, and answers the status. This is the last that a call does,
    since what is called here may close the handle. */
 static lq_status told(const lq *handle, uint64_t before, uint32_t status)
 {
-    uint64_t slots = handle->ready ? lqp_ready(in(handle)) & ~before : 0;
-    if (slots) handle->ready(handle->user, slots);
+    const keeper *keeps = keeper_of(handle);
+    lq_ready_fn call = ready_of(handle);
+    uint64_t slots = call ? lqp_ready(in(handle)) & ~before : 0;
+    if (slots) call(keeps ? keeps->user : handle->user, slots);
     return status;
+}
+
+/* ---- changes that are kept ---- */
+
+/* Whether a handle may make a change now: LQ_OK, or why it is refused. */
+static lq_status may_change(const lq *handle)
+{
+    keeper *keeps = keeper_of(handle);
+    return keeps ? keeps->may(keeps) : LQ_OK;
+}
+
+/* Keeps a change that was accepted, before its call answers; the status of the call. */
+static lq_status kept(const lq *handle, uint32_t status, const lq_applied *applied, const change *made)
+{
+    keeper *keeps = status == LQ_OK ? keeper_of(handle) : NULL;
+    if (!keeps) return status;
+    status = keeps->put(keeps, made, applied);
+    return status == LQ_OK ? keeps->end(keeps) : status;
+}
+
+/* The effect of the change that the last reply tells; the node is 0 if it doesn't tell one. */
+static lq_applied replied(const lq *handle, size_t size)
+{
+    static const char field[] = "\"node\":";
+    char reply[128];
+    lq_applied out = {.change = lqp_changes(in(handle))};
+    if (size == 0 || size > sizeof reply) return out;
+    lqp_text(in(handle), reply, size);
+    for (size_t at = 0; at + sizeof field <= size; at++) {
+        size_t same = 0;
+        while (same < sizeof field - 1 && reply[at + same] == field[same]) same++;
+        if (same < sizeof field - 1) continue;
+        for (at += same; at < size && reply[at] >= '0' && reply[at] <= '9'; at++)
+            out.node = out.node * 10 + (uint64_t)(reply[at] - '0');
+        break;
+    }
+    return out;
 }
 
 /* ---- the library, and handles ---- */
@@ -77,39 +142,7 @@ uint32_t lq_version(void)
 const char *lq_status_name(lq_status status)
 {
     switch (status) {
-    case LQ_OK: return "Ok";
-    case LQ_BAD_NAME: return "BadName";
-    case LQ_NO_NODE: return "NoNode";
-    case LQ_NOT_FOLDER: return "NotFolder";
-    case LQ_NO_ENTRY: return "NoEntry";
-    case LQ_EXISTS: return "Exists";
-    case LQ_WOULD_LOOP: return "WouldLoop";
-    case LQ_NOT_EMPTY: return "NotEmpty";
-    case LQ_KIND_CLASH: return "KindClash";
-    case LQ_IS_FOLDER: return "IsFolder";
-    case LQ_NO_ATTR: return "NoAttr";
-    case LQ_RESERVED: return "Reserved";
-    case LQ_TOO_LONG: return "TooLong";
-    case LQ_EXHAUSTED: return "Exhausted";
-    case LQ_NO_MEMORY: return "NoMemory";
-    case LQ_BAD_QUERY: return "BadQuery";
-    case LQ_BAD_PORT: return "BadPort";
-    case LQ_BAD_BACKLOG: return "BadBacklog";
-    case LQ_NO_SLOT: return "NoSlot";
-    case LQ_NO_SEAT: return "NoSeat";
-    case LQ_NOT_OPEN: return "NotOpen";
-    case LQ_STILL_OPEN: return "StillOpen";
-    case LQ_LONG_LINE: return "LongLine";
-    case LQ_NOT_UTF8: return "NotUtf8";
-    case LQ_NOT_JSON: return "NotJson";
-    case LQ_BAD_LINE: return "BadLine";
-    case LQ_OUT_OF_STEP: return "OutOfStep";
-    case LQ_MISMATCH: return "Mismatch";
-    case LQ_MISUSE: return "Misuse";
-    case LQ_EMPTY: return "Empty";
-    case LQ_ENDED: return "Ended";
-    case LQ_NO_VALUE: return "NoValue";
-    case LQ_UNUSED_VALUE: return "UnusedValue";
+#include "status_names.h"
     }
     return NULL;
 }
@@ -120,30 +153,134 @@ static bool is_served(uint32_t version)
     return version / 1000 == LQ_VERSION / 1000 && version <= LQ_VERSION;
 }
 
+/* Opens a handle with a session. */
+static void open_with(lq *handle, served made, uint64_t results, uint32_t version)
+{
+    *handle = (lq){.at = made, .tag = open_tag(handle), .result = results, .version = version};
+}
+
 lq_status lq_volume_open_as(lq *handle, uint32_t version)
 {
-    if (!handle || is_open(handle) || !is_served(version)) return LQ_MISUSE;
+    if (!is_closed(handle) || !is_served(version)) return LQ_MISUSE;
     served made;
     lq_status status = lqp_start(&made);
-    if (status != LQ_OK) return status;
-    /* only one that was closed here goes on with its numbers of results */
-    uint64_t results = handle->tag == closed_tag(handle) ? handle->result : 0;
-    *handle = (lq){.at = made, .tag = open_tag(handle), .result = results, .version = version};
-    return LQ_OK;
+    if (status == LQ_OK) open_with(handle, made, results_of(handle), version);
+    return status;
+}
+
+/* Closes a handle, which keeps the fault of a load in fields that it has no other use for then. */
+static void close_with(lq *handle, uint64_t results, kept_fault fault)
+{
+    *handle = (lq){.tag = closed_tag(handle),
+                   .result = results,
+                   .at = (void *)(uintptr_t)fault.reason,
+                   .user = (void *)(uintptr_t)fault.node,
+                   .version = (uint32_t)fault.place,
+                   .pushes = (uint32_t)(fault.place >> 32)};
+}
+
+/* The fault that a closed handle keeps. */
+static kept_fault fault_of(const lq *handle)
+{
+    if (!handle || handle->tag != closed_tag(handle)) return (kept_fault){0, 0, NULL};
+    return (kept_fault){handle->version | (uint64_t)handle->pushes << 32, (uint64_t)(uintptr_t)handle->user,
+                        (const char *)handle->at};
 }
 
 void lq_volume_close(lq *handle)
 {
     if (!is_open(handle)) return;
+    keeper *keeps = keeper_of(handle);
+    if (keeps) keeps->closed(keeps);
     served held = handle->at;
     /* the next number, which no result has: so the last result of this volume is out of date too */
-    *handle = (lq){.tag = closed_tag(handle), .result = handle->result + 1};
+    close_with(handle, handle->result + 1, (kept_fault){0, 0, NULL});
     lqp_free(held);
 }
 
 uint64_t lq_fault_place(const lq *handle)
 {
-    return is_open(handle) ? lqp_fault_place(in(handle)) : 0;
+    return is_open(handle) ? lqp_fault_place(in(handle)) : fault_of(handle).place;
+}
+
+uint64_t lq_fault_node(const lq *handle)
+{
+    return fault_of(handle).node;
+}
+
+const char *lq_fault_reason(const lq *handle)
+{
+    return fault_of(handle).reason;
+}
+
+/* ---- a volume that is kept ---- */
+
+lq_status lq_save_begin(lq *handle, kept_save **made, lq_sink_fn sink, void *user)
+{
+    if (!is_open(handle) || !sink) return LQ_MISUSE;
+    lq_status status = kept_save_make(made, in(handle), sink, user);
+    if (status == LQ_OK) handle->tag = busy_tag(handle);
+    return status;
+}
+
+void lq_save_end(lq *handle, kept_save *save)
+{
+    kept_save_free(save);
+    handle->tag = open_tag(handle);
+}
+
+lq_status lq_save(lq *handle, lq_sink_fn sink, void *user)
+{
+    kept_save *save;
+    lq_status status = lq_save_begin(handle, &save, sink, user);
+    if (status != LQ_OK) return status;
+    while (status == LQ_OK && !lq_save_is_done(save)) status = lq_save_step(save);
+    lq_save_end(handle, save);
+    return status;
+}
+
+lq_status lq_load_begin(lq *handle, uint32_t version, kept_load **made, lq_source_fn source, void *user)
+{
+    if (!is_closed(handle) || !is_served(version) || !source) return LQ_MISUSE;
+    served into;
+    lq_status status = lqp_start(&into);
+    if (status != LQ_OK) return status;
+    status = kept_load_make(made, into, source, user);
+    if (status != LQ_OK) {
+        lqp_free(into);
+        return status;
+    }
+    *handle = (lq){.tag = busy_tag(handle), .result = results_of(handle), .version = version};
+    return LQ_OK;
+}
+
+void lq_load_end(lq *handle, kept_load *load)
+{
+    if (lq_load_is_done(load)) open_with(handle, kept_load_take(load), handle->result, handle->version);
+    else close_with(handle, handle->result, kept_load_fault(load));
+    kept_load_free(load);
+}
+
+lq_status lq_load_as(lq *handle, uint32_t version, lq_source_fn source, void *user)
+{
+    kept_load *load;
+    lq_status status = lq_load_begin(handle, version, &load, source, user);
+    if (status != LQ_OK) return status;
+    while (status == LQ_OK && !lq_load_is_done(load)) status = lq_load_step(load);
+    lq_load_end(handle, load);
+    return status;
+}
+
+lq_status lq_volume_copy(const lq *handle, lq *copy)
+{
+    if (!is_open(handle) || !is_closed(copy)) return LQ_MISUSE;
+    served made;
+    lq_status status = lqp_start(&made);
+    if (status != LQ_OK) return status;
+    status = lqp_copy(in(handle), &made);
+    if (status == LQ_OK) open_with(copy, made, results_of(copy), handle->version & ~KEPT); /* in memory alone */
+    else lqp_free(made);
+    return status;
 }
 
 /* ---- a script's lines ---- */
@@ -151,8 +288,21 @@ uint64_t lq_fault_place(const lq *handle)
 lq_status lq_answer(lq *handle, const char *line, size_t line_size, size_t *size)
 {
     if (!is_open(handle) || !size || !is_text(&line, &line_size, LINE_SIZE)) return LQ_MISUSE;
-    uint64_t before = ready_before(handle);
-    return told(handle, before, lqp_answer(in(handle), line, line_size, size));
+    keeper *keeps = keeper_of(handle);
+    if (keeps) {
+        lq_status may = keeps->may_answer(keeps, line, line_size);
+        if (may != LQ_OK) return may;
+        keeps = keeper_of(handle);
+    }
+    uint64_t before = ready_before(handle), changes = keeps ? lqp_changes(in(handle)) : 0;
+    uint32_t status = lqp_answer(in(handle), line, line_size, size);
+    if (keeps && lqp_changes(in(handle)) != changes) {
+        lq_applied applied = replied(handle, status == LQ_OK ? *size : 0);
+        const change made = {.what = CHANGE_LINE, .text = line, .text_size = line_size};
+        lq_status is_kept = kept(handle, LQ_OK, &applied, &made);
+        if (is_kept != LQ_OK) status = is_kept;
+    }
+    return told(handle, before, status);
 }
 
 size_t lq_text(const lq *handle, char *out, size_t room)
@@ -169,16 +319,27 @@ lq_status lq_create(lq *handle, uint64_t dir, const char *name, size_t name_size
 {
     lq_applied unwanted;
     if (!is_open(handle) || !is_text(&name, &name_size, LQ_NAME_SIZE)) return LQ_MISUSE;
+    lq_status may = may_change(handle);
+    if (may != LQ_OK) return may;
+    if (!out) out = &unwanted;
     uint64_t before = ready_before(handle);
-    return told(handle, before, lqp_create(in(handle), dir, name, name_size, kind, size, time, out ? out : &unwanted));
+    uint32_t status = lqp_create(in(handle), dir, name, name_size, kind, size, time, out);
+    const change made = {.what = CHANGE_CREATE, .dir = dir, .name = name, .name_size = name_size, .kind = kind,
+                         .natural = size, .whole = time};
+    return told(handle, before, kept(handle, status, out, &made));
 }
 
 lq_status lq_remove(lq *handle, uint64_t node, lq_applied *out)
 {
     lq_applied unwanted;
     if (!is_open(handle)) return LQ_MISUSE;
+    lq_status may = may_change(handle);
+    if (may != LQ_OK) return may;
+    if (!out) out = &unwanted;
     uint64_t before = ready_before(handle);
-    return told(handle, before, lqp_remove(in(handle), node, out ? out : &unwanted));
+    uint32_t status = lqp_remove(in(handle), node, out);
+    const change made = {.what = CHANGE_REMOVE, .node = node};
+    return told(handle, before, kept(handle, status, out, &made));
 }
 
 lq_status lq_move(lq *handle, uint64_t node, uint64_t dir, const char *name, size_t name_size, bool clobber,
@@ -186,16 +347,27 @@ lq_status lq_move(lq *handle, uint64_t node, uint64_t dir, const char *name, siz
 {
     lq_applied unwanted;
     if (!is_open(handle) || !is_text(&name, &name_size, LQ_NAME_SIZE)) return LQ_MISUSE;
+    lq_status may = may_change(handle);
+    if (may != LQ_OK) return may;
+    if (!out) out = &unwanted;
     uint64_t before = ready_before(handle);
-    return told(handle, before, lqp_move(in(handle), node, dir, name, name_size, clobber, out ? out : &unwanted));
+    uint32_t status = lqp_move(in(handle), node, dir, name, name_size, clobber, out);
+    const change made = {.what = CHANGE_MOVE, .node = node, .dir = dir, .name = name, .name_size = name_size,
+                         .clobber = clobber};
+    return told(handle, before, kept(handle, status, out, &made));
 }
 
 lq_status lq_write(lq *handle, uint64_t node, uint64_t size, int64_t time, lq_applied *out)
 {
     lq_applied unwanted;
     if (!is_open(handle)) return LQ_MISUSE;
+    lq_status may = may_change(handle);
+    if (may != LQ_OK) return may;
+    if (!out) out = &unwanted;
     uint64_t before = ready_before(handle);
-    return told(handle, before, lqp_write(in(handle), node, size, time, out ? out : &unwanted));
+    uint32_t status = lqp_write(in(handle), node, size, time, out);
+    const change made = {.what = CHANGE_WRITE, .node = node, .natural = size, .whole = time};
+    return told(handle, before, kept(handle, status, out, &made));
 }
 
 lq_status lq_set_text(lq *handle, uint64_t node, const char *attr, size_t attr_size, const char *text, size_t text_size,
@@ -204,49 +376,83 @@ lq_status lq_set_text(lq *handle, uint64_t node, const char *attr, size_t attr_s
     lq_applied unwanted;
     if (!is_open(handle) || !is_text(&attr, &attr_size, LQ_NAME_SIZE) || !is_text(&text, &text_size, LQ_TEXT_SIZE))
         return LQ_MISUSE;
+    lq_status may = may_change(handle);
+    if (may != LQ_OK) return may;
+    if (!out) out = &unwanted;
     uint64_t before = ready_before(handle);
-    return told(handle, before,
-                lqp_set_text(in(handle), node, attr, attr_size, text, text_size, out ? out : &unwanted));
+    uint32_t status = lqp_set_text(in(handle), node, attr, attr_size, text, text_size, out);
+    const change made = {.what = CHANGE_SET_TEXT, .node = node, .name = attr, .name_size = attr_size, .text = text,
+                         .text_size = text_size};
+    return told(handle, before, kept(handle, status, out, &made));
 }
 
 lq_status lq_set_int32(lq *handle, uint64_t node, const char *attr, size_t attr_size, int32_t value, lq_applied *out)
 {
     lq_applied unwanted;
     if (!is_open(handle) || !is_text(&attr, &attr_size, LQ_NAME_SIZE)) return LQ_MISUSE;
+    lq_status may = may_change(handle);
+    if (may != LQ_OK) return may;
+    if (!out) out = &unwanted;
     uint64_t before = ready_before(handle);
-    return told(handle, before, lqp_set_int32(in(handle), node, attr, attr_size, value, out ? out : &unwanted));
+    uint32_t status = lqp_set_int32(in(handle), node, attr, attr_size, value, out);
+    const change made = {.what = CHANGE_SET_INT32, .node = node, .name = attr, .name_size = attr_size, .whole =
+                         value};
+    return told(handle, before, kept(handle, status, out, &made));
 }
 
 lq_status lq_set_int64(lq *handle, uint64_t node, const char *attr, size_t attr_size, int64_t value, lq_applied *out)
 {
     lq_applied unwanted;
     if (!is_open(handle) || !is_text(&attr, &attr_size, LQ_NAME_SIZE)) return LQ_MISUSE;
+    lq_status may = may_change(handle);
+    if (may != LQ_OK) return may;
+    if (!out) out = &unwanted;
     uint64_t before = ready_before(handle);
-    return told(handle, before, lqp_set_int64(in(handle), node, attr, attr_size, value, out ? out : &unwanted));
+    uint32_t status = lqp_set_int64(in(handle), node, attr, attr_size, value, out);
+    const change made = {.what = CHANGE_SET_INT64, .node = node, .name = attr, .name_size = attr_size, .whole =
+                         value};
+    return told(handle, before, kept(handle, status, out, &made));
 }
 
 lq_status lq_set_uint32(lq *handle, uint64_t node, const char *attr, size_t attr_size, uint32_t value, lq_applied *out)
 {
     lq_applied unwanted;
     if (!is_open(handle) || !is_text(&attr, &attr_size, LQ_NAME_SIZE)) return LQ_MISUSE;
+    lq_status may = may_change(handle);
+    if (may != LQ_OK) return may;
+    if (!out) out = &unwanted;
     uint64_t before = ready_before(handle);
-    return told(handle, before, lqp_set_uint32(in(handle), node, attr, attr_size, value, out ? out : &unwanted));
+    uint32_t status = lqp_set_uint32(in(handle), node, attr, attr_size, value, out);
+    const change made = {.what = CHANGE_SET_UINT32, .node = node, .name = attr, .name_size = attr_size, .natural =
+                         value};
+    return told(handle, before, kept(handle, status, out, &made));
 }
 
 lq_status lq_set_uint64(lq *handle, uint64_t node, const char *attr, size_t attr_size, uint64_t value, lq_applied *out)
 {
     lq_applied unwanted;
     if (!is_open(handle) || !is_text(&attr, &attr_size, LQ_NAME_SIZE)) return LQ_MISUSE;
+    lq_status may = may_change(handle);
+    if (may != LQ_OK) return may;
+    if (!out) out = &unwanted;
     uint64_t before = ready_before(handle);
-    return told(handle, before, lqp_set_uint64(in(handle), node, attr, attr_size, value, out ? out : &unwanted));
+    uint32_t status = lqp_set_uint64(in(handle), node, attr, attr_size, value, out);
+    const change made = {.what = CHANGE_SET_UINT64, .node = node, .name = attr, .name_size = attr_size, .natural =
+                         value};
+    return told(handle, before, kept(handle, status, out, &made));
 }
 
 lq_status lq_unset(lq *handle, uint64_t node, const char *attr, size_t attr_size, lq_applied *out)
 {
     lq_applied unwanted;
     if (!is_open(handle) || !is_text(&attr, &attr_size, LQ_NAME_SIZE)) return LQ_MISUSE;
+    lq_status may = may_change(handle);
+    if (may != LQ_OK) return may;
+    if (!out) out = &unwanted;
     uint64_t before = ready_before(handle);
-    return told(handle, before, lqp_unset(in(handle), node, attr, attr_size, out ? out : &unwanted));
+    uint32_t status = lqp_unset(in(handle), node, attr, attr_size, out);
+    const change made = {.what = CHANGE_UNSET, .node = node, .name = attr, .name_size = attr_size};
+    return told(handle, before, kept(handle, status, out, &made));
 }
 
 /* ---- results ---- */
@@ -284,8 +490,9 @@ uint64_t lq_ready(const lq *handle)
 lq_status lq_on_ready(lq *handle, lq_ready_fn call, void *user)
 {
     if (!is_open(handle)) return LQ_MISUSE;
-    handle->ready = call;
-    handle->user = user;
+    keeper *keeps = keeper_of(handle);
+    *(keeps ? &keeps->ready : &handle->ready) = call;
+    *(keeps ? &keeps->user : &handle->user) = user;
     return LQ_OK;
 }
 

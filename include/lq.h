@@ -1,5 +1,5 @@
 /* Yazgoulm, a live query server in the manner of the Be file system, in the caller's own process.
- * Version 0.4.0.
+ * Version 0.5.0.
  *
  * A handle holds one volume, its live queries and the messages that wait for their readers. Each
  * call is one act: it starts no thread, takes no lock, waits for nothing and prints nothing. Nodes,
@@ -49,7 +49,9 @@
  *   called may use it. Handles know nothing of each other: two of them need no lock.
  * - No call comes from a signal handler, or from the child of a fork of a process with threads.
  * - malloc, realloc and free belong together, and align as the C standard says, up to 16 bytes.
- * - The stack has room: 256 KiB is plenty.
+ * - The stack has room: 160 KiB for lq_answer, and 64 KiB for each other call. What they took at most
+ *   is 119 KiB, for JSON that is nested as deep as may be, and 47 KiB. That was measured, on x86-64,
+ *   and isn't proved.
  */
 #ifndef LQ_H
 #define LQ_H
@@ -65,8 +67,8 @@ extern "C" {
 /* ---- versions, limits, statuses and handles ---- */
 
 /* The version of this header: a million for each major version, a thousand for each minor one. */
-#define LQ_VERSION 4000
-#define LQ_VERSION_TEXT "0.4.0"
+#define LQ_VERSION 5000
+#define LQ_VERSION_TEXT "0.5.0"
 
 /* The version of the library. */
 uint32_t lq_version(void);
@@ -90,41 +92,63 @@ enum { LQ_VALUES = 256 };
 #define LQ_TEXT(literal) ("" literal), sizeof("" literal) - 1
 
 /* The statuses: 0, the numbers of the refusals in a script's replies, and from 40 on those that the
- * calls alone answer. */
+ * calls alone answer. tools/api draws from here what else lists them. */
 typedef enum lq_status {
     LQ_OK = 0,
-    LQ_BAD_NAME = 1,
-    LQ_NO_NODE = 2,
-    LQ_NOT_FOLDER = 3,
+    LQ_BAD_NAME = 1,      /* a name of an entry or of an attribute that breaks its rule */
+    LQ_NO_NODE = 2,       /* no such node */
+    LQ_NOT_FOLDER = 3,    /* the node that is named as a folder is a file */
+    /* the folder has no entry of that name; or the root was asked for as an entry */
     LQ_NO_ENTRY = 4,
-    LQ_EXISTS = 5,
-    LQ_WOULD_LOOP = 6,
-    LQ_NOT_EMPTY = 7,
+    LQ_EXISTS = 5,        /* the name is taken */
+    LQ_WOULD_LOOP = 6,    /* a folder would move into itself or below itself */
+    LQ_NOT_EMPTY = 7,     /* the folder that would go isn't empty */
+    /* a move with clobber of a file over a folder, or of a folder over a file */
     LQ_KIND_CLASH = 8,
-    LQ_IS_FOLDER = 9,
-    LQ_NO_ATTR = 10,
+    LQ_IS_FOLDER = 9,     /* a size for a folder */
+    LQ_NO_ATTR = 10,      /* the entry has no such attribute */
+    /* a change of the root; or an attribute named `name`, `size` or `last_modified` */
     LQ_RESERVED = 11,
-    LQ_TOO_LONG = 12,
-    LQ_EXHAUSTED = 13,
-    LQ_NO_MEMORY = 15,
+    LQ_TOO_LONG = 12,     /* a size or a text value over its limit */
+    LQ_EXHAUSTED = 13,    /* the volume's limit of changes, or of openings, is reached */
+    LQ_NO_MEMORY = 15,    /* memory ran out; a script ends then, so it is never printed */
+    /* a faulty formula or pattern, with the byte place, or a push that doesn't fit, with the number
+     * of accepted pushes */
     LQ_BAD_QUERY = 20,
-    LQ_BAD_PORT = 21,
-    LQ_BAD_BACKLOG = 22,
-    LQ_NO_SLOT = 23,
+    LQ_BAD_PORT = 21,     /* a port not from 1 to 1,024 */
+    LQ_BAD_BACKLOG = 22,  /* a backlog over 65,536 */
+    LQ_NO_SLOT = 23,      /* all 64 slots are taken */
+    /* all 16 seats of a server for threads are out; no line of a script is answered so */
     LQ_NO_SEAT = 24,
+    /* the slot is free, or not from 1 to 64; for `Close` also where the subscription has ended */
     LQ_NOT_OPEN = 25,
-    LQ_STILL_OPEN = 26,
-    LQ_LONG_LINE = 30,
-    LQ_NOT_UTF8 = 31,
-    LQ_NOT_JSON = 32,
-    LQ_BAD_LINE = 33,
+    LQ_STILL_OPEN = 26,   /* `Finish` of a slot whose mark wasn't taken */
+    LQ_LONG_LINE = 30,    /* a line of more than 65,536 bytes */
+    LQ_NOT_UTF8 = 31,     /* a line that is not UTF-8 */
+    LQ_NOT_JSON = 32,     /* a line that is no JSON */
+    LQ_BAD_LINE = 33,     /* a line whose object is no line of a script */
+    /* `Rebuild::apply` was given a message that is not the next one; no line of a script is
+     * answered so */
     LQ_OUT_OF_STEP = 34,
+    /* `Rebuild::apply` was given a message that doesn't fit the result; no line of a script is
+     * answered so */
     LQ_MISMATCH = 35,
+    /* the handle isn't open, or another argument is none that the call takes */
     LQ_MISUSE = 40,
-    LQ_EMPTY = 41,
-    LQ_ENDED = 42,
-    LQ_NO_VALUE = 43,
-    LQ_UNUSED_VALUE = 44
+    LQ_EMPTY = 41,        /* nothing is there to read, or no entry is left */
+    LQ_ENDED = 42,        /* the mark was read, and nothing comes after it */
+    LQ_NO_VALUE = 43,     /* a parameter of the formula has no value */
+    LQ_UNUSED_VALUE = 44, /* a value has no parameter in the formula */
+    LQ_SYSTEM = 45,       /* a call of the system failed, as errno says */
+    LQ_GONE_FOLDER = 46,  /* the folder that a handle of `lq_folder.h` follows has gone */
+    LQ_BAD_SAVE = 47,     /* bytes are no saved volume or journal, or were cut or changed */
+    /* a saved volume, or a journal, is of another version of the format */
+    LQ_OTHER_VERSION = 48,
+    LQ_LOCKED = 49,       /* another journal of `lq_journal.h` has the folder */
+    /* the change was made in memory, and its journal can't be written: it may not be on disk */
+    LQ_UNKEPT = 50,
+    /* the change wasn't made, since one before it isn't on disk */
+    LQ_HALTED = 51
 } lq_status;
 
 /* The name of a status, as "NoNode" for LQ_NO_NODE and "Ok" for LQ_OK. Null: no status has this
@@ -169,8 +193,55 @@ void lq_volume_close(lq *handle);
  * leftmost fault, counted from 0, or 4096 for a formula of more bytes. For a call with pushed items
  * it is the number of pushes that were accepted since the stack was new. After LQ_NO_VALUE and
  * LQ_UNUSED_VALUE it is the number of the value, counted from 1. 0: no call was refused in this
- * way. */
+ * way. Of a handle that lq_load left closed it is the byte where the fault is, counted from 0. */
 uint64_t lq_fault_place(const lq *handle);
+
+/* ---- a volume that is kept ---- */
+
+/* What lq_save gives bytes to. It answers how many of the first ones it took, 1 to `size`; 0 or
+ * less is a fault. It isn't called again after a fault. */
+typedef ptrdiff_t (*lq_sink_fn)(void *user, const void *bytes, size_t size);
+
+/* What lq_load takes bytes from. It writes at most `room` bytes and answers how many: at least 1,
+ * or 0 at the end, or -1 for a fault. It isn't called again after a fault or the end. */
+typedef ptrdiff_t (*lq_source_fn)(void *user, void *bytes, size_t room);
+
+/* Gives the volume of a handle to `sink` as bytes, in pieces of at most 65,552: its entries with
+ * their nodes and attributes, the number of changes, the next node and the limit. Live queries,
+ * results, pushes and values aren't among them. docs/SPECIFICATION.md has the format. Until the
+ * call ends the handle isn't open to others: calls in `sink` with it answer LQ_MISUSE, or do
+ * nothing. LQ_MISUSE: `sink` is null, or took more than it was given. LQ_SYSTEM: it had a fault.
+ * LQ_NO_MEMORY: it takes some 8 bytes an entry, and 24 at its beginning. */
+lq_status lq_save(lq *handle, lq_sink_fn sink, void *user);
+
+/* Opens a handle, as lq_volume_open_as, over the volume that the bytes of `source` are: it is the
+ * one that was saved, and changes and nodes go on at the numbers of that one. It takes all bytes
+ * up to the end. Until the call ends the handle isn't open, and calls in `source` with it answer
+ * LQ_MISUSE. After any other status than LQ_OK the handle is closed. LQ_MISUSE: as
+ * lq_volume_open_as, or `source` is null, or gave more than was asked for. LQ_SYSTEM: it had a
+ * fault. LQ_OTHER_VERSION: the bytes are of a version of the format that the library doesn't know.
+ * LQ_BAD_SAVE: they are no saved volume, as where they were cut or a byte was turned. After these
+ * two lq_fault_place, lq_fault_node and lq_fault_reason say more. LQ_NO_MEMORY. */
+lq_status lq_load_as(lq *handle, uint32_t version, lq_source_fn source, void *user);
+
+/* Loads a volume for a caller of this header. */
+static inline lq_status lq_load(lq *handle, lq_source_fn source, void *user)
+{
+    return lq_load_as(handle, LQ_VERSION, source, user);
+}
+
+/* Opens the handle `copy` over a copy of a handle's volume, as if it were saved and loaded. What is
+ * done with one of them doesn't change the other. LQ_MISUSE: `copy` is null or open.
+ * LQ_NO_MEMORY: `copy` stays as it was. */
+lq_status lq_volume_copy(const lq *handle, lq *copy);
+
+/* The node of the entry that lq_load refused, if the fault is one of an entry, and else 0. */
+uint64_t lq_fault_node(const lq *handle);
+
+/* Why lq_load refused the bytes, as one of the words in docs/SPECIFICATION.md, such as "Cut". Null:
+ * the handle is open, or its last lq_load wasn't refused in this way. The text lives as long as the
+ * library. */
+const char *lq_fault_reason(const lq *handle);
 
 /* ---- a script's lines ---- */
 

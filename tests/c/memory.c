@@ -1,40 +1,18 @@
 /* Each growth of memory that a call asks for, refused in turn. The call answers LQ_NO_MEMORY, leaves its `out`, and
    changes nothing: it then succeeds, and all that follows is answered as by a handle that was never refused; but a call
    that takes pushes or bound values off does so all the same. lq_read and a subscription go without their rebuilt result instead.
-   Nothing is left once a handle is closed. The linker puts the calls below in place of malloc, realloc and free. */
-#include "acts.h"
+   Nothing is left once a handle is closed. The linker puts the calls of refusals.h in place of the C library's.
+   memory drawn SECONDS SEED: over drawn sequences of all calls, for so long. */
+#include "drawn.h"
+#include "refusals.h"
+#include <time.h>
 
-void *__real_malloc(size_t size);
-void *__real_realloc(void *block, size_t size);
-void __real_free(void *block);
-
-static long left, live;
-static unsigned long refusals;
+static long left; /* growths up to the one that is refused; 0: none is */
 
 static bool is_refused(void) {
     if (left == 0 || --left != 0) return false;
     refusals++;
     return true;
-}
-
-void *__wrap_malloc(size_t size);
-void *__wrap_malloc(size_t size) {
-    void *block = is_refused() ? NULL : __real_malloc(size);
-    live += block != NULL;
-    return block;
-}
-
-void *__wrap_realloc(void *block, size_t size);
-void *__wrap_realloc(void *block, size_t size) {
-    if (is_refused()) return NULL;
-    live += block == NULL;
-    return __real_realloc(block, size);
-}
-
-void __wrap_free(void *block);
-void __wrap_free(void *block) {
-    live -= block != NULL;
-    __real_free(block);
 }
 
 /* A call, or what says the same as a line; what it gives is added to a text. */
@@ -53,7 +31,7 @@ static lq_status children(lq *handle, text *to) {
 }
 
 static lq_status path(lq *handle, text *to) {
-    char room[1024];
+    static char room[LQ_PATH_SIZE + 1];
     size_t size;
     POISON(size);
     lq_status status = lq_path(handle, 3, &size);
@@ -88,7 +66,7 @@ static lq_status fetch_and_take(lq *handle, text *to) {
     lq_status status = lq_fetch(handle, TEXT("size>=0"), &fetched);
     if (status != LQ_OK) return status;
     OK(lq_take(handle, fetched.result, rows, 8, &got));
-    WANT(got, fetched.count);
+    WANT(got, fetched.count < 8 ? fetched.count : 8);
     for (size_t at = 0; at < got; at++) add(to, rows[at].name, rows[at].name_size);
     return status;
 }
@@ -103,7 +81,7 @@ static lq_status fetch_beside(lq *handle, text *to) {
     status = lq_fetch(handle, TEXT("name=*"), &fetched);
     if (status == LQ_OK) say_result(to, handle, fetched.result, fetched.count);
     else LEFT(fetched);
-    if (status == LQ_NO_MEMORY) OK(lq_next(handle, before.result, &row));
+    if (status == LQ_NO_MEMORY && before.count > 0) OK(lq_next(handle, before.result, &row));
     return status;
 }
 
@@ -138,8 +116,7 @@ static lq_status read_many(lq *handle, text *to) {
     size_t got;
     lq_status status = lq_read_many(handle, 2, all, 4, &got);
     if (status != LQ_OK) return status;
-    WANT(got, 1);
-    if (got == 1) add(to, all[0].name, all[0].name_size);
+    for (size_t at = 0; at < got; at++) say_message(to, &all[at]);
     return status;
 }
 
@@ -478,7 +455,230 @@ static void refuse_open(void) {
     }
 }
 
-int main(void) {
+/* ---- drawn sequences of calls ---- */
+
+enum { DRAWN = 40, MOST = DRAWN + 30 };
+
+/* A step, or an act by a typed call or by a line. */
+typedef struct drawn_call {
+    step *step;
+    act act;
+    bool is_line;
+} drawn_call;
+
+/* What a handle to which nothing was refused answers, and then has: its entries, and the slots with a rebuilt result. */
+typedef struct answered {
+    lq_status status;
+    text reply, entries;
+    uint64_t results;
+} answered;
+
+PUSH(clear_pushed, lq_clear_pushed(handle))
+PUSH(clear_bound, lq_clear_bound(handle))
+
+static void hear(void *user, uint64_t slots) {
+    (void)user;
+    (void)slots;
+}
+
+PUSH(be_told, lq_on_ready(handle, hear, NULL))
+
+/* What waits in each slot. */
+static lq_status read_all(lq *handle, text *to) {
+    lq_message message;
+    for (uint64_t slot = 1; slot <= LQ_SLOTS; slot++)
+        while (lq_read(handle, slot, &message) == LQ_OK) say_message(to, &message);
+    WANT(lq_ready(handle), 0);
+    return LQ_OK;
+}
+
+/* What takes no memory. */
+static lq_status say_small(lq *handle, text *to) {
+    char literal[64];
+    add(to, literal, lq_quote(TEXT("a*\"b"), literal, sizeof literal));
+    say_natural(to, lq_status_name(LQ_NO_MEMORY), lq_changes(handle));
+    say_natural(to, "", lq_fault_place(handle) + lq_version());
+    return LQ_OK;
+}
+
+static step *const pushes[] = {push_attr,  push_text,   push_int32, push_int64,    push_uint32,
+                               push_uint64, push_ne,    push_gt,    push_contains, push_and,
+                               push_or,    push_not},
+            *const values_bound[] = {bind_text, bind_int64, bind_uint64},
+            *const take_pushes[] = {fetch_pushed, open_pushed, clear_pushed},
+            *const take_values[] = {fetch_bound, open_bound, clear_bound},
+            *const more[] = {clear_pushed, clear_bound, be_told, read_all, say_small};
+
+static bool is_in(step *one, step *const *all, size_t count) {
+    while (count > 0 && all[count - 1] != one) count--;
+    return one && count > 0;
+}
+
+#define IS_IN(one, list) is_in((one), (list), sizeof(list) / sizeof *(list))
+
+static lq_status make(lq *handle, const drawn_call *it, text *to) {
+    if (it->step) return it->step(handle, to);
+    if (!it->is_line) return by_call(handle, &it->act, to);
+    static text line;
+    size_t size = 0;
+    long refusing = left;
+    left = 0;
+    line.size = 0;
+    say_line(&line, &it->act);
+    left = refusing;
+    lq_status status = lq_answer(handle, line.at, line.size, &size);
+    refusing = left;
+    left = 0;
+    if (status == LQ_OK) {
+        char *reply = malloc(size);
+        if (!reply || lq_text(handle, reply, size) != size) abort();
+        add(to, reply, size);
+        free(reply);
+    }
+    left = refusing;
+    return status;
+}
+
+/* Makes a call again, after the pushes or the values that it took off. */
+static lq_status make_again(lq *handle, const drawn_call *all, size_t number, text *to) {
+    bool is_pushed = IS_IN(all[number].step, take_pushes), is_bound = IS_IN(all[number].step, take_values);
+    size_t from = number;
+    while ((is_pushed || is_bound) && from > 0 &&
+           !(is_pushed ? IS_IN(all[from - 1].step, take_pushes) : IS_IN(all[from - 1].step, take_values)))
+        from--;
+    for (; from < number; from++)
+        if (is_pushed ? IS_IN(all[from].step, pushes) : IS_IN(all[from].step, values_bound))
+            all[from].step(handle, to);
+    return make(handle, &all[number], to);
+}
+
+/* All entries with their attributes, and how many changes there were. */
+static void say_entries(text *to, lq *handle) {
+    lq_fetched fetched;
+    lq_row row;
+    OK(lq_fetch(handle, TEXT("name=*"), &fetched));
+    say_natural(to, "", fetched.at);
+    while (lq_next(handle, fetched.result, &row) == LQ_OK) OK(say_entry(to, handle, row.node));
+}
+
+static uint64_t results_of(lq *handle) {
+    lq_rebuilt rebuilt;
+    uint64_t bits = 0;
+    for (uint64_t slot = 1; slot <= LQ_SLOTS; slot++)
+        if (lq_result(handle, slot, &rebuilt) == LQ_OK) bits |= (uint64_t)1 << (slot - 1);
+    return bits;
+}
+
+static bool may_lose_result(const drawn_call *it) {
+    if (it->step) return loses_result(it->step) || it->step == read_all;
+    return !it->is_line && (it->act.word == READ || it->act.word == OPEN);
+}
+
+/* A call that was refused has changed nothing. A line may have been carried out. */
+static void want_unchanged(lq *handle, const drawn_call *all, size_t number, const answered *model, text *room) {
+    room->size = 0;
+    say_entries(room, handle);
+    CHECK((number > 0 && is_same(room, &model[number - 1].entries)) ||
+          (all[number].is_line && is_same(room, &model[number].entries)) || (number == 0 && room->size == 1));
+    room->size = 0;
+}
+
+/* A sequence on a handle of its own, in which growth `which` of call `refused` is refused, and that call made again. With
+   0 none is refused, and the model made. False: the call asked for fewer growths. */
+static bool run_drawn(const drawn_call *all, size_t count, size_t refused, long which, answered *model) {
+    lq handle = LQ_INIT;
+    bool was_met = which == 0, is_over = false;
+    uint64_t lacks = 0;
+    text reply = {malloc(1 << 20), 0, 1 << 20};
+    if (!reply.at) abort();
+    long before = live;
+    OK(lq_volume_open(&handle));
+    for (size_t number = 0; number < count && !is_over; number++) {
+        const drawn_call *it = &all[number];
+        reply.size = 0;
+        left = number == refused ? which : 0;
+        lq_status status = make(&handle, it, &reply);
+        bool is_met = number == refused && which != 0 && left == 0;
+        left = 0;
+        if (is_met) {
+            was_met = true;
+            if (status == LQ_NO_MEMORY) {
+                CHECK(reply.size == 0);
+                want_unchanged(&handle, all, number, model, &reply);
+                is_over = it->is_line;
+                if (!is_over) status = make_again(&handle, all, number, &reply);
+            } else {
+                CHECK(may_lose_result(it));
+                lacks = model[number].results & ~results_of(&handle);
+                CHECK((lacks & (lacks - 1)) == 0 && (results_of(&handle) & ~model[number].results) == 0);
+            }
+        }
+        uint64_t slot = !it->step && it->act.word == RESULT ? it->act.node : 0;
+        bool is_gone = slot > 0 && slot <= LQ_SLOTS && (lacks >> (slot - 1) & 1);
+        if (which == 0) {
+            model[number].status = status;
+            add(&model[number].reply, reply.at, reply.size);
+            say_entries(&model[number].entries, &handle);
+            model[number].results = results_of(&handle);
+        } else if (!is_over && !is_gone) {
+            WANT(status, model[number].status);
+            CHECK(is_same(&reply, &model[number].reply));
+        }
+    }
+    lq_volume_close(&handle);
+    if (which != 0) CHECK(live == before);
+    free(reply.at);
+    return was_met;
+}
+
+static size_t draw_calls(drawn_call *all, uint64_t seed) {
+    size_t count = 0;
+    begin_drawn(seed);
+    memset(all, 0, MOST * sizeof *all);
+    for (; count < 7; count++) all[count].act = first_act((int)count);
+    while (count < DRAWN) {
+        if (draw(3)) {
+            all[count].act = drawn_act();
+            all[count++].is_line = draw(4) == 0;
+        } else if (draw(4) == 0) {
+            all[count++].step = *ONE_OF(more);
+        } else {
+            size_t at = draw(STEPS), last = at + 1 + draw(12);
+            for (; at < last && at < STEPS && count < DRAWN + 12; at++) all[count++].step = steps[at];
+        }
+    }
+    all[count++].step = read_all;
+    for (uint64_t slot = 1; slot <= 6; slot++) all[count++].act = (act){.word = RESULT, .node = slot};
+    return count;
+}
+
+/* A drawn sequence, with each growth of each of its calls refused in turn. How many calls it has. */
+static size_t refuse_drawn(uint64_t seed) {
+    static drawn_call all[MOST];
+    static answered model[MOST];
+    size_t count = draw_calls(all, seed);
+    for (size_t number = 0; number < count; number++)
+        model[number].reply.size = model[number].entries.size = 0;
+    run_drawn(all, count, 0, 0, model);
+    for (size_t number = 0; number < count && !failures; number++)
+        for (long which = 1; !failures && run_drawn(all, count, number, which, model); which++)
+            if (which > 100000) CHECK(!"the growths end");
+    if (failures) fprintf(stderr, "in sequence %llu\n", (unsigned long long)seed);
+    return count;
+}
+
+static int drawn_for(long seconds, uint64_t seed) {
+    time_t end = time(NULL) + seconds;
+    unsigned long sequences = 0, calls = 0;
+    for (; time(NULL) < end && !failures; sequences++) calls += refuse_drawn(seed * 1000003 + sequences);
+    printf("| lq.h: drawn sequences; each growth refused in turn | %lu |\n", sequences);
+    printf("| lq.h: calls in them | %lu |\n| lq.h: growths refused | %lu |\n", calls, refusals);
+    printf("| lq.h: checks | %lu |\n| lq.h: failures | %lu |\n", checks, failures);
+    return failures != 0;
+}
+
+int main(int count, char **words) {
+    if (count > 3) return drawn_for(atol(words[2]), (uint64_t)atol(words[3]));
     static text wanted[ACTS + VALUES + STEPS];
     static lq_status statuses[ACTS + VALUES + STEPS];
     long before = live;
@@ -498,6 +698,7 @@ int main(void) {
     refuse_lines(acts, ACTS);
     refuse_lines(growing, sizeof growing / sizeof *growing);
     CHECK(live == before);
+    for (uint64_t seed = 0; seed < 3 && !failures; seed++) refuse_drawn(seed);
     /* if none was refused, the linker has put nothing in place */
     CHECK(refusals > 100);
     printf("memory: %lu growths refused\n", refusals);

@@ -18,4 +18,6 @@ mod live_query_calls;
 mod lookup_calls;
 mod outs;
 mod push_calls;
+mod restore_calls;
 mod results;
+mod save_calls;

@@ -16,3 +16,5 @@ pub mod NamedLemmas
 pub mod LiteralLemmas
 pub mod BoundTokenLemmas
 pub mod OffsetLemmas
+pub mod RestorerLemmas
+pub mod SavesLemmas

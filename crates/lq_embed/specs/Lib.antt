@@ -18,3 +18,6 @@ pub mod ParameterList
 pub mod BoundFormula
 pub mod BoundTokens
 pub mod Bound
+pub mod Outcome
+pub mod Saves
+pub mod Restorer

@@ -7,7 +7,7 @@ use Rattle.lq_volume.specs.State as volume
 use Rattle.lq_predicate.specs.Stacked.{Stacked, new_stack}
 use Rattle.lq_script_desk.specs.Session.{Session, volume_of}
 use Rattle.lq_script_desk.specs.Keeps.{keeps}
-use Rattle.lq_script_desk.specs.Script.{script_session}
+use Rattle.lq_script_desk.specs.Script.{session_over}
 use Rattle.lq_embed.specs.declared.embedded.Embedded.{Embedded}
 
 -- the session, the entries of a result that weren't given yet, the text that was made last (a
@@ -31,16 +31,20 @@ holds e = record {
   fault = e.fault;
 }
 
--- what the first state holds: a script's first session, and nothing else
-abbrev pub first_state : SessionState
-first_state = record {
-  session = script_session;
+-- what the first state over a volume holds: its first session, and nothing else
+abbrev pub state_over : volume.State → SessionState
+state_over start = record {
+  session = session_over start;
   entries = [];
   text = [];
   pushed = new_stack;
   bound = [];
   fault = 0;
 }
+
+-- the first state of a script: the volume has the root alone
+abbrev pub first_state : SessionState
+first_state = state_over (volume.empty_state 1000000000000)
 
 -- the volume now
 abbrev pub volume_in : SessionState → volume.State

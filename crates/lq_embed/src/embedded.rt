@@ -7,7 +7,7 @@ ghost use Rattle.lq_script_desk.specs.Keeps.{keeps};
 ghost use Rattle.lq_script_request.specs.Asked.{raw_asked};
 ghost use Rattle.lq_script_request.specs.Request.{request_for};
 ghost use Rattle.lq_embed.specs.Calls.{Asks, state_after_refusal};
-ghost use Rattle.lq_embed.specs.SessionState.{first_state, holds, volume_in, with_session};
+ghost use Rattle.lq_embed.specs.SessionState.{first_state, state_over, holds, volume_in, with_session};
 
 use crate::numbers::status;
 use lq_desk::Reply;
@@ -15,6 +15,7 @@ use lq_predicate::Stack;
 use lq_script_desk::Session;
 use lq_script_request::{RawRequest, RecentAttrs, Request, read_request};
 use lq_value::{Entry, Refusal, Value};
+use lq_volume::{MAX_CHANGES, Volume};
 use std::alloc::Global;
 use std::vec::IntoIter;
 
@@ -58,9 +59,19 @@ impl Embedded {
         ensures refused { FailsOnlyForMemory result }
         ensures value { IfOk result (λ embedded. holds embedded ≡ first_state) }
     {
+        Embedded::over(alloc, Volume::new(alloc, MAX_CHANGES))
+    }
+
+    /// The first session over a volume, as over one that was restored.
+    ///
+    /// Refused: `NoMemory`.
+    pub fn over(alloc: Global, volume: Volume) -> Result<Embedded, Refusal>
+        ensures refused { FailsOnlyForMemory result }
+        ensures value { IfOk result (λ embedded. holds embedded ≡ state_over volume) }
+    {
         Ok(Embedded {
             alloc,
-            session: Session::start(alloc)?,
+            session: Session::over(alloc, volume)?,
             attrs: RecentAttrs::new(alloc),
             entries: Vec::new(alloc).into_iter(),
             text: Vec::new(alloc),

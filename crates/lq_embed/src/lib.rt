@@ -26,7 +26,9 @@ mod parameters;
 mod pushes;
 mod quoting;
 mod reads;
+mod restorer;
 mod rows;
+mod saves;
 
 pub use embedded::Embedded;
 pub use laws::{bound_formulas_are_read, embedded_may_be_sent, texts_are_meant};
@@ -36,3 +38,5 @@ pub use out_structs::{
 };
 pub use pushes::Push;
 pub use quoting::has_meaning;
+pub use restorer::Restorer;
+pub use saves::NumbersOut;

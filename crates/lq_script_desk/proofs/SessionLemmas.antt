@@ -1,6 +1,6 @@
 -- The history of a session: each turn goes on from it.
 use Rattle.std.proofs.Common.{◌≡◌, ◌⊎◌, ℕ, List, [], ◌∷◌, ◌++◌, length, refl, ap, sym, subst, arith, append_assoc, length-append, inl, inr, Option, None, Result, Ok, Err, OnOk}
-use Rattle.lq_volume.specs.State.{empty_state}
+use Rattle.lq_volume.specs.State.{State, IsVolume}
 use Rattle.lq_update.specs.Laws.{FoldingsFollow, RebuildsTakeAll}
 use Rattle.lq_desk_world.specs.World.{World, Subscribed}
 use Rattle.lq_desk_world.specs.declared.event.Event.{Event}
@@ -9,12 +9,12 @@ use Rattle.lq_desk_world.specs.Runs.{Run, Step}
 use Rattle.lq_desk_world.specs.Turns.{ports_of, turn_of}
 use Rattle.lq_desk_world.specs.Laws.{RunsTellReaders}
 use Rattle.lq_script_desk.specs.Answered.{slot_named}
-use Rattle.lq_script_desk.specs.Script.{script_session, script_world}
+use Rattle.lq_script_desk.specs.Script.{world_over}
 use Rattle.lq_script_desk.specs.Session.{Session}
 use Rattle.lq_script_desk.specs.SessionHistory.{HistoryGoesOn, IsHistory, SessionsTell}
 use Rattle.lq_script_desk.specs.Turned.{Follow, Turned}
 use Rattle.lq_script_desk.proofs.EventLemmas.{Does, does, leaves}
-use Rattle.lq_script_desk.proofs.FoldLemmas.{NoneRefused, begun, first-volume, fold-set, none-first, none-refused}
+use Rattle.lq_script_desk.proofs.FoldLemmas.{NoneRefused, begun, fold-set, none-first, none-refused}
 use Rattle.lq_script_desk.proofs.TurnLemmas.{AreAdded, added-reads, after-own, goes-before, turn-added}
 use Rattle.lq_script_desk.proofs.GoesOnLemmas.{goes-on}
 
@@ -51,13 +51,14 @@ step-does u x e a (inr (may, none, to)) = (u.slots, rw none (leaves tt refl))
 
 -- ---- sessions
 
-module _ (law : RunsTellReaders) (rebuilds : RebuildsTakeAll) (follow : FoldingsFollow) where
-  -- of a run of a script's first world no read is refused
+module _ (law : RunsTellReaders) (rebuilds : RebuildsTakeAll) (follow : FoldingsFollow)
+    (start : State) (volume : IsVolume start) where
+  -- of a run of a first world no read is refused
   unrefused : (w : World) (events : List Event) (answers : List Answer)
-      → Run script_world events answers w → (slot : ℕ) → NoneRefused slot events answers
+      → Run (world_over start) events answers w → (slot : ℕ) → NoneRefused slot events answers
   unrefused w events answers run slot =
-      none-refused rebuilds (empty_state 1000000000000) first-volume slot events answers
-      (law script_world w events answers run)
+      none-refused rebuilds start volume slot events answers
+      (law (world_over start) w events answers run)
 
   -- an event with notices and puts around it keeps the history
   around : (old new : Session) (before after : List Event) (befores afters : List Answer)
@@ -65,13 +66,14 @@ module _ (law : RunsTellReaders) (rebuilds : RebuildsTakeAll) (follow : Foldings
       → length befores ≡ length before
       → Run old.core (before ++ e ∷ after) (befores ++ a ∷ afters) new.core
       → Follow (slot_named e) a old.folds new.folds
-      → (events : List Event) (answers : List Answer) → IsHistory old events answers
-      → IsHistory new (events ++ (before ++ e ∷ after)) (answers ++ (befores ++ a ∷ afters))
+      → (events : List Event) (answers : List Answer) → IsHistory start old events answers
+      → IsHistory start new (events ++ (before ++ e ∷ after)) (answers ++ (befores ++ a ∷ afters))
   around old new before after befores afters e a first last place turn folds events answers was =
       let more = before ++ e ∷ after in
       let mores = befores ++ a ∷ afters in
-      let run = run-append script_world old.core new.core events more answers mores was.run turn in
-      let count = (law script_world old.core events answers was.run).count in
+      let run = run-append (world_over start) old.core new.core events more answers mores
+      was.run turn in
+      let count = (law (world_over start) old.core events answers was.run).count in
       let step = step-in old.core new.core before after befores afters e a place turn in
       let own = step-does step.0 step.1 e a step.2 in
       record {
@@ -103,8 +105,8 @@ module _ (law : RunsTellReaders) (rebuilds : RebuildsTakeAll) (follow : Foldings
 
   -- a turn goes on from each history
   turn-goes-on : (old new : Session) (e : Event) (a : Answer) → Turned old new e a
-      → (events : List Event) (answers : List Answer) → IsHistory old events answers
-      → HistoryGoesOn old new e a events answers
+      → (events : List Event) (answers : List Answer) → IsHistory start old events answers
+      → HistoryGoesOn start old new e a events answers
   turn-goes-on old new e a t events answers was =
       let turn = turn_of (ports_of old.core) e in
       let added = turn-added (ports_of old.core) e in
@@ -117,7 +119,7 @@ module _ (law : RunsTellReaders) (rebuilds : RebuildsTakeAll) (follow : Foldings
       }
 
   -- all that is true of sessions
-  pub sessions : SessionsTell script_session
+  pub sessions : SessionsTell start
   sessions = record {
     begins = record { run = refl; folds = λ slot f had. absurd (none-first slot f had) };
     turns = turn-goes-on;
@@ -128,7 +130,7 @@ module _ (law : RunsTellReaders) (rebuilds : RebuildsTakeAll) (follow : Foldings
         | inr other ↦ was.folds k f other.1
       ];
     };
-    readers = λ s events answers was. law script_world s.core events answers was.run;
+    readers = λ s events answers was. law (world_over start) s.core events answers was.run;
   }
 
 -- ---- answers

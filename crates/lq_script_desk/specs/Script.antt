@@ -2,7 +2,7 @@
 -- answer's text.
 use Rattle.std.specs.Prelude.{ℕ, List, []}
 use Rattle.lq_value.specs.declared.refusal.Refusal.TheVariants.{LongLine}
-use Rattle.lq_volume.specs.State.{empty_state}
+use Rattle.lq_volume.specs.State.{State, empty_state}
 use Rattle.lq_desk_world.specs.World.{World, first_world}
 use Rattle.lq_script_lines.specs.Lines.{Rules}
 use Rattle.lq_script_lines.specs.Output.{output_of}
@@ -21,13 +21,21 @@ world_rules = record {
   long = reply_text (Refuses LongLine);
 }
 
+-- the first world over a volume
+abbrev pub world_over : State → World
+world_over start = first_world (record { start = start; changes = [] })
+
+-- the first session over a volume: no slot has a fold
+abbrev pub session_over : State → Session
+session_over start = session_with (world_over start) no_folds
+
 -- a script begins with the root alone, and its volume accepts 1,000,000,000,000 changes
 abbrev pub script_world : World
-script_world = first_world (record { start = empty_state 1000000000000; changes = [] })
+script_world = world_over (empty_state 1000000000000)
 
 -- the initial session of a script: no slot has a fold
 abbrev pub script_session : Session
-script_session = session_with script_world no_folds
+script_session = session_over (empty_state 1000000000000)
 
 -- the output of a script
 abbrev pub out_of : List ℕ → List ℕ

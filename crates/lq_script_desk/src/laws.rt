@@ -1,8 +1,7 @@
 //! The laws of scripts and of sessions: each is the contract of a function that does nothing.
 ghost use denote.Param.Send.{IsSend};
 ghost use Rattle.lq_script_desk.specs.History.{ScriptsTellReaders};
-ghost use Rattle.lq_script_desk.specs.Script.{script_session};
-ghost use Rattle.lq_script_desk.specs.SessionHistory.{SessionsTell};
+ghost use Rattle.lq_script_desk.specs.SessionHistory.{AllSessionsTell};
 ghost use Rattle.lq_script_desk.specs.contracts.session.Session as sessions;
 
 use lq_desk::desks_may_be_sent;
@@ -25,13 +24,14 @@ pub fn scripts_tell_readers()
     foldings_follow();
 }
 
-/// The first session has the empty history, and of every history of a session the headline is true.
-/// In it each result of a slot is Fold over its opening's result and the updates read since.
+/// The first session over a volume has the empty history, and of every history of a session the
+/// headline is true. In it each result of a slot is Fold over its opening's result and the updates
+/// read since.
 ///
 /// A turn, by a line or by a typed call, extends each history (`specs/SessionHistory`). So at every
 /// moment, what was read of a slot since its opening is as the headline says.
 pub fn sessions_tell_readers()
-    ensures { SessionsTell script_session }
+    ensures { AllSessionsTell }
 {
     readers_are_told();
     rebuilds_take_all();

@@ -12,7 +12,7 @@ ghost use Rattle.lq_script_desk.specs.Answer.{response_of};
 ghost use Rattle.lq_script_desk.specs.Answered.{Responds, rebuilt};
 ghost use Rattle.lq_script_desk.specs.Keeps.{keeps, without_fold};
 ghost use Rattle.lq_script_desk.specs.Response.{Refuses};
-ghost use Rattle.lq_script_desk.specs.Script.{script_session};
+ghost use Rattle.lq_script_desk.specs.Script.{script_session, session_over};
 ghost use Rattle.lq_script_desk.specs.Session.{volume_of};
 ghost use Rattle.lq_script_desk.specs.Turned.{Turned};
 
@@ -35,7 +35,18 @@ impl Session {
         ensures refused { FailsOnlyForMemory result }
         ensures value { IfOk result (λ session. keeps session ≡ script_session) }
     {
-        let desk = Desk::new(alloc, Volume::new(alloc, MAX_CHANGES))?;
+        Session::over(alloc, Volume::new(alloc, MAX_CHANGES))
+    }
+
+    /// The first session over a volume, as over one that was restored: 64 free slots, and the next
+    /// change is the volume's next one.
+    ///
+    /// Refused: `NoMemory`.
+    pub fn over(alloc: Global, volume: Volume) -> Result<Session, Refusal>
+        ensures refused { FailsOnlyForMemory result }
+        ensures value { IfOk result (λ session. keeps session ≡ session_over volume) }
+    {
+        let desk = Desk::new(alloc, volume)?;
         Ok(Session::new(alloc, desk, SlotTable::new(alloc)?))
     }
 
