@@ -2,7 +2,7 @@
 import base64, json, os, shutil, subprocess, tempfile, time
 
 PROGRAMS = "chromium", "chromium-browser", "google-chrome"
-SECONDS = 20  # the longest wait for something that has to come
+SECONDS = int(os.environ.get("TEST_SECONDS", 60))  # the longest wait for something that has to come
 
 
 def find():
@@ -10,33 +10,28 @@ def find():
     return next(filter(None, map(shutil.which, PROGRAMS)), None)
 
 
-class Browser:
-    """A page in a Chromium. Its protocol is JSON over two pipes, with a NUL after each message."""
+class Chromium:
+    """A Chromium. Its protocol is JSON over two pipes, with a NUL after each message."""
 
-    def __init__(self, url, width=1000, height=700):
+    def __init__(self):
         commands, self.commands = os.pipe()
         replies, told = os.pipe()
-        self.replies, self.sent, self.session = open(replies, "rb"), 0, {}
+        self.replies, self.sent = open(replies, "rb"), 0
         self.profile = tempfile.mkdtemp(prefix="chromium-")
         words = [
             find(), "--headless", "--no-sandbox", "--disable-gpu", "--disable-dev-shm-usage",
             "--hide-scrollbars", "--remote-debugging-pipe", f"--user-data-dir={self.profile}",
         ]
         shell = f'exec "$0" "$@" 3<&{commands} 4>&{told}'
-        self.chromium = subprocess.Popen(["bash", "-c", shell, *words], pass_fds=(commands, told),
-                                         stdout=subprocess.DEVNULL, stderr=subprocess.DEVNULL)
+        self.process = subprocess.Popen(["bash", "-c", shell, *words], pass_fds=(commands, told),
+                                        stdout=subprocess.DEVNULL, stderr=subprocess.DEVNULL)
         os.close(commands)
         os.close(told)
-        target = self.ask("Target.createTarget", url=url)["targetId"]
-        found = self.ask("Target.attachToTarget", targetId=target, flatten=True)
-        self.session = {"sessionId": found["sessionId"]}
-        size = {"width": width, "height": height, "deviceScaleFactor": 1, "mobile": False}
-        self.ask("Emulation.setDeviceMetricsOverride", **size)
 
-    def ask(self, method, **params):
+    def ask(self, method, session=None, **params):
         """Sends a command and returns its result. It passes over all other messages."""
         self.sent += 1
-        command = {"id": self.sent, "method": method, "params": params, **self.session}
+        command = {"id": self.sent, "method": method, "params": params, **({"sessionId": session} if session else {})}
         os.write(self.commands, json.dumps(command).encode() + b"\0")
         while (message := self.message()).get("id") != self.sent:
             pass
@@ -49,6 +44,34 @@ class Browser:
         while (byte := self.replies.read(1)) not in (b"\0", b""):
             data += byte
         return json.loads(data)
+
+    def close(self):
+        try:
+            self.ask("Browser.close")
+            self.process.wait(SECONDS)
+        finally:
+            self.process.kill()
+            self.process.wait()
+            os.close(self.commands)
+            self.replies.close()
+            shutil.rmtree(self.profile, ignore_errors=True)
+
+
+class Browser:
+    """A page in a Chromium."""
+
+    def __init__(self, chromium, url, width=1000, height=700):
+        self.chromium = chromium
+        self.target = chromium.ask("Target.createTarget", url=url)["targetId"]
+        self.session = chromium.ask("Target.attachToTarget", targetId=self.target, flatten=True)["sessionId"]
+        self.resize(width, height)
+
+    def resize(self, width, height):
+        size = {"width": width, "height": height, "deviceScaleFactor": 1, "mobile": False}
+        self.ask("Emulation.setDeviceMetricsOverride", **size)
+
+    def ask(self, method, **params):
+        return self.chromium.ask(method, self.session, **params)
 
     def value(self, expression):
         """The value of a JavaScript expression in the page."""
@@ -65,17 +88,28 @@ class Browser:
                 raise TimeoutError(expression)
             time.sleep(0.02)
 
+    def write(self, formula):
+        """Fills the box for a formula."""
+        self.value(f"byId('formula').value = {json.dumps(formula)}; byId('formula').dispatchEvent(new Event('input'))")
+
     def type(self, formula):
         """Fills the box for a formula and sends it."""
         self.value(f"byId('formula').value = {json.dumps(formula)}; byId('open').requestSubmit()")
+
+    def press(self, key):
+        """Presses a key and lets it go."""
+        code = {"Tab": 9, "End": 35, "Home": 36, "ArrowUp": 38, "ArrowDown": 40, "PageDown": 34}[key]
+        for kind in "rawKeyDown", "keyUp":
+            self.ask("Input.dispatchKeyEvent", type=kind, key=key, code=key, windowsVirtualKeyCode=code)
+
+    def work(self):
+        """The seconds of processor that the page's thread has worked so far."""
+        self.ask("Performance.enable", timeDomain="threadTicks")
+        found = {it["name"]: it["value"] for it in self.ask("Performance.getMetrics")["metrics"]}
+        return found["TaskDuration"]
 
     def png(self):
         return base64.b64decode(self.ask("Page.captureScreenshot", format="png")["data"])
 
     def close(self):
-        self.session = {}
-        self.ask("Browser.close")
-        self.chromium.wait(SECONDS)
-        os.close(self.commands)
-        self.replies.close()
-        shutil.rmtree(self.profile, ignore_errors=True)
+        self.chromium.ask("Target.closeTarget", targetId=self.target)

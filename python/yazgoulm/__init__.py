@@ -17,15 +17,15 @@ from ._library import backend
 from ._names import to_bytes, to_name
 from ._types import (
     B_ATTR_CHANGED, B_ENTRY_CREATED, B_ENTRY_MOVED, B_ENTRY_REMOVED, B_STAT_CHANGED, FILE, FOLDER, ROOT, Applied, Attr,
-    Attribute, BadName, BadQuery, BadValues, Cause, Difference, Entry, Error, Exists, Formula, Info, Kind, Mark,
-    Message, NoMemory, NotEmpty, NotFolder, NotFound, Op, Opcode, Overrun, Place, Refused, Result, Type,
+    Attribute, BadName, BadQuery, BadSave, BadValues, Cause, Difference, Entry, Error, Exists, Formula, Info, Kept,
+    Kind, Locked, Mark, Message, NoMemory, NotEmpty, NotFolder, NotFound, NotKept, Op, Opcode, Overrun, Place, Refused, Result, Type,
 )  # fmt: skip
 from ._volume import Query, Row, Rows, Volume, quote
 
 __all__ = [
     "B_ATTR_CHANGED", "B_ENTRY_CREATED", "B_ENTRY_MOVED", "B_ENTRY_REMOVED", "B_STAT_CHANGED", "FILE", "FOLDER", "ROOT",
-    "Applied", "Attr", "Attribute", "BadName", "BadQuery", "BadValues", "Cause", "Difference", "Entry", "Error",
-    "Exists", "Formula", "Info", "Kind", "Mark", "Message", "NoMemory", "NotEmpty", "NotFolder", "NotFound", "Op",
-    "Opcode", "Overrun", "Place", "Query", "Refused", "Result", "Row", "Rows", "Type", "Volume", "__version__",
+    "Applied", "Attr", "Attribute", "BadName", "BadQuery", "BadSave", "BadValues", "Cause", "Difference", "Entry",
+    "Error", "Exists", "Formula", "Info", "Kept", "Kind", "Locked", "Mark", "Message", "NoMemory", "NotEmpty", "NotFolder",
+    "NotFound", "NotKept", "Op", "Opcode", "Overrun", "Place", "Query", "Refused", "Result", "Row", "Rows", "Type", "Volume", "__version__",
     "backend", "quote", "to_bytes", "to_name",
 ]  # fmt: skip

@@ -3,7 +3,8 @@ import math, operator
 from collections.abc import Iterable, Mapping
 from typing import Any, Dict, NoReturn, Optional, Tuple, Union
 
-from ._names import encode, encode_name
+from ._names import encode as encode
+from ._names import encode_name as encode_name
 from ._text import said
 from ._types import Attr, Op, Type
 

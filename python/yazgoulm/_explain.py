@@ -24,10 +24,11 @@ A warning is given for two kinds of lines that are carried out:
   `code`, `error`, `field`, `says`, and of a text that is marked `text` and its byte `place`. What isn't known is null.
 
 The status is 0 if no line is refused, 1 if one is, 2 if the script can't be read, 141 if nobody reads its output."""
-import argparse, difflib, json, math, re, sys
+import argparse, json, math, re, sys
 from typing import Any, BinaryIO, Dict, Iterator, List, NamedTuple, Optional, Set, Tuple
 
 from . import ROOT, NotFound, Volume, __version__
+from ._formulas import UNITS, comparisons, cut, is_number, like, no_number
 from ._names import fault
 from ._text import marked, printable
 from .folder._terminal import carried_out, say, tell
@@ -51,7 +52,6 @@ FIELDS = {
 NATURAL, WHOLE = (0, (1 << 64) - 1), (-(1 << 63), (1 << 63) - 1)
 NUMBERS = {**dict.fromkeys(("node", "dir", "slot", "size", "port", "backlog"), NATURAL), "time": WHOLE}
 TYPES = {"LONG": (-(1 << 31), (1 << 31) - 1), "LLNG": WHOLE, "ULNG": (0, (1 << 32) - 1), "ULLG": NATURAL}
-UNITS = {"size": ", of bytes,", "last_modified": ", of seconds since 1970,"}
 
 
 class Finding(NamedTuple):
@@ -94,7 +94,7 @@ def _whole(text: str) -> Any:
 
 def _double(text: str) -> Number:
     if math.isinf(float(text)):
-        raise NotJson(f"the number {_cut(text)} is beyond the doubles")
+        raise NotJson(f"the number {cut(text)} is beyond the doubles")
     return Number(text)
 
 
@@ -125,12 +125,7 @@ def _depth(text: str) -> int:
 
 def _written(value: Any) -> str:
     """A value as JSON."""
-    return _cut(value if isinstance(value, Number) else json.dumps(value, ensure_ascii=False))
-
-
-def _cut(text: str) -> str:
-    """A text for people, cut where it is long."""
-    return printable(text if len(text) <= 60 else f"{text[:40]}..{text[-16:]}")
+    return cut(value if isinstance(value, Number) else json.dumps(value, ensure_ascii=False))
 
 
 # ---- refusals
@@ -144,7 +139,7 @@ def faults(value: Any) -> Iterator[Said]:
     do = value.get("do")
     if "do" not in value or do not in [*FIELDS]:
         wrong = f"is {_written(do)}" if "do" in value else "is missing"
-        yield Said("do", f'"do" {wrong}, and may be {", ".join(FIELDS)}{_like(do, FIELDS)}')
+        yield Said("do", f'"do" {wrong}, and may be {", ".join(FIELDS)}{like(do, FIELDS)}')
         return
     for name, has_default in _fields(do):
         if name in value:
@@ -158,12 +153,6 @@ def faults(value: Any) -> Iterator[Said]:
 def _fields(do: str) -> List[Tuple[str, bool]]:
     """The fields of a `do`, each with whether it has a default."""
     return [(it.strip("[]"), it[0] == "[") for it in FIELDS[do].split()]
-
-
-def _like(word: Any, words: Any) -> str:
-    """The word that was meant, if one is much like it."""
-    near = difflib.get_close_matches(word, words, 1, 0.7) if isinstance(word, str) else []
-    return f': did you mean "{near[0]}"?' if near else ""
 
 
 def _wrong(name: str, value: Any, type: Any) -> str:
@@ -217,32 +206,6 @@ REASONS = {
     23: (None, "all 64 slots are taken: finish one"),
     26: ("slot", "the mark of slot {slot} wasn't read: close it, and read it to the end"),
 }
-
-
-# ---- formulas
-
-TOKEN = re.compile(
-    r"""==|!=|<=|>=|&&|\|\||[=!<>()]|"(?:[^"\\]|\\.)*"|'(?:[^'\\]|\\.)*'|(?:[^ \t\n\r()!&|=<>"'\\]|\\.)+""", re.S
-)
-OPERATORS = "==", "=", "!=", "<", "<=", ">", ">="
-
-
-def comparisons(formula: str) -> Iterator[Tuple[str, str, int]]:
-    """Each comparison of a formula that can be read: its attribute, its literal, and the literal's first byte."""
-    tokens = [(it[0], it.start()) for it in TOKEN.finditer(formula)]
-    for (attr, _), (operator, _), (literal, at) in zip(tokens, tokens[1:], tokens[2:]):
-        if operator in OPERATORS:
-            yield _plain(attr), _plain(literal), len(formula[:at].encode())
-
-
-def _plain(token: str) -> str:
-    """A token without its quotes, and without the `\\` before a character."""
-    return re.sub(r"(?s)\\(.)", r"\1", token[1:-1] if token[0] in "\"'" else token)
-
-
-def is_number(literal: str) -> bool:
-    """Whether a literal is compared as a number."""
-    return re.fullmatch("-?[0-9]{1,20}", literal) is not None
 
 
 # ---- a script
@@ -325,8 +288,8 @@ class Explainer:
             return Said("node", "the root can't be changed")
         if code in (1, 12, 25):
             return {1: _bad_name, 12: _too_long, 25: _not_open}[code](it)
-        field, says = REASONS.get(code, (None, "see the table of refusals in docs/SPECIFICATION.md"))
-        return Said(field, says.format(dir=it["dir"], slot=it.get("slot")))
+        about, says = REASONS.get(code, (None, "see the table of refusals in docs/SPECIFICATION.md"))
+        return Said(about, says.format(dir=it["dir"], slot=it.get("slot")))
 
     def is_there(self, node: int) -> bool:
         try:
@@ -340,17 +303,16 @@ class Explainer:
         do = value["do"]
         known = [name for name, _ in _fields(do)]
         for name in value:
-            meant = _like(name, [it for it in known if it not in value]) if name not in ("do", *known) else ""
+            meant = like(name, [it for it in known if it not in value]) if name not in ("do", *known) else ""
             if meant:
                 self.warned += 1
-                yield Finding(self.count, "warning", None, None, name, f'{do} ignores the field "{_cut(name)}"{meant}')
+                yield Finding(self.count, "warning", None, None, name, f'{do} ignores the field "{cut(name)}"{meant}')
         if do == "set":
             (self.texts if value["type"] == "CSTR" else self.numbers).add(value["attr"])
-        for attr, literal, place in comparisons(value["query"]) if do in ("open", "fetch") else ():
+        for attr, _, literal, place, *_ in comparisons(value["query"]) if do in ("open", "fetch") else ():
             if is_number(literal):
                 continue
-            is_none = f"{_written(literal)} is none, so this comparison is always false"
-            says = f"{_cut(attr)} is a number{UNITS.get(attr, '')} and {is_none}"
+            says = no_number(attr, literal)
             finding = Finding(self.count, "warning", None, None, "query", says, value["query"], place)
             if attr in UNITS:
                 self.warned += 1

@@ -4,19 +4,26 @@
 #define PY_SSIZE_T_CLEAN
 #include <Python.h>
 #include <dlfcn.h>
+#include <errno.h>
 #include <lq.h>
+#include <lq_journal.h>
 #include <stddef.h>
 #include <structmember.h>
+#include <unistd.h>
 
 /* ---- what one import of the package has ---- */
 
+/* drawn by tools/api */
 #define CALLS(X) \
-    X(version) X(status_name) X(volume_open_as) X(volume_close) X(fault_place) X(answer) X(text) X(create) X(remove) \
-    X(move) X(write) X(set_text) X(set_int32) X(set_int64) X(set_uint32) X(set_uint64) X(unset) X(take) X(query_open) \
-    X(ready) X(read) X(hang_up) X(query_close) X(finish) X(drop) X(fetch) X(find) X(find_path) X(entry) X(attr_at) \
-    X(attr_named) X(children) X(path) X(changes) X(push_attr) X(push_text) X(push_int32) X(push_int64) X(push_uint32) \
-    X(push_uint64) X(push_op) X(clear_pushed) X(query_open_pushed) X(fetch_pushed) X(quote) X(bind_text) X(bind_int64) \
-    X(bind_uint64) X(clear_bound) X(query_open_bound) X(fetch_bound)
+    X(version) X(status_name) X(volume_open_as) X(volume_close) X(fault_place) X(save) X(load_as) X(volume_copy) \
+ X(fault_node) X(fault_reason) X(answer) X(text) X(create) X(remove) X(move) X(write) X(set_text) X(set_int32) \
+ X(set_int64) X(set_uint32) X(set_uint64) X(unset) X(take) X(next) X(query_open) X(ready) X(on_ready) X(read) \
+ X(read_many) X(hang_up) X(query_close) X(finish) X(drop) X(result) X(fetch) X(find) X(find_path) X(entry) X(attr_at) \
+ X(attr_named) X(children) X(path) X(changes) X(push_attr) X(push_text) X(push_int32) X(push_int64) X(push_uint32) \
+ X(push_uint64) X(push_op) X(clear_pushed) X(query_open_pushed) X(fetch_pushed) X(quote) X(bind_text) X(bind_int64) \
+ X(bind_uint64) X(clear_bound) X(query_open_bound) X(fetch_bound) X(journal_open_as) X(journal_close) X(journal_turn) \
+ X(journal_due) X(journal_sync) X(journal_hold)
+/* end of what tools/api draws */
 
 /* What is taken of _arguments.py and _types.py. */
 #define ARGUMENTS(X) X(encode) X(encode_name) X(kind) X(natural) X(no_value) X(whole)
@@ -28,6 +35,7 @@
    another interpreter, or again after its modules were taken out of sys.modules. Each import has classes of its own,
    and what came of an earlier one goes on with those. */
 typedef struct {
+    void *library;
 #define X(name) __typeof__(&lq_##name) name;
     CALLS(X)
 #undef X
@@ -61,7 +69,7 @@ static PyObject *word(PyObject *words, uint32_t number) {
 
 /* Fills it. -1, with an exception: the path is not the library, or one of another version. */
 static int fill_own(Own *own, const char *path, PyObject *arguments, PyObject *types) {
-    void *opened = dlopen(path, RTLD_NOW | RTLD_LOCAL);
+    void *opened = own->library = dlopen(path, RTLD_NOW | RTLD_LOCAL);
     if (!opened) {
         PyErr_Format(PyExc_ImportError, "%s is not the library: %s", path, dlerror());
         return -1;
@@ -227,15 +235,18 @@ static void leave_text(text_given *it) {
 
 /* ---- handles ---- */
 
-/* A handle, with the lock of its volume: a call takes it, and Python's `with` does for what takes several. The thread
-   that has it, `depth` times, may take it again, from a finalizer say. All of it is read and written under the
+/* A handle, with the lock of its volume: a call takes it, and `locked` does for what takes several. The thread that
+   has it, `depth` times, may take it again, from a finalizer say. All of it is read and written under the
    interpreter's lock, so it is free or taken by its fields alone. Who waits for it does so at a gate, which is shut but
-   for the moment in which one thread passes. */
+   for the moment in which one thread passes. A call that takes long lets the interpreter's lock go, and keeps this. */
 typedef struct {
     PyObject_HEAD
     lq handle;
+    lq_journal journal; /* where the volume is kept */
     const Own *own; /* which the type owns */
     bool is_open;
+    char is_unsure; /* whether a slot may be open that no query has: see Volume */
+    uint64_t untold; /* the slot of the last opening, until a query has it; else 0 */
     unsigned long owner;
     int depth, waiting;
     PyThread_type_lock gate;
@@ -275,11 +286,24 @@ static void leave(Handle *self) {
 /* What stands for a status where the call wasn't made: the volume is closed, or an exception is set. */
 static const lq_status CLOSED = (lq_status)UINT32_MAX, RAISED = (lq_status)(UINT32_MAX - 1);
 
-/* The status of a call that is made under the lock. */
+/* The status of a call that is made under the lock. One of a kept volume may wait for a disk. */
 #define LOCKED(call) ({ \
         enter(self); \
+        PyThreadState *state = self->journal.at ? PyEval_SaveThread() : NULL; \
         lq_status answered = self->is_open ? own->call : CLOSED; \
+        if (state) PyEval_RestoreThread(state); \
         leave(self); \
+        answered; \
+    })
+
+/* A call under the lock that may take long, so that other threads run meanwhile: it lets the interpreter's lock go. In
+   a volume of few changes, which has fewer entries, no call takes long, and letting go would cost more. */
+enum { FEW_CHANGES = 1000 };
+#define LONG_CALL(call) ({ \
+        bool is_long = self->journal.at || own->changes(&self->handle) > FEW_CHANGES; \
+        PyThreadState *state = is_long ? PyEval_SaveThread() : NULL; \
+        lq_status answered = own->call; \
+        if (state) PyEval_RestoreThread(state); \
         answered; \
     })
 
@@ -342,9 +366,16 @@ static PyObject *Handle_new(PyTypeObject *type, PyObject *Py_UNUSED(args), PyObj
     return (PyObject *)self;
 }
 
-static void close_handle(Handle *self) {
-    if (self->is_open) self->own->volume_close(&self->handle);
+/* LQ_UNKEPT: what wasn't on disk may not be there. */
+static lq_status close_handle(Handle *self) {
+    if (!self->is_open) return LQ_OK;
+    lq_status status = LQ_OK;
     self->is_open = false;
+    Py_BEGIN_ALLOW_THREADS
+    if (self->journal.at) status = self->own->journal_close(&self->journal);
+    self->own->volume_close(&self->handle); /* which the journal has closed, but after a fork */
+    Py_END_ALLOW_THREADS
+    return status;
 }
 
 static void Handle_dealloc(Handle *self) {
@@ -360,18 +391,42 @@ static void Handle_dealloc(Handle *self) {
 
 static PyObject *Handle_free(Handle *self, PyObject *Py_UNUSED(none)) {
     enter(self);
-    close_handle(self);
+    lq_status status = close_handle(self);
     leave(self);
-    Py_RETURN_NONE;
+    return PyLong_FromLong((long)status);
 }
 
 static PyObject *Handle_is_open(Handle *self, PyObject *Py_UNUSED(none)) {
     return PyBool_FromLong(self->is_open);
 }
 
-/* The lock, with the methods of Python's. It is the handle itself. */
-static PyObject *Handle_lock(Handle *self, void *Py_UNUSED(none)) {
-    return same((PyObject *)self);
+/* What a call gives, made under the lock. No handler of a signal can run between the call and what gives it back. */
+static PyObject *Handle_locked(Handle *self, PyObject *const *args, Py_ssize_t count) {
+    if (count < 1) return PyErr_SetString(PyExc_TypeError, "no call"), NULL;
+    enter(self);
+    PyObject *given = PyObject_Vectorcall(args[0], args + 1, (size_t)count - 1, NULL);
+    leave(self);
+    return given;
+}
+
+/* Makes a call under the lock, unless another thread has it, or this one has and it isn't to be made within. True: it
+   was made. */
+static PyObject *Handle_tried(Handle *self, PyObject *const *args, Py_ssize_t count) {
+    if (count != 2) return PyErr_SetString(PyExc_TypeError, "no call and no word on calls within"), NULL;
+    if ((self->depth > 0 && args[1] != Py_True) || !enter_if(self, false)) Py_RETURN_FALSE;
+    PyObject *given = PyObject_CallNoArgs(args[0]);
+    leave(self);
+    if (!given) return NULL;
+    Py_DECREF(given);
+    Py_RETURN_TRUE;
+}
+
+/* In the child of a fork, where nobody waits: a thread of the parent may have passed the gate and not said so. */
+static PyObject *Handle_forked(Handle *self, PyObject *Py_UNUSED(none)) {
+    PyThread_acquire_lock(self->gate, NOWAIT_LOCK);
+    self->waiting = 0;
+    self->is_gate_open = false;
+    Py_RETURN_NONE;
 }
 
 static PyObject *Handle_acquire(Handle *self, PyObject *const *args, Py_ssize_t count) {
@@ -386,18 +441,14 @@ static PyObject *Handle_release(Handle *self, PyObject *Py_UNUSED(none)) {
     Py_RETURN_NONE;
 }
 
-static PyObject *Handle_enter(Handle *self, PyObject *Py_UNUSED(none)) {
-    enter(self);
-    Py_RETURN_NONE;
-}
-
-static PyObject *Handle_exit(Handle *self, PyObject *const *Py_UNUSED(args), Py_ssize_t Py_UNUSED(count)) {
-    return Handle_release(self, NULL);
+static PyObject *Handle_is_mine(Handle *self, PyObject *Py_UNUSED(none)) {
+    return PyBool_FromLong(self->depth > 0 && self->owner == PyThread_get_thread_ident());
 }
 
 /* A method. */
 #define METHOD(name) static PyObject *Handle_##name(Handle *self, PyObject *const *args, Py_ssize_t count)
-/* Begins one of `wanted` arguments. They are taken before the lock is, since what they are may call Python. */
+/* Begins one of `wanted` arguments. They are taken before the lock is, since what they are may call Python, and in
+   their order: of two that are wrong the first is named. */
 #define TAKES(wanted) \
     const Own *own = self->own; \
     if (count != (wanted)) return PyErr_Format(PyExc_TypeError, "%zd arguments, not %d", count, wanted); \
@@ -416,10 +467,10 @@ METHOD(create) {
     uint32_t what;
     text_given name;
     lq_applied out;
+    if (take_text(own->py_encode_name, "name", args[0], &name)) return NULL;
     if (take_natural(own, "dir", args[1], &dir) || take_kind(own, args[2], &what) ||
-        take_natural(own, "size", args[3], &size) || take_whole(own, "time", args[4], &time) ||
-        take_text(own->py_encode_name, "name", args[0], &name))
-        return NULL;
+        take_natural(own, "size", args[3], &size) || take_whole(own, "time", args[4], &time))
+        return leave_text(&name), NULL;
     lq_status status = LOCKED(create(&self->handle, dir, TEXT(name), what, size, time, &out));
     leave_text(&name);
     return status == LQ_OK ? applied(own, &out) : REFUSED("create");
@@ -439,10 +490,11 @@ METHOD(move) {
     uint64_t node, dir;
     text_given name;
     lq_applied out;
-    int clobber = PyObject_IsTrue(args[3]);
-    if (clobber < 0 || take_natural(own, "node", args[0], &node) || take_natural(own, "dir", args[1], &dir) ||
+    if (take_natural(own, "node", args[0], &node) || take_natural(own, "dir", args[1], &dir) ||
         take_text(own->py_encode_name, "name", args[2], &name))
         return NULL;
+    int clobber = PyObject_IsTrue(args[3]);
+    if (clobber < 0) return leave_text(&name), NULL;
     lq_status status = LOCKED(move(&self->handle, node, dir, TEXT(name), clobber, &out));
     leave_text(&name);
     return status == LQ_OK ? applied(own, &out) : REFUSED("move");
@@ -542,7 +594,12 @@ METHOD(answer) {
     size_t size;
     PyObject *reply = NULL;
     enter(self);
-    lq_status status = LOCKED(answer(&self->handle, TEXT(line), &size));
+    if (self->is_unsure) { /* a sweep is due before it */
+        leave(self);
+        leave_text(&line);
+        Py_RETURN_NONE;
+    }
+    lq_status status = self->is_open ? LONG_CALL(answer(&self->handle, TEXT(line), &size)) : CLOSED;
     if (status == LQ_OK) reply = PyBytes_FromStringAndSize(NULL, (Py_ssize_t)size);
     if (reply) own->text(&self->handle, PyBytes_AS_STRING(reply), size);
     leave(self);
@@ -576,6 +633,149 @@ METHOD(changes) {
     return natural(changes);
 }
 
+/* ---- a volume that is kept ---- */
+
+/* A file that is written or read, and the errno of what failed. */
+typedef struct {
+    int descriptor, fault;
+} kept_file;
+
+static ptrdiff_t write_to(void *user, const void *bytes, size_t size) {
+    kept_file *file = user;
+    ptrdiff_t took = write(file->descriptor, bytes, size);
+    if (took < 0) file->fault = errno;
+    return took;
+}
+
+static ptrdiff_t read_from(void *user, void *bytes, size_t room) {
+    kept_file *file = user;
+    ptrdiff_t got = read(file->descriptor, bytes, room);
+    if (got < 0) file->fault = errno;
+    return got;
+}
+
+/* Raises what a call with a file was refused by: the fault of the file, or the status. */
+static PyObject *refused_file(Handle *self, lq_status status, const kept_file *file, const char *name) {
+    if (status != LQ_SYSTEM) return refused_at(self, status, 0, name, NULL, 0);
+    errno = file->fault;
+    return PyErr_SetFromErrno(PyExc_OSError);
+}
+
+/* Writes the volume to a descriptor. */
+METHOD(save) {
+    TAKES(1);
+    kept_file file = {(int)PyLong_AsLong(args[0]), 0};
+    if (PyErr_Occurred()) return NULL;
+    enter(self);
+    lq_status status = self->is_open ? LONG_CALL(save(&self->handle, write_to, &file)) : CLOSED;
+    leave(self);
+    if (status != LQ_OK) return refused_file(self, status, &file, "save");
+    Py_RETURN_NONE;
+}
+
+/* Puts a volume that is read from a descriptor in place of its own. Where the bytes are refused, it gives what they are
+   refused by; in each case but success the handle is closed then. */
+METHOD(load) {
+    TAKES(1);
+    lq *handle = &self->handle;
+    kept_file file = {(int)PyLong_AsLong(args[0]), 0};
+    if (PyErr_Occurred()) return NULL;
+    enter(self);
+    close_handle(self);
+    PyThreadState *state = PyEval_SaveThread();
+    lq_status status = own->load_as(handle, LQ_VERSION, read_from, &file);
+    PyEval_RestoreThread(state);
+    self->is_open = status == LQ_OK;
+    leave(self);
+    if (status == LQ_OK) Py_RETURN_NONE;
+    if (status != LQ_BAD_SAVE && status != LQ_OTHER_VERSION) return refused_file(self, status, &file, "load");
+    return Py_BuildValue("isKKs", (int)status, own->status_name(status), (unsigned long long)own->fault_place(handle),
+                         (unsigned long long)own->fault_node(handle), own->fault_reason(handle));
+}
+
+/* Puts a copy of another handle's volume in place of its own. */
+METHOD(copy) {
+    TAKES(1);
+    if (Py_TYPE(args[0]) != Py_TYPE(self)) return PyErr_SetString(PyExc_TypeError, "no handle"), NULL;
+    Handle *other = (Handle *)args[0];
+    enter(other);
+    enter(self);
+    close_handle(self);
+    lq_status status = CLOSED;
+    if (other->is_open) {
+        PyThreadState *state = own->changes(&other->handle) > FEW_CHANGES ? PyEval_SaveThread() : NULL;
+        status = own->volume_copy(&other->handle, &self->handle);
+        if (state) PyEval_RestoreThread(state);
+    }
+    self->is_open = status == LQ_OK;
+    leave(self);
+    leave(other);
+    if (status != LQ_OK) return refused_at(self, status, 0, "copy", args, 0);
+    Py_RETURN_NONE;
+}
+
+/* Puts the volume that a folder keeps in place of its own. What the opening answers and has found; if it is refused, the
+   handle is closed then. */
+METHOD(keep) {
+    TAKES(3);
+    char *path;
+    Py_ssize_t size;
+    lq_journal_options options = LQ_JOURNAL_OPTIONS_INIT;
+    lq_journal_report it = {0};
+    if (PyBytes_AsStringAndSize(args[0], &path, &size)) return NULL;
+    options.sync = PyLong_AsUnsignedLongLong(args[1]);
+    options.damaged = PyObject_IsTrue(args[2]) == 1;
+    if (PyErr_Occurred()) return NULL;
+    enter(self);
+    close_handle(self);
+    PyThreadState *state = PyEval_SaveThread();
+    lq_status status =
+        own->journal_open_as(&self->journal, &self->handle, LQ_VERSION, path, (size_t)size, &options, &it);
+    PyEval_RestoreThread(state);
+    self->is_open = status == LQ_OK;
+    leave(self);
+    return Py_BuildValue("isKKKzi", (int)status, own->status_name(status), (unsigned long long)it.replayed,
+                         (unsigned long long)it.dropped, (unsigned long long)it.place, it.reason, (int)it.fault);
+}
+
+/* Makes a turn of the journal. None: there is none. */
+METHOD(keep_turn) {
+    (void)args;
+    TAKES(0);
+    lq_journal_turned it = {0};
+    enter(self);
+    bool is_kept = self->is_open && self->journal.at;
+    lq_status status = LQ_OK;
+    if (is_kept) {
+        PyThreadState *state = PyEval_SaveThread();
+        status = own->journal_turn(&self->journal, &it);
+        PyEval_RestoreThread(state);
+    }
+    leave(self);
+    if (!is_kept) Py_RETURN_NONE;
+    return Py_BuildValue("isKKKOOi", (int)status, own->status_name(status), (unsigned long long)it.due,
+                         (unsigned long long)it.size, (unsigned long long)it.unsynced, it.cutting ? Py_True : Py_False,
+                         it.halted ? Py_True : Py_False, (int)it.fault);
+}
+
+/* Syncs the journal: the status. */
+METHOD(keep_sync) {
+    (void)args;
+    TAKES(0);
+    lq_status status = self->journal.at ? LOCKED(journal_sync(&self->journal)) : LQ_OK;
+    if (status == CLOSED) return refused_at(self, CLOSED, 0, "", NULL, 0);
+    return PyLong_FromLong((long)status);
+}
+
+/* Begins a batch of the journal: the status. */
+METHOD(keep_hold) {
+    (void)args;
+    TAKES(0);
+    lq_status status = self->journal.at ? LOCKED(journal_hold(&self->journal)) : LQ_OK;
+    if (status == CLOSED) return refused_at(self, CLOSED, 0, "", NULL, 0);
+    return PyLong_FromLong((long)status);
+}
+
 /* ---- results ---- */
 
 static PyObject *entry(const Own *own, const lq_row *it) {
@@ -583,15 +783,19 @@ static PyObject *entry(const Own *own, const lq_row *it) {
                   kind(own, it->kind), natural(it->size), PyLong_FromLongLong(it->time));
 }
 
-/* The entries of a result that was just made, under the same lock. */
+/* The entries of a result that was just made, under the same lock. Of many it lets the interpreter's lock go after each
+   4,096, and nobody meets the list before it is whole. */
 static PyObject *taken(Handle *self, size_t whole, uint64_t result) {
-    enum { ROOM = 64 };
+    enum { ROOM = 64, PIECE = 4096 };
     const Own *own = self->own;
     lq_row rows[ROOM];
     PyObject *list = PyList_New((Py_ssize_t)whole);
     size_t got = 0;
+    if (list) PyObject_GC_UnTrack(list);
     for (size_t done = 0; list && done < whole; done += got) {
-        lq_status status = own->take(&self->handle, result, rows, ROOM, &got);
+        bool is_piece = done > 0 && done % PIECE == 0;
+        lq_status status = is_piece ? LONG_CALL(take(&self->handle, result, rows, ROOM, &got))
+                                    : own->take(&self->handle, result, rows, ROOM, &got);
         if (status != LQ_OK || got == 0 || got > whole - done) {
             PyErr_Format(PyExc_RuntimeError, "the volume was used while it gave a result: %d", (int)status);
             Py_CLEAR(list);
@@ -602,6 +806,7 @@ static PyObject *taken(Handle *self, size_t whole, uint64_t result) {
             else Py_CLEAR(list);
         }
     }
+    if (list) PyObject_GC_Track(list);
     return list;
 }
 
@@ -730,13 +935,13 @@ static lq_status ask(Handle *self, const asked *it, const lq_options *options, l
     if (!self->is_open) return CLOSED;
     lq_status status = !is_formula ? push_all(self, it->given, place) : it->values ? bind_all(self, it->values) : LQ_OK;
     if (status != LQ_OK) return status;
-    if (options && !is_formula) status = own->query_open_pushed(handle, options, out);
-    else if (options && it->values) status = own->query_open_bound(handle, TEXT(it->formula), options, out);
-    else if (options) status = own->query_open(handle, TEXT(it->formula), options, out);
+    if (options && !is_formula) status = LONG_CALL(query_open_pushed(handle, options, out));
+    else if (options && it->values) status = LONG_CALL(query_open_bound(handle, TEXT(it->formula), options, out));
+    else if (options) status = LONG_CALL(query_open(handle, TEXT(it->formula), options, out));
     else {
-        if (!is_formula) status = own->fetch_pushed(handle, &fetched);
-        else if (it->values) status = own->fetch_bound(handle, TEXT(it->formula), &fetched);
-        else status = own->fetch(handle, TEXT(it->formula), &fetched);
+        if (!is_formula) status = LONG_CALL(fetch_pushed(handle, &fetched));
+        else if (it->values) status = LONG_CALL(fetch_bound(handle, TEXT(it->formula), &fetched));
+        else status = LONG_CALL(fetch(handle, TEXT(it->formula), &fetched));
         out->count = fetched.count;
         out->result = fetched.result;
     }
@@ -780,7 +985,7 @@ METHOD(children) {
     PyObject *entries = NULL;
     if (take_natural(own, "dir", args[0], &dir)) return NULL;
     enter(self);
-    lq_status status = LOCKED(children(&self->handle, dir, &out));
+    lq_status status = self->is_open ? LONG_CALL(children(&self->handle, dir, &out)) : CLOSED;
     if (status == LQ_OK) entries = taken(self, out.count, out.result);
     leave(self);
     return status == LQ_OK ? entries : REFUSED("children");
@@ -792,9 +997,8 @@ static PyObject *found(Handle *self, bool is_path, PyObject *const *args, Py_ssi
     TAKES(2);
     uint64_t dir, node;
     text_given name;
-    if (take_natural(own, "dir", args[1], &dir) ||
-        take_text(own->py_encode_name, is_path ? "path" : "name", args[0], &name))
-        return NULL;
+    if (take_text(own->py_encode_name, is_path ? "path" : "name", args[0], &name)) return NULL;
+    if (take_natural(own, "dir", args[1], &dir)) return leave_text(&name), NULL;
     lq_status status = is_path ? LOCKED(find_path(&self->handle, dir, TEXT(name), &node))
                                : LOCKED(find(&self->handle, dir, TEXT(name), &node));
     leave_text(&name);
@@ -884,11 +1088,23 @@ METHOD(open) {
     lq_status status = ask(self, &it, &options, &out, &place, &bound);
     if (status == LQ_OK) entries = taken(self, out.count, out.result);
     if (status == LQ_OK && !entries) own->drop(&self->handle, out.slot);
+    if (entries) self->untold = out.slot;
     leave(self);
     leave_text(&it.formula);
     if (status != LQ_OK) return refused_in(self, status, place, bound, "open", args, count);
     if (!entries) return NULL;
     return Py_BuildValue("KKN", (unsigned long long)out.slot, (unsigned long long)out.at, entries);
+}
+
+/* The slot of the last opening, where no query has it yet, else 0. */
+static PyObject *Handle_untold(Handle *self, PyObject *Py_UNUSED(none)) {
+    return natural(self->untold);
+}
+
+/* A query has it. */
+static PyObject *Handle_told(Handle *self, PyObject *Py_UNUSED(none)) {
+    self->untold = 0;
+    Py_RETURN_NONE;
 }
 
 /* A call of a slot that gives nothing. */
@@ -923,12 +1139,15 @@ METHOD(ready) {
 
 /* ---- readers ---- */
 
-/* What a query is read by, and a Query is one: `slot` is None where it has none, `mark` where its end wasn't read.
-   Under the nodes of the result stand `placed`, what says where an entry is, and `rows`, those that were asked for. */
+/* What a query is read by, and a Query is one: `slot` is None where it has none, `mark` where its end wasn't read, and
+   `is_closed` where `close` has ended it, after the change `covered`. Under the nodes of the result stand `placed`,
+   what says where an entry is, and `rows`, those that were asked for. */
 typedef struct {
     PyObject_HEAD
     Handle *handle;
     PyObject *slot, *mark, *latest, *placed, *rows;
+    bool is_closed;
+    uint64_t covered;
 } Reader;
 
 static int Reader_traverse(Reader *self, visitproc visit, void *arg) {
@@ -971,6 +1190,7 @@ static PyObject *Reader_begin(Reader *self, PyObject *const *args, Py_ssize_t co
         *fields[at] = same(args[at]);
         Py_XDECREF(old);
     }
+    self->is_closed = false;
     Py_CLEAR(self->mark);
     Py_CLEAR(self->latest);
     Py_RETURN_NONE;
@@ -1034,6 +1254,33 @@ static bool is_there(PyObject *field) {
     return field && field != Py_None;
 }
 
+/* Ends the query, under the lock, unless it has ended. The last change that is covered; None: it ended by itself, and
+   the mark that says so wasn't read. */
+static PyObject *close_reader(Reader *self) {
+    enum { CHANGE = 1 };
+    Handle *handle = self->handle;
+    const Own *own = handle->own;
+    uint64_t slot;
+    if (is_there(self->mark)) return same(PyTuple_GET_ITEM(self->mark, CHANGE));
+    if (self->is_closed) return natural(self->covered);
+    if (take_natural(own, "slot", self->slot, &slot)) return NULL;
+    lq_status status = handle->is_open ? own->query_close(&handle->handle, slot, &self->covered) : CLOSED;
+    if (status == LQ_NOT_OPEN) Py_RETURN_NONE;
+    if (status != LQ_OK) return refused_at(handle, status, 0, "close", &self->slot, 1);
+    self->is_closed = true;
+    return natural(self->covered);
+}
+
+static PyObject *Reader_close(Reader *self, PyObject *Py_UNUSED(none)) {
+    Handle *handle = self->handle;
+    PyObject *covered = NULL;
+    if (handle) enter(handle);
+    if (!handle || !is_there(self->slot)) PyErr_SetString(PyExc_ValueError, "the query was dropped or finished");
+    else covered = close_reader(self);
+    if (handle) leave(handle);
+    return covered;
+}
+
 /* One step of the iteration. After the end `_ended` says whether it stops or raises. */
 static PyObject *Reader_next(Reader *self) {
     PyObject *made = NULL, *mark = NULL;
@@ -1049,6 +1296,11 @@ static PyObject *Reader_next(Reader *self) {
     return made;
 }
 
+/* ---- folders ---- */
+
+#define IS_PART 1
+#include "_native_folder.c"
+
 /* ---- the module ---- */
 
 #define FAST(name) {#name, (PyCFunction)(void (*)(void))Handle_##name, METH_FASTCALL, NULL},
@@ -1058,22 +1310,28 @@ static PyMethodDef handle_methods[] = {
     {"is_open", (PyCFunction)Handle_is_open, METH_NOARGS, NULL},
     {"release", (PyCFunction)Handle_release, METH_NOARGS, NULL},
     {"quote", Handle_quote, METH_O | METH_CLASS, NULL},
-    {"__enter__", (PyCFunction)Handle_enter, METH_NOARGS, NULL},
-    {"__exit__", (PyCFunction)(void (*)(void))Handle_exit, METH_FASTCALL, NULL},
-    FAST(acquire) FAST(create) FAST(remove) FAST(move) FAST(write) FAST(set) FAST(unset) FAST(answer) FAST(path)
-    FAST(changes) FAST(fetch) FAST(children) FAST(find) FAST(find_path) FAST(entry) FAST(attribute) FAST(open)
-    FAST(hang_up) FAST(finish) FAST(drop) FAST(close) FAST(ready)
+    {"is_mine", (PyCFunction)Handle_is_mine, METH_NOARGS, NULL},
+    {"untold", (PyCFunction)Handle_untold, METH_NOARGS, NULL},
+    {"told", (PyCFunction)Handle_told, METH_NOARGS, NULL},
+    FAST(locked) FAST(acquire) FAST(create) FAST(remove) FAST(move) FAST(write) FAST(set) FAST(unset) FAST(answer)
+    FAST(path) FAST(changes) FAST(fetch) FAST(children) FAST(find) FAST(find_path) FAST(entry) FAST(attribute)
+    FAST(open) FAST(hang_up) FAST(finish) FAST(drop) FAST(close) FAST(ready) FAST(save) FAST(load) FAST(copy)
+    FAST(keep) FAST(keep_turn) FAST(keep_sync) FAST(keep_hold) FAST(tried)
+    {"forked", (PyCFunction)Handle_forked, METH_NOARGS, NULL},
     {NULL, NULL, 0, NULL}
 };
 
-static PyGetSetDef handle_fields[] = {{"lock", (getter)Handle_lock, NULL, NULL, NULL}, {NULL, NULL, NULL, NULL, NULL}};
+static PyMemberDef handle_fields[] = {
+    {"is_unsure", T_BOOL, offsetof(Handle, is_unsure), 0, NULL},
+    {NULL, 0, 0, 0, NULL},
+};
 
 static PyType_Slot handle_slots[] = {
     {Py_tp_doc, (void *)"A handle of the library. Each call takes its lock."},
     {Py_tp_new, Handle_new},
     {Py_tp_dealloc, Handle_dealloc},
     {Py_tp_methods, handle_methods},
-    {Py_tp_getset, handle_fields},
+    {Py_tp_members, handle_fields},
     {0, NULL},
 };
 
@@ -1081,6 +1339,7 @@ static PyType_Spec handle_spec = {"yazgoulm._native.Handle", sizeof(Handle), 0, 
 
 static PyMethodDef reader_methods[] = {
     {"_begin", (PyCFunction)(void (*)(void))Reader_begin, METH_FASTCALL, NULL},
+    {"_close", (PyCFunction)Reader_close, METH_NOARGS, NULL},
     {NULL, NULL, 0, NULL},
 };
 
@@ -1132,7 +1391,15 @@ static PyObject *load(PyObject *Py_UNUSED(module), PyObject *args) {
     return both;
 }
 
-static PyMethodDef module_methods[] = {{"load", load, METH_VARARGS, NULL}, {NULL, NULL, 0, NULL}};
+/* The sum of the sources of which this was built: see _sources.py. */
+static PyObject *sources(PyObject *Py_UNUSED(module), PyObject *Py_UNUSED(none)) {
+    return PyUnicode_FromString(SOURCES);
+}
+
+static PyMethodDef module_methods[] = {
+    {"load", load, METH_VARARGS, NULL}, {"load_folder", load_folder, METH_VARARGS, NULL},
+    {"sources", sources, METH_NOARGS, NULL}, {NULL, NULL, 0, NULL},
+};
 
 /* Nothing here is written after it is compiled, so each interpreter may have the module, with a lock of its own. */
 static PyModuleDef_Slot module_slots[] = {

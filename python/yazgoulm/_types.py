@@ -69,10 +69,16 @@ class Opcode(_Word):
     """What a message says of its entry, by the numbers of BeOS. It entered the result, left it, or moved in it; or its
     size and time were written, or an attribute of it was set or removed. The last two come with `values` alone."""
 
-    B_ENTRY_CREATED, B_ENTRY_REMOVED, B_ENTRY_MOVED, B_STAT_CHANGED, B_ATTR_CHANGED = range(1, 6)
+    B_ENTRY_CREATED = 1
+    B_ENTRY_REMOVED = 2
+    B_ENTRY_MOVED = 3
+    B_STAT_CHANGED = 4
+    B_ATTR_CHANGED = 5
 
 
-B_ENTRY_CREATED, B_ENTRY_REMOVED, B_ENTRY_MOVED, B_STAT_CHANGED, B_ATTR_CHANGED = Opcode
+B_ENTRY_CREATED, B_ENTRY_REMOVED = Opcode.B_ENTRY_CREATED, Opcode.B_ENTRY_REMOVED
+B_ENTRY_MOVED = Opcode.B_ENTRY_MOVED
+B_STAT_CHANGED, B_ATTR_CHANGED = Opcode.B_STAT_CHANGED, Opcode.B_ATTR_CHANGED
 
 
 class Cause(_Text):
@@ -89,7 +95,18 @@ CAUSES = {cause.code: cause for cause in Cause}
 class Op(enum.IntEnum):
     """An operator among the pushes of a query: it takes what it needs from those before it."""
 
-    EQ, NE, GT, GE, LT, LE, CONTAINS, BEGINS_WITH, ENDS_WITH, AND, OR, NOT = range(1, 13)
+    EQ = 1
+    NE = 2
+    GT = 3
+    GE = 4
+    LT = 5
+    LE = 6
+    CONTAINS = 7
+    BEGINS_WITH = 8
+    ENDS_WITH = 9
+    AND = 10
+    OR = 11
+    NOT = 12
 
 
 class Attr(NamedTuple):
@@ -206,10 +223,13 @@ class Refused(Error):
 
     `call` is the name of the call, and `arguments` what it was given. `reason` says what is wrong with one of these,
     where they alone show it, and is empty elsewhere. Of an entry that `create` had made before one of
-    its attributes was refused, `node` is the node, and `attributes` has the names of those that were set."""
+    its attributes was refused, `node` is the node, and `attributes` has the names of those that were set. Within
+    `apply`, `at` is how many changes came before it, and `applied` what they returned."""
 
     node: Optional[int] = None
     attributes: Tuple[str, ...] = ()
+    at: Optional[int] = None
+    applied: Tuple["Applied", ...] = ()
     reason: str = ""
 
     def __init__(self, code: int, name: str, call: str = "", arguments: Tuple[Any, ...] = ()) -> None:
@@ -299,6 +319,55 @@ class BadValues(Refused, ValueError):
         return kind, (*given, self.place), fields
 
 
+class BadSave(Refused, ValueError):
+    """A file holds no saved volume. BadSave: it was cut or changed, or its entries are no volume; OtherVersion: it is of a
+    version of the format that the library doesn't know. `fault` is the word for it, such as "Cut" or "Checksum", and
+    `place` the byte where it is, counted from 0. `node` is the entry's node, if the fault is one of an entry, else None."""
+
+    def __init__(
+        self, code: int, name: str, call: str = "", arguments: Tuple[Any, ...] = (), place: int = 0, fault: str = ""
+    ) -> None:
+        super().__init__(code, name, call, arguments)
+        self.place, self.fault = place, fault
+
+    def __str__(self) -> str:
+        at = f"{self.fault} at byte {self.place}" + (f", node {self.node}" if self.node else "")
+        return f"{super().__str__()}: {at}"
+
+    def __reduce__(self) -> Tuple[Any, ...]:
+        kind, given, fields = super().__reduce__()
+        return kind, (*given, self.place, self.fault), fields
+
+
+class Locked(Refused, OSError):
+    """Another volume keeps the folder, in this process or another: an OSError with errno.EAGAIN."""
+
+    def __init__(self, code: int, name: str, call: str = "", arguments: Tuple[Any, ...] = ()) -> None:
+        super().__init__(code, name, call, arguments)
+        self.errno, self.strerror = errno.EAGAIN, name
+
+
+class NotKept(Refused, OSError):
+    """A volume that is kept in a folder can't write or sync its journal: an OSError with errno.EIO. Unkept: the change
+    was made in memory, and may not be on the disk. Halted: it wasn't made, since one before it isn't on the disk. Turns
+    try again, and changes are made again once all is there."""
+
+    def __init__(self, code: int, name: str, call: str = "", arguments: Tuple[Any, ...] = ()) -> None:
+        super().__init__(code, name, call, arguments)
+        self.errno, self.strerror = errno.EIO, name
+
+
+class Kept(NamedTuple):
+    """How a volume is kept: the size of its journal in bytes, and how many changes a power cut may take. `cutting`: the
+    journal is being cut anew. `halted`: changes are refused. `fault` is what failed in the latest turn, or None."""
+
+    size: int
+    unsynced: int
+    cutting: bool
+    halted: bool
+    fault: Optional[str]
+
+
 class Overrun(Error):
     """More messages came than the query's backlog has room for, so it has ended. `change` is the last change that the
     messages cover, and `formula` the query's. `Query.reopen` goes on."""
@@ -327,7 +396,10 @@ def _push(item: Any) -> str:
     return f"Attr({item.name!r})" if isinstance(item, Attr) else repr(item)
 
 
-_REFUSALS = {1: BadName, 2: NotFound, 3: NotFolder, 4: NotFound, 5: Exists, 7: NotEmpty, 10: NotFound, 15: NoMemory}
+_REFUSALS = {
+    1: BadName, 2: NotFound, 3: NotFolder, 4: NotFound, 5: Exists, 7: NotEmpty, 10: NotFound, 15: NoMemory, 49: Locked,
+    50: NotKept, 51: NotKept,
+}  # fmt: skip
 _BAD_QUERY, _NO_VALUE, _UNUSED_VALUE = 20, 43, 44
 
 

@@ -1,28 +1,36 @@
 """Volumes, their queries, and the rows of a query."""
 import os, threading, time, weakref
 from typing import (
-    Any, Callable, Dict, ItemsView, Iterable, Iterator, List, Mapping, Optional, Tuple, Union, ValuesView,
+    TYPE_CHECKING, Any, Callable, Dict, ItemsView, Iterable, Iterator, List, Mapping, Optional, Set, SupportsIndex,
+    Tuple, Type, TypeVar, Union, ValuesView,
 )  # fmt: skip
 
-from . import _arguments
-from ._library import Handle
-from ._library import Reader as _Reader
+from . import _arguments, _kept
 from ._reasons import RESERVED, reason
 from ._text import said
 from ._types import (
-    FILE, ROOT, Applied, Attribute, Cause, Difference, Entry, Formula, Info, Mark, Message, NotFound, Overrun, Place,
+    FILE, ROOT, Applied, Attribute, Cause, Difference, Entry, Formula, Info, Kept, Mark, Message, NotFound, Overrun, Place,
     Refused, Result,
 )  # fmt: skip
 
-# A name of an entry: a str, or the name of a file on disk as bytes or as a path.
+if TYPE_CHECKING:
+    from ._by_ctypes import Handle
+    from ._by_ctypes import Reader as _Reader
+else:
+    from ._library import Handle
+    from ._library import Reader as _Reader
+
+# A name of an entry: a str, or the name of a file on disk as bytes or as a path. And a path of one.
 Name = Union[str, bytes, "os.PathLike[Any]"]
+Path = Union[str, bytes, "os.PathLike[str]", "os.PathLike[bytes]"]
+_Self = TypeVar("_Self", bound="Volume")
 Value = Union[str, int, Tuple[int, str]]  # of an attribute: by itself, or with the type
 _NO_NODE = (1 << 64) - 1  # which is never given
-_NOT_OPEN = 25  # the refusal of what only a query that hasn't ended can do
+_CHANGES = {"create", "remove", "move", "rename", "write", "set", "unset"}  # of `apply`
 _IN_A_ROW = 100  # messages of an `async for`, after which the loop has a turn
 
 
-def _no_copy(self: Any, _protocol: int) -> Any:
+def _no_copy(self: Any, _protocol: SupportsIndex) -> Any:
     raise TypeError(f"a {type(self).__name__} can be neither copied nor pickled")
 
 
@@ -35,26 +43,99 @@ class Volume:
 
     `wake`, if it is set, is called after each change, line, `close` and `hang_up` after which a query has something to
     read: there an event loop can be told to read. It has no arguments, and is called on the thread of that call, once
-    the lock is free. What it raises, the call raises."""
+    the lock is free. What it raises, the call raises.
 
-    def __init__(self) -> None:
-        self._handle = Handle()
-        self._lock = self._handle.lock  # of the volume, its queries and their rows; `with` may take it again
-        self._queries: Dict[int, "weakref.ref[Query]"] = {}
-        self._forgotten: List[int] = []  # slots of queries that nobody has any more
-        # who waits for a query: under the future of one that awaits it the loop, under the event of a thread None
-        self._waiting: Dict[Any, Tuple["Query", Any]] = {}
+    With a path the volume is kept in that folder, which is made if it isn't there. What was accepted is there again when
+    the path is opened after a restart, with the same nodes and numbers. A change is in the folder's journal before its
+    call returns, so it survives the end of the process at any moment. `sync` says what a power cut may take: with
+    "always" nothing, with a number the changes of the last so many milliseconds, with "never" what the system hasn't
+    written yet. A thread of the volume syncs, and cuts the journal anew. Windows aren't kept. Of a fork the child's
+    volume is in memory alone. `damaged=True` opens what comes before a damage. Locked: another volume has the folder.
+    BadSave: a file in it is damaged. NotKept, of a change: see there."""
+
+    def __init__(
+        self, path: Optional[Path] = None, *, sync: Union[str, int] = "always", damaged: bool = False
+    ) -> None:
+        number = _kept.sync_number(sync)
+        self._turns: Optional[_kept.Turns] = None
+        self._handle = Handle()  # its `locked` alone takes the lock of the volume, its queries and their rows
+        self._queries: Dict[int, "weakref.ref[Query]"] = {}  # by the slots that they have, or had until the next sweep
+        # who waits for a query: under the future of one that awaits it the loop, under the lock of a thread None
+        self._waiting: Dict[Any, Tuple["weakref.ref[Query]", Any]] = {}
         self._wake: Optional[Callable[[], Any]] = None
         self._is_due = False  # whether there is something to do after a turn
+        self._is_held = False  # whether the changes of `apply` wait for their sync
         self._of_parent: Any = None  # after a fork: who awaits a query in the process that this one comes from
-        with _FORKS.lock:
-            _FORKS.volumes.add(self)
+        _FORKS.volumes.add(weakref.ref(self, _FORKS.volumes.discard))
+        #: How many changes the journal gave at the opening, and how many bytes at its end were no whole change.
+        self.replayed, self.dropped = 0, 0
+        self._syncs = False  # whether `apply` syncs
+        if path is not None:
+            self._keep(path, number, bool(damaged))
+
+    def _keep(self, path: Path, sync: int, damaged: bool) -> None:
+        try:
+            self.replayed, self.dropped = _kept.keep(self._handle, path, sync, damaged)
+            self._syncs = sync != _kept.NEVER
+            most = sync / 1000 if 0 < sync < 1000 else 1.0
+            self._turns = _kept.Turns(weakref.WeakMethod(self._turn_journal), os.fsdecode(path), most)
+        except BaseException:
+            self._handle.free()
+            raise
+
+    def _turn_journal(self) -> Tuple[Optional[Kept], float]:
+        return _kept.turn(self._handle)
+
+    def kept(self) -> Optional[Kept]:
+        """How the volume is kept, after a turn of its journal: what is due is synced. None: it is in memory alone."""
+        return self._turn_journal()[0]
+
+    def sync(self) -> None:
+        """Has the disk keep all changes so far; a volume in memory has nothing to do. NotKept: it can't."""
+        _kept.synced(self._handle.keep_sync(), "sync")
+
+    def save(self, path: Union[Path, int]) -> None:
+        """Saves the volume to a file: its entries with their nodes and attributes, and its numbers, but no queries.
+
+        The file is written beside its place, with a name that begins with a dot, and is renamed once the disk has it.
+        So whatever fails, the file that was there before stays whole; OSError says what failed. A file that is open is
+        given by its number, as `open` takes it, and is written where it stands. Other threads run meanwhile, but calls of
+        this volume wait."""
+        _kept.save(self._handle, path)
+
+    @classmethod
+    def load(cls: Type[_Self], path: Union[Path, int]) -> _Self:
+        """The volume that `save` has written to a file, or to the one that is open under this number: then it reads from
+        where that stands, to the end. Changes and nodes go on at the numbers that it had.
+
+        BadSave: the file holds no saved volume, as where it was cut; its `place` is the byte, and its `node` the entry."""
+        volume = cls()
+        try:
+            _kept.load(volume._handle, path)
+        except BaseException:
+            volume.close()
+            raise
+        return volume
+
+    def copy(self: _Self) -> _Self:
+        """Another volume that is as if this one were saved and loaded: what is done with one leaves the other."""
+        volume = type(self)()
+        try:
+            self._handle.locked(volume._handle.copy, self._handle)
+        except BaseException:
+            volume.close()
+            raise
+        return volume
 
     def close(self) -> None:
-        """Frees the volume and its queries. It may be called again."""
-        with self._lock:
-            self._handle.free()
-        self._turned()
+        """Frees the volume and its queries. It may be called again. A volume that is kept is synced first; NotKept: it
+        can't be, and is closed all the same."""
+        if self._turns is not None:
+            self._turns.end()
+        try:
+            _kept.closed(self._handle.free())
+        finally:
+            self._turned()
 
     def __enter__(self) -> "Volume":
         return self
@@ -65,10 +146,12 @@ class Volume:
     __reduce_ex__ = _no_copy
 
     def __repr__(self) -> str:
-        with self._lock:
-            if not self._handle.is_open():
-                return "<Volume, closed>"
-            return f"<Volume with {self.changes} changes and {len(self._queries)} queries>"
+        return self._handle.locked(self._said)
+
+    def _said(self) -> str:
+        if not self._handle.is_open():
+            return "<Volume, closed>"
+        return f"<Volume with {self.changes} changes and {len(self._queries)} queries>"
 
     @property
     def wake(self) -> Optional[Callable[[], Any]]:
@@ -77,49 +160,97 @@ class Volume:
 
     @wake.setter
     def wake(self, wake: Optional[Callable[[], Any]]) -> None:
-        self._wake, self._is_due = _arguments.call("wake", wake), True
+        self._handle.locked(self._set_wake, _arguments.call("wake", wake))
+
+    def _set_wake(self, wake: Optional[Callable[[], Any]]) -> None:
+        self._is_due, self._wake = True, wake
 
     def _turned(self) -> None:
-        """What is due after a turn: frees the slots that nobody has any more, and wakes who waits for messages."""
-        with self._lock:
-            self._is_due = False  # before what follows is looked at: a query may be forgotten at any moment
-            self._free_forgotten()
-            ready = self._handle.ready() if self._handle.is_open() else 0
-            woken = [(loop, waiter) for waiter, (query, loop) in self._waiting.items() if query._is_ready(ready)]
-            for _, waiter in woken:
-                del self._waiting[waiter]
-            wake = self._wake if ready else None
-            if self._waiting or self._wake or self._forgotten:
-                self._is_due = True
-        for loop, waiter in woken:
-            if loop is None:
-                waiter.set()
-                continue
-            try:
-                loop.call_soon_threadsafe(_settle, waiter)
-            except RuntimeError:
-                pass  # the loop was closed
+        """What is due after a turn: frees the slots that nobody has any more, and wakes who waits for messages. Within
+        `apply` it comes at the end."""
+        if self._is_held and self._handle.is_mine():
+            return
+        try:
+            wake = self._handle.locked(self._turn)
+        except BaseException:  # of a signal, which may have cut it anywhere: others wait for what it does
+            self._handle.locked(self._turn)
+            raise
         if wake is not None:
             wake()
 
-    def _free_forgotten(self) -> None:
-        while self._forgotten:
-            slot = self._forgotten.pop()
-            self._queries.pop(slot, None)
-            if self._handle.is_open():
-                try:
-                    self._handle.drop(slot)
-                except Refused:
-                    pass  # a line has freed it
+    def _turn(self) -> Optional[Callable[[], Any]]:
+        """Does all but the last of it, under the lock. Returns what is to be called then."""
+        if self._is_held:  # by an `apply` that was cut
+            self._end_batch()
+        self._is_due = False  # before what follows is looked at: a query may be forgotten at any moment
+        if self._is_unsure:
+            self._sweep()
+        ready = self._handle.ready() if self._handle.is_open() else 0
+        waiting = [(loop, waiter, query()) for waiter, (query, loop) in self._waiting.items()]
+        woken = [(loop, waiter) for loop, waiter, query in waiting if query is None or query._is_ready(ready)]
+        for loop, waiter in woken:
+            _tell(loop, waiter)
+            self._waiting.pop(waiter, None)
+        if self._waiting or self._wake:
+            self._is_due = True
+        return self._wake if ready else None
+
+    @property
+    def _is_unsure(self) -> bool:
+        """Whether a slot may be open that no query has. The handle has it, since a line looks at it under the lock."""
+        return self._handle.is_unsure
+
+    def _sweep(self) -> None:
+        """Frees each slot that no query has, under the lock: that of a query which was dropped or which nobody has any
+        more, and that of an opening which a signal's exception has cut. What gives slots, an opening or a line, comes
+        after it; so none that stands here is another's by now, and it can be cut and done again."""
+        self._handle.is_unsure = False  # before they are looked at, as above
+        try:
+            untold = self._handle.untold()
+            for slot in [*self._queries, untold] if untold else [*self._queries]:
+                if not self._has(slot):
+                    try:
+                        self._free(slot)
+                    except Refused:  # it is free already: a line did that, or this before it was cut
+                        self._queries.pop(slot, None)
+            self._handle.told()
+        except BaseException:
+            self._handle.is_unsure = True
+            raise
+
+    def _has(self, slot: int) -> bool:
+        """Whether a query has a slot."""
+        found = self._queries.get(slot)
+        query = found() if found else None
+        return query is not None and query.slot == slot
+
+    def _free(self, slot: int) -> None:
+        if self._handle.is_open():
+            self._handle.drop(slot)
+        self._queries.pop(slot, None)
+
+    def _doubt(self) -> None:
+        """Says that a slot may be open that no query has, before or after there is one."""
+        self._handle.is_unsure = self._is_due = True
 
     def answer(self, line: Union[str, bytes]) -> bytes:
         """The reply to one line of a script, as `lq run` writes it, with its LF; b"" for an empty line.
 
         A line that is refused has a reply that says so, and raises nothing. Lines shouldn't read, close or finish the
         slot of a Query, which wouldn't know of it."""
-        reply = self._handle.answer(line)
-        if self._is_due:
-            self._turned()
+        try:
+            reply = self._handle.answer(line)
+            return self._handle.locked(self._swept_for, line) if reply is None else reply
+        finally:
+            if self._is_due:
+                self._turned()
+
+    def _swept_for(self, line: Union[str, bytes]) -> bytes:
+        """The reply after a sweep, under the same lock: the line may open a query in a slot that is swept else."""
+        reply: Optional[bytes] = None
+        while reply is None:
+            self._sweep()
+            reply = self._handle.answer(line)
         return reply
 
     @property
@@ -143,50 +274,55 @@ class Volume:
         ask for comes last: then an entry has all others when it enters one. A value is as `set` takes it; for another
         type it is a pair of the value and the type. All are tested before the first change. Where one is refused after
         that, for want of memory, the exception has the node as `node`, and the names that were set as `attributes`."""
-        if attributes is None:
-            applied = self._handle.create(name, dir, kind, size, time)
-        else:
-            applied = self._create_with(name, dir, kind, size, time, attributes)
-        if self._is_due:
-            self._turned()
-        return applied
+        try:
+            if attributes is None:
+                return self._handle.create(name, dir, kind, size, time)
+            return self._create_with(name, dir, kind, size, time, attributes)
+        finally:
+            if self._is_due:
+                self._turned()
 
     def _create_with(
         self, name: Name, dir: int, kind: str, size: int, time: int, given: Mapping[Name, Value]
     ) -> Applied:
-        text, attributes = _arguments.encode_name("name", name).decode(), _arguments.attributes(given)
+        text, number = _arguments.encode_name("name", name).decode(), _arguments.natural("dir", dir)
         _arguments.kind(kind)
-        numbers = _arguments.natural("dir", dir), kind, _arguments.natural("size", size), _arguments.whole("time", time)
-        with self._lock, _as("create", name, dir, kind, size, time, given):
-            for attr, value, type in attributes:
-                try:
-                    self._handle.set(_NO_NODE, attr, value, type)
-                except NotFound:
-                    pass  # which is what comes where the attribute is well
-                if attr in RESERVED:
-                    raise Refused(11, "Reserved")
-            applied = self._handle.create(text, *numbers)
-            node, done = applied.node, []
+        numbers = number, kind, _arguments.natural("size", size), _arguments.whole("time", time)
+        attributes = _arguments.attributes(given)
+        with _as("create", name, dir, kind, size, time, given):
+            return self._handle.locked(self._create_all, (text, *numbers), attributes)
+
+    def _create_all(self, entry: Tuple[Any, ...], attributes: List[Tuple[str, Any, Any]]) -> Applied:
+        """Creates an entry with its attributes, under the lock."""
+        for attr, value, type in attributes:
             try:
-                for attr, value, type in attributes:
-                    applied = self._handle.set(node, attr, value, type)
-                    done.append(attr)
-            except Refused as refused:
-                refused.node, refused.attributes = node, tuple(done)
-                raise
+                self._handle.set(_NO_NODE, attr, value, type)
+            except NotFound:
+                pass  # which is what comes where the attribute is well
+            if attr in RESERVED:
+                raise Refused(11, "Reserved")
+        applied = self._handle.create(*entry)
+        node, done = applied.node, []
+        try:
+            for attr, value, type in attributes:
+                applied = self._handle.set(node, attr, value, type)
+                done.append(attr)
+        except Refused as refused:
+            refused.node, refused.attributes = node, tuple(done)
+            raise
         return applied
 
     def remove(self, node: int, recursive: bool = False) -> Applied:
         """Removes a file, or a folder that is empty. With `recursive` a folder goes with all that is in it, and the
         last of the changes is returned; where one is refused, as for want of memory, those before it stay made."""
-        if recursive:
-            with self._lock, _as("remove", node, True):
-                applied = self._remove_all(node)
-        else:
-            applied = self._handle.remove(node)
-        if self._is_due:
-            self._turned()
-        return applied
+        try:
+            if not recursive:
+                return self._handle.remove(node)
+            with _as("remove", node, True):
+                return self._handle.locked(self._remove_all, node)
+        finally:
+            if self._is_due:
+                self._turned()
 
     def _remove_all(self, node: int) -> Applied:
         """Removes an entry after all that is in it, under the lock."""
@@ -204,54 +340,106 @@ class Volume:
 
     def move(self, node: int, dir: int, name: Name, clobber: bool = False) -> Applied:
         """Moves an entry to another place; with `clobber` another entry there goes."""
-        applied = self._handle.move(node, dir, name, clobber)
-        if self._is_due:
-            self._turned()
-        return applied
+        try:
+            return self._handle.move(node, dir, name, clobber)
+        finally:
+            if self._is_due:
+                self._turned()
 
     def rename(self, node: int, name: Name, clobber: bool = False) -> Applied:
         """Gives an entry another name in its folder; with `clobber` another entry of that name goes."""
-        text = _arguments.encode_name("name", name).decode()
-        with self._lock, _as("rename", node, name, clobber):
-            dir = ROOT if node == ROOT else self._handle.entry(node).dir
-            applied = self._handle.move(node, dir, text, clobber)
-        if self._is_due:
-            self._turned()
-        return applied
+        node, text = _arguments.natural("node", node), _arguments.encode_name("name", name).decode()
+        try:
+            with _as("rename", node, name, clobber):
+                return self._handle.locked(self._rename, node, text, clobber)
+        finally:
+            if self._is_due:
+                self._turned()
+
+    def _rename(self, node: int, name: str, clobber: bool) -> Applied:
+        dir = ROOT if node == ROOT else self._handle.entry(node).dir
+        return self._handle.move(node, dir, name, clobber)
 
     def write(self, node: int, size: Optional[int] = None, time: Optional[int] = None) -> Applied:
         """Sets a file's size in bytes, and its `last_modified` in seconds since 1970. What isn't given stays: without a
         time the time is as it was."""
-        if size is None or time is None:
-            applied = self._write_part(node, size, time)
-        else:
-            applied = self._handle.write(node, size, time)
-        if self._is_due:
-            self._turned()
-        return applied
+        try:
+            if size is None or time is None:
+                return self._write_part(node, size, time)
+            return self._handle.write(node, size, time)
+        finally:
+            if self._is_due:
+                self._turned()
 
     def _write_part(self, node: int, size: Optional[int], time: Optional[int]) -> Applied:
+        node = _arguments.natural("node", node)
         if size is not None:
             size = _arguments.natural("size", size)
         if time is not None:
             time = _arguments.whole("time", time)
-        with self._lock, _as("write", node, size, time):
-            info = Info(ROOT, ROOT, "", FILE, 0, 0, {}, {}) if node == ROOT else self._handle.entry(node)
-            return self._handle.write(node, info.size if size is None else size, info.time if time is None else time)
+        with _as("write", node, size, time):
+            return self._handle.locked(self._write_rest, node, size, time)
+
+    def _write_rest(self, node: int, size: Optional[int], time: Optional[int]) -> Applied:
+        """Writes what is given, and what stands there for the rest, under the lock."""
+        info = Info(ROOT, ROOT, "", FILE, 0, 0, {}, {}) if node == ROOT else self._handle.entry(node)
+        return self._handle.write(node, info.size if size is None else size, info.time if time is None else time)
 
     def set(self, node: int, attr: Name, value: Union[str, int], type: Optional[str] = None) -> Applied:
         """Sets an attribute. Without a type, a str is "CSTR" and an int is "LLNG", a number of 64 bits with a sign."""
-        applied = self._handle.set(node, attr, value, type)
-        if self._is_due:
-            self._turned()
-        return applied
+        try:
+            return self._handle.set(node, attr, value, type)
+        finally:
+            if self._is_due:
+                self._turned()
 
     def unset(self, node: int, attr: Name) -> Applied:
         """Removes an attribute."""
-        applied = self._handle.unset(node, attr)
-        if self._is_due:
-            self._turned()
+        try:
+            return self._handle.unset(node, attr)
+        finally:
+            if self._is_due:
+                self._turned()
+
+    def apply(self, changes: Iterable[Union[Tuple[Any, ...], List[Any]]]) -> List[Applied]:
+        """Makes changes in order, and returns what each call returned. A change is a tuple: the name of a call (`create`,
+        `remove`, `move`, `rename`, `write`, `set` or `unset`), and what it takes. Other threads wait meanwhile.
+
+        The first that is refused ends it. The exception has as `at` how many came before it, and as `applied` what they
+        returned: they stand, since this is no transaction. A volume that is kept syncs once for all of them, before this
+        returns or raises, unless `sync` is "never"; after a kill within it those are there that were made until then."""
+        given = [*changes]
+        try:
+            return self._handle.locked(self._apply, given)
+        finally:
+            if self._is_due:
+                self._turned()
+
+    def _apply(self, given: List[Any]) -> List[Applied]:
+        done: List[Applied] = []
+        self._is_held = self._is_due = True  # so that, wherever this is cut, the next call ends the batch
+        self._handle.keep_hold()
+        try:
+            for change in given:
+                done.append(self._apply_one(change))
+        except Exception as error:
+            vars(error).update(at=len(done), applied=tuple(done))
+            raise
+        finally:
+            self._end_batch()
+        return done
+
+    def _apply_one(self, change: Any) -> Applied:
+        if not isinstance(change, (tuple, list)) or not change or change[0] not in _CHANGES:
+            raise TypeError(f"a change must be a tuple of a call's name and what it takes, not {said(change)}")
+        applied: Applied = getattr(self, change[0])(*change[1:])
         return applied
+
+    def _end_batch(self) -> None:
+        """Syncs the changes of `apply`, under the lock."""
+        code = self._handle.keep_sync() if self._syncs and self._handle.is_open() else 0
+        self._is_held = False
+        _kept.synced(code, "apply")
 
     def open(
         self,
@@ -281,13 +469,15 @@ class Volume:
 
     def ready(self) -> List["Query"]:
         """The queries that have a message, or their mark, to be read."""
-        with self._lock:
-            bits, found = self._handle.ready(), []
-            for slot, query in [*self._queries.items()] if bits else ():
-                it = query() if bits >> (slot - 1) & 1 else None
-                if it is not None:
-                    found.append(it)
-            return found
+        return self._handle.locked(self._ready)
+
+    def _ready(self) -> List["Query"]:
+        bits, found = self._handle.ready(), []
+        for slot, query in [*self._queries.items()] if bits else ():
+            it = query() if bits >> (slot - 1) & 1 else None
+            if it is not None and it.slot == slot:
+                found.append(it)
+        return found
 
     def fetch(self, formula: Formula, values: Optional[Iterable[Union[str, int]]] = None) -> List[Entry]:
         """The entries that match now, by rising node.
@@ -345,60 +535,74 @@ def quote(text: str) -> str:
     return literal
 
 
+def _tell(loop: Any, waiter: Any) -> None:
+    """Tells who waits that there is something to read. It may be told twice."""
+    try:
+        if loop is None:
+            waiter.release()
+            return
+        loop.call_soon_threadsafe(_settle, waiter)
+    except RuntimeError:
+        pass  # the loop was closed, or the thread was told before
+
+
 def _settle(future: Any) -> None:
     if not future.done():
         future.set_result(None)
 
 
-class _Forks:
+class _Forks(threading.local):
     """Holds the lock of each volume during a fork: so no other thread is within a call, and the child has locks that
     are free and volumes that are whole. Whoever awaits a query does so in the parent alone."""
 
+    volumes: "Set[weakref.ref[Volume]]" = set()  # of all threads
+
     def __init__(self) -> None:
-        self.lock = threading.RLock()  # of the volumes that there are
-        self.volumes: "weakref.WeakSet[Volume]" = weakref.WeakSet()
-        self.held: List[Any] = []
-        if hasattr(os, "register_at_fork"):
-            os.register_at_fork(before=self.before, after_in_parent=self.after, after_in_child=self.after_in_child)
+        self.held: List[Any] = []  # which this thread takes, each from before it has it
 
     def before(self) -> None:
         """Takes all locks. While it waits for one it has no other, so that who has that one may take others."""
-        busy: Any = self.lock
-        while busy is not None:
-            busy.acquire()
-            held = [busy]
-            busy = self.take(held)
+        busy: Any = None
+        while True:
+            self.free()
             if busy is not None:
-                _release(held)
-        self.held = held
+                self.take(busy, True)
+            busy = next((it for it in self.handles() if not self.take(it, False)), None)
+            if busy is None:
+                return
 
-    def take(self, held: List[Any]) -> Any:
-        """Takes the locks that are free. Returns one that another thread has, or None."""
-        if not self.lock.acquire(False):
-            return self.lock
-        held.append(self.lock)
-        for volume in self.volumes:
-            if not volume._lock.acquire(False):
-                return volume._lock
-            held.append(volume._lock)
-        return None
+    def handles(self) -> List[Any]:
+        return [volume._handle for volume in [it() for it in [*self.volumes]] if volume is not None]
 
-    def after(self) -> None:
-        held, self.held = self.held, []  # first: another thread may fork once the last one is free
-        _release(held)
+    def take(self, handle: Any, waits: bool) -> bool:
+        """Takes a lock, unless the thread has it. False: another thread has it, and this one may not wait."""
+        if handle.is_mine():
+            return True
+        self.held.append(handle)
+        return bool(handle.acquire(waits))
+
+    def free(self) -> None:
+        while self.held:
+            if self.held[-1].is_mine():
+                self.held[-1].release()
+            self.held.pop()
 
     def after_in_child(self) -> None:
-        for volume in self.volumes:
-            volume._of_parent, volume._waiting = volume._waiting, {}
-        self.after()
-
-
-def _release(locks: List[Any]) -> None:
-    for lock in locks:
-        lock.release()
+        for handle in self.handles():
+            handle.forked()
+        for found in [*self.volumes]:
+            volume = found()
+            if volume is not None and volume._waiting:
+                volume._of_parent, volume._waiting = volume._waiting, {}
+        self.free()
 
 
 _FORKS = _Forks()
+if hasattr(os, "register_at_fork"):
+    for _ in range(2):  # since a signal's exception may cut one of them anywhere, and Python goes on with the next
+        os.register_at_fork(
+            before=_FORKS.before, after_in_parent=_FORKS.free, after_in_child=_FORKS.after_in_child
+        )  # fmt: skip
 
 
 # What says where an entry is: what an opening gave, or the latest message of it.
@@ -444,19 +648,17 @@ class Row:
 
     def refresh(self) -> bool:
         """Looks the entry up again. True where `info` is another now; an entry that has gone keeps its last one."""
-        volume = self._rows._volume
-        lock = volume._lock
-        lock.acquire()  # which costs less than `with`, by some 100 ns of 600
+        handle = self._rows._volume._handle
+        return handle.locked(self._look, handle)
+
+    def _look(self, handle: Handle) -> bool:
+        old = self._info
         try:
-            old = self._info
-            new: Info = volume._handle.entry(self.node)
-            self._info, self._is_old = new, False
+            self._info = handle.entry(self.node)
         except NotFound:
-            self._is_old = False  # no node is given twice
-            return False
-        finally:
-            lock.release()
-        return new != old
+            pass  # no node is given twice
+        self._is_old = False
+        return self._info is not old and self._info != old
 
     __reduce_ex__ = _no_copy
 
@@ -476,18 +678,20 @@ class Rows(Mapping[int, Row]):
     def __getitem__(self, node: int) -> Row:
         row = self._rows.get(node)
         if row is None:
-            with self._volume._lock:
-                row = self._rows.get(node)
-                if row is None:
-                    row = self._rows[node] = Row(self, node)
+            return self._volume._handle.locked(self._made, node)
+        return row
+
+    def _made(self, node: int) -> Row:
+        row = self._rows.get(node)
+        if row is None:
+            row = self._rows[node] = Row(self, node)
         return row
 
     def __contains__(self, node: object) -> bool:
         return node in self._placed
 
     def __iter__(self) -> Iterator[int]:
-        with self._volume._lock:
-            return iter([*self._placed])
+        return iter([*self._placed])
 
     def __len__(self) -> int:
         return len(self._placed)
@@ -506,8 +710,10 @@ class Rows(Mapping[int, Row]):
         return f"<Rows of {len(self)} entries>"
 
     def _all(self) -> List[Row]:
-        with self._volume._lock:
-            return [self[node] for node in self._placed]
+        return self._volume._handle.locked(self._all_made)
+
+    def _all_made(self) -> List[Row]:
+        return [*map(self._made, self._placed)]
 
     def _begin(self, placed: Dict[int, _Placed], are_old: bool) -> None:
         """Has these entries alone. Rows of those that it had stay, and look them up again where they are old."""
@@ -543,7 +749,7 @@ def _difference(old: Dict[int, _Placed], new: Dict[int, _Placed]) -> Difference:
     )
 
 
-class Query(_Reader):  # type: ignore[misc]
+class Query(_Reader):
     """A live query of a volume. `entries` is its result at the opening, `at` the number of changes then, `slot` its
     number, and `rows` its result by the messages read so far.
 
@@ -571,19 +777,20 @@ class Query(_Reader):  # type: ignore[misc]
         self._in_a_row = 0  # messages of an `async for` that waited for nothing
         self.formula, *self._bound = _arguments.asked(formula, bound)
         self.rows = Rows(volume)
-        with volume._lock:
-            self._open()
+        volume._handle.locked(self._open)
 
     def _open(self) -> None:
-        """Opens it in a slot, under the lock."""
+        """Opens it in a slot, under the lock. It has the slot with the last step, `_begin`; a sweep frees the slot of
+        an opening that is cut before that."""
         volume, rows = self._volume, self.rows
-        volume._free_forgotten()
+        volume._sweep()
+        volume._doubt()
         options = self._backlog, self._moved, self._values
         slot, self.at, self.entries = volume._handle.open(self.formula, *options, *self._bound)
-        self._covered: Optional[int] = None  # the last change that is covered, if `close` has ended it
         rows._begin({it.node: it for it in self.entries}, self._values)
-        self._begin(volume._handle, slot, rows._placed, rows._rows)
         volume._queries[slot] = weakref.ref(self)
+        self._begin(volume._handle, slot, rows._placed, rows._rows)
+        volume._handle.told()
 
     def _own(self) -> int:
         slot: Optional[int] = self.slot
@@ -632,12 +839,13 @@ class Query(_Reader):  # type: ignore[misc]
         timeout = _arguments.seconds("timeout", timeout)
         until = None if timeout is None else time.monotonic() + timeout
         while True:
-            told = threading.Event()
-            if self._waits(told, None):
-                try:
-                    told.wait(None if until is None else max(0, until - time.monotonic()))
-                finally:
-                    self._waits_no_more(told)
+            told = threading.Lock()  # no Event, which keeps a lock where a signal's exception comes within it
+            try:
+                told.acquire()
+                if self._waits(told, None):
+                    told.acquire(timeout=-1 if until is None else max(0, until - time.monotonic()))
+            finally:
+                self._waits_no_more(told)
             message: Optional[Message] = next(self, None)
             if message is None and self.mark is not None:
                 return next(self, None)  # which raises Overrun where another thread has read the mark
@@ -646,18 +854,20 @@ class Query(_Reader):  # type: ignore[misc]
 
     def _waits(self, waiter: Any, loop: Any) -> bool:
         """Has a waiter told when there is something to read. False: there is."""
+        # under the lock, so that a change on another thread is seen here or sees this
+        return self._volume._handle.locked(self._wait, waiter, loop)
+
+    def _wait(self, waiter: Any, loop: Any) -> bool:
         volume = self._volume
-        with volume._lock:  # so that a change on another thread is seen here or sees this
-            if self._is_ready(volume._handle.ready()):
-                return False
-            volume._waiting[waiter] = self, loop
-            volume._is_due = True
-            return True
+        if self._is_ready(volume._handle.ready()):
+            return False
+        volume._is_due = True
+        # weak, since a signal's exception may cut what takes it off
+        volume._waiting[waiter] = weakref.ref(self), loop
+        return True
 
     def _waits_no_more(self, waiter: Any) -> None:
-        volume = self._volume
-        with volume._lock:
-            volume._waiting.pop(waiter, None)
+        self._volume._handle.locked(self._volume._waiting.pop, waiter, None)
 
     def __aiter__(self) -> "Query":
         return self
@@ -686,72 +896,75 @@ class Query(_Reader):  # type: ignore[misc]
 
         loop = asyncio.get_running_loop()
         future = loop.create_future()
-        if self._waits(future, loop):
-            try:
+        try:
+            if self._waits(future, loop):
                 await future
-            finally:
-                self._waits_no_more(future)
+        finally:
+            self._waits_no_more(future)
 
     def result(self) -> Result:
         """The result as the messages read so far make it, by rising node."""
-        with self._volume._lock:
-            self._own()
-            latest = self._latest
-            change, is_settled = (latest.change, latest.last) if latest else (self.at, True)
-            return Result(change, is_settled, self.rows._in_order())
+        return self._volume._handle.locked(self._result)
+
+    def _result(self) -> Result:
+        self._own()
+        latest = self._latest
+        change, is_settled = (latest.change, latest.last) if latest else (self.at, True)
+        return Result(change, is_settled, self.rows._in_order())
 
     def hang_up(self) -> None:
         """Asks for the end, as a reader does; the next change, read or close carries it out."""
         volume = self._volume
-        with volume._lock:
-            volume._handle.hang_up(self._own())
-        if volume._is_due:
-            volume._turned()
+        try:
+            volume._handle.locked(self._hang_up)
+        finally:
+            if volume._is_due:
+                volume._turned()
+
+    def _hang_up(self) -> None:
+        self._volume._handle.hang_up(self._own())
 
     def close(self) -> Optional[int]:
         """Ends the query: what waits can still be read. Returns the last change that is covered. It may be called
         again, and after another end; None: the query had ended by itself, and the mark that says so wasn't read."""
         volume = self._volume
-        with volume._lock:
-            slot, mark = self._own(), self.mark
-            if mark is None and self._covered is None:
-                try:
-                    self._covered = volume._handle.close(slot)
-                except Refused as refused:
-                    if refused.code != _NOT_OPEN:
-                        raise
-            covered = self._covered if mark is None else mark.change
-        if volume._is_due:
-            volume._turned()
-        return covered
+        try:
+            return self._close()
+        finally:
+            if volume._is_due:
+                volume._turned()
 
     def finish(self) -> None:
         """Frees the slot of a query whose mark was read."""
         volume = self._volume
-        with volume._lock:
-            volume._handle.finish(self._own())
-            self._leave()
-        if volume._is_due:
-            volume._turned()
+        try:
+            volume._handle.locked(self._finish)
+        finally:
+            if volume._is_due:
+                volume._turned()
+
+    def _finish(self) -> None:
+        slot, handle = self._own(), self._volume._handle
+        if self.mark is None or not handle.is_open():
+            handle.finish(slot)  # which refuses it, unless a line has read the mark
+        self._drop()
 
     def drop(self) -> None:
         """Ends the query, drops what wasn't read, and frees its slot. It may be called again."""
         volume = self._volume
-        with volume._lock:
-            self._drop()
-        if volume._is_due:
-            volume._turned()
+        try:
+            volume._handle.locked(self._drop)
+        finally:
+            if volume._is_due:
+                volume._turned()
 
     def _drop(self) -> None:
-        if self.slot is not None:
-            if self._volume._handle.is_open():
-                self._volume._handle.drop(self.slot)
-            self._leave()
-
-    def _leave(self) -> None:
-        if self.slot is not None:
-            self._volume._queries.pop(self.slot, None)
-            self.slot = None
+        """Forgets the slot, which is the step that counts, and frees it. Refused: a line has freed it before."""
+        slot, volume = self.slot, self._volume
+        if slot is not None:
+            volume._doubt()
+            self.slot = None  # now it is dropped
+            volume._free(slot)
 
     def reopen(self) -> Difference:
         """Drops the query and opens its formula again, with its rows as the new opening has them. Returns how they
@@ -759,14 +972,16 @@ class Query(_Reader):  # type: ignore[misc]
         refusal leaves the query dropped, with the rows that it had."""
         volume = self._volume
         try:
-            with volume._lock:
-                old = self.rows._placed
-                self._drop()
-                self._open()
-                return _difference(old, self.rows._placed)
+            return volume._handle.locked(self._reopen)
         finally:
             if volume._is_due:
                 volume._turned()
+
+    def _reopen(self) -> Difference:
+        old = self.rows._placed
+        self._drop()
+        self._open()
+        return _difference(old, self.rows._placed)
 
     def __enter__(self) -> "Query":
         return self
@@ -775,15 +990,14 @@ class Query(_Reader):  # type: ignore[misc]
         self.drop()
 
     def __del__(self) -> None:
-        # no call here: a thread may be in one, and this may run at any point of it
+        # no call of the library here: a thread may be in one, and this may run at any point of it
         if self.slot is not None:
-            self._volume._forgotten.append(self.slot)
-            self._volume._is_due = True
+            self.slot = None
+            self._volume._doubt()
 
     __reduce_ex__ = _no_copy
 
     def __repr__(self) -> str:
-        with self._volume._lock:
-            slot, mark = self.slot, self.mark
+        slot, mark = self.slot, self.mark
         how = "dropped" if slot is None else f"slot {slot}" + (f", {mark.cause}" if mark else "")
         return f"<Query {self.formula!r}, {how}>"

@@ -7,7 +7,7 @@ that are open and keep a table of each. A user opens windows, looks at them and 
 while the workers read. Before a window is closed it has to show what a fetch finds: by its result, by its rows, by the
 workers' table, and where it is opened with `values` by the sizes that its rows have. The last line counts the windows;
 status 0 where all were right. `.ci/python` runs it."""
-import os, random, sys, threading, time
+import os, random, sys, threading
 
 TOP = os.path.dirname(os.path.dirname(os.path.dirname(os.path.realpath(__file__))))
 sys.dont_write_bytecode = True

@@ -265,7 +265,7 @@ class Command(unittest.TestCase):
         installed = f"{PACKAGE}/bin/{self.name}"
         how = [installed] if os.path.exists(installed) else ["-m", "yazgoulm._explain"]
         words = [sys.executable, *how, *words]
-        done = subprocess.run(words, input=script, capture_output=True, timeout=30, env=self.env)
+        done = subprocess.run(words, input=script, capture_output=True, timeout=60, env=self.env)
         return done.returncode, done.stdout.decode(), done.stderr.decode()
 
     def test_text(self):

@@ -21,6 +21,19 @@ def every(calls, wrong):
             yield call.replace("@", given), error, argument + (said if said[0] in "[:" else f" {said}")
 
 
+# Calls with two wrong arguments or more, and the first of them.
+TWO_WRONG = [
+    ("volume.create([], 'x')", "name"), ("volume.create('c', 'x', 0)", "dir"),
+    ("volume.create('c', 1, 0, 'x')", "kind"),
+    ("volume.create('c', 1, 'file', 'x', 'y')", "size"), ("volume.create([], 'x', attributes={'x': 1.5})", "name"),
+    ("volume.create('c', 'x', attributes=[])", "dir"), ("volume.create('c', time='x', attributes=[])", "time"),
+    ("volume.move('x', 'y', [])", "node"), ("volume.move(4, 'y', [])", "dir"), ("volume.rename('x', [])", "node"),
+    ("volume.write('x', 'y', 'z')", "node"), ("volume.write(4, 'y', 'z')", "size"), ("volume.write('x', 'y')", "node"),
+    ("volume.write('x', time='y')", "node"), ("volume.set('x', [], 1.5)", "node"), ("volume.set(4, [], 1.5)", "attr"),
+    ("volume.set('x', 'a', 1.5, 'LONG')", "node"), ("volume.unset('x', [])", "node"),
+    ("volume.attribute('x', [])", "node"), ("volume.find([], 'x')", "name"), ("volume.find_path([], 'x')", "path"),
+]  # fmt: skip
+
 # In each row: a call, the class of its exception, and what the sentence has to say.
 NUMBERS = [
     *every([
@@ -267,7 +280,7 @@ SIGNATURES = [
     ("volume.move(4, 'c')", TypeError, "'name'"), ("volume.set(4, 'x')", TypeError, "'value'"),
     ("volume.open()", TypeError, "'formula'"), ("volume.open('size>1', limit=5)", TypeError, "'limit'"),
     ("volume.fetch()", TypeError, "'formula'"), ("volume.attribute(4)", TypeError, "'name'"),
-    ("Volume(5)", TypeError, "__init__()"), ("volume.remove()", TypeError, "'node'"),
+    ("Volume(5)", TypeError, "path must be a str, bytes or a path, not 5"), ("volume.remove()", TypeError, "'node'"),
 ]
 
 GROUPS = NUMBERS, WORDS, NAMES, VALUES, FORMULAS, PARAMETERS, STATES, SIGNATURES
@@ -316,6 +329,13 @@ class WrongCalls(unittest.TestCase):
             count += 1
         self.assertGreaterEqual(count, 245)
         self.assertEqual((self.volume.changes, [it.node for it in self.volume.children(ROOT)]), (4, [4, 2]))
+
+    def test_the_first_of_two_wrong_arguments_is_named(self):
+        """By both ways to call it is the first of the call's signature."""
+        for call, first in TWO_WRONG:
+            with self.subTest(call), self.assertRaises((TypeError, ValueError)) as caught:
+                eval(call, {"volume": Volume()})
+            self.assertEqual(str(caught.exception).split()[0], first, call)
 
     def test_a_reason_is_of_its_class(self):
         """A BadName is a ValueError; `reason` is the last part of the sentence, and empty where there is none."""

@@ -1,6 +1,6 @@
 """The Python module: scenarios by lines and by methods, and what a method gives, refuses and wants."""
-import asyncio, code, contextlib, copy, errno, gc, glob, inspect, io, itertools, json, operator, os, pathlib, pickle, re
-import shutil, signal, subprocess, sys, tempfile, threading, time, typing, unittest, warnings
+import asyncio, code as interpreter, contextlib, copy, errno, gc, glob, inspect, io, itertools, json, operator, os, pathlib
+import pickle, re, resource, shutil, signal, subprocess, sys, tempfile, threading, time, typing, unittest, warnings
 
 TOP = os.path.dirname(os.path.dirname(os.path.dirname(os.path.realpath(__file__))))
 sys.dont_write_bytecode = True
@@ -9,11 +9,11 @@ sys.path.insert(0, os.environ.get("YAZGOULM_PACKAGE") or f"{TOP}/python")
 import yazgoulm
 from yazgoulm import (
     B_ATTR_CHANGED, B_ENTRY_CREATED, B_ENTRY_MOVED, B_ENTRY_REMOVED, B_STAT_CHANGED, FILE, FOLDER, ROOT, Applied, Attr,
-    Attribute, BadQuery, Cause, Difference, Entry, Exists, Kind, Mark, Message, NoMemory, NotFound, Op, Opcode, Overrun,
-    Place, Query, Refused, Type, Volume, quote, to_bytes, to_name,
+    Attribute, BadQuery, Cause, Difference, Entry, Kind, Mark, Message, NoMemory, NotFound, Op, Opcode, Overrun,
+    Place, Refused, Type, Volume, quote, to_bytes, to_name,
 )
 
-SECONDS = 8  # the longest wait for something that has to come
+SECONDS = int(os.environ.get("TEST_SECONDS", 60))  # the longest wait for something that has to come
 
 
 def scenarios():
@@ -558,6 +558,39 @@ class Volumes(Case):
                     except (Refused, TypeError):
                         pass
         self.assertLess(memory() - before, 1_000_000)  # each name takes 300 bytes
+
+    def test_a_fork_beside_a_thread_that_may_go_on(self):
+        """A thread that waited for the volume is told that it may go on, and hasn't, when another one forks. In the child
+        threads wait for each other as they do elsewhere."""
+        interval = sys.getswitchinterval()
+        self.addCleanup(sys.setswitchinterval, interval)
+        for _ in range(3):
+            volume = Volume()
+            handle = volume._handle
+            handle.acquire(True)
+            thread = threading.Thread(target=lambda: volume.changes)
+            thread.start()
+            time.sleep(0.05)  # until it waits, as it nearly always does
+            sys.setswitchinterval(100)
+            handle.release()
+            until = time.monotonic() + 0.02
+            while time.monotonic() < until:
+                pass  # the thread wakes up, and can't run before this one waits
+            with warnings.catch_warnings():
+                warnings.simplefilter("ignore", DeprecationWarning)
+                child = os.fork()
+            sys.setswitchinterval(interval)
+            if child == 0:
+                handle.acquire(True)
+                other = threading.Thread(target=lambda: volume.changes, daemon=True)
+                other.start()
+                time.sleep(0.05)
+                handle.release()
+                other.join(SECONDS)
+                os._exit(other.is_alive())
+            thread.join()
+            self.assertEqual(os.waitpid(child, 0)[1], 0)
+            volume.close()
 
     def test_a_fork_beside_a_thread(self):
         """A child has a volume of its own, whatever another thread was doing, and ends; nobody waits in it."""
@@ -1397,6 +1430,11 @@ class EventLoops(Case):
         self.run_until(go(lambda _: self.volume.close()))
 
 
+# What an import says in a clone where it may start no program.
+CANNOT_RUN = "tools/take finds the library, and can't be run: subprocess not supported for isolated subinterpreters" \
+    "; set YAZGOULM_LIBRARY\n"
+
+
 class Libraries(unittest.TestCase):
     """Which shared library is taken, and which is refused."""
 
@@ -1427,6 +1465,28 @@ class Libraries(unittest.TestCase):
                       ("extension", "ctypes"))
         self.assertEqual(self.imports("import yazgoulm", YAZGOULM_BACKEND="c"),
                          "ImportError: YAZGOULM_BACKEND is 'c', and can be \"extension\" or \"ctypes\"")
+
+    @unittest.skipUnless(yazgoulm.backend == "extension", "it is of the extension")
+    def test_an_extension_of_other_sources(self):
+        """A source that is touched is the same, and one that is another has ctypes taken, with a warning."""
+        script = "import yazgoulm; print(yazgoulm.backend)"
+        given = os.path.dirname(yazgoulm.__file__)
+        headers = f"{given}/../../include"
+        if not os.path.exists(headers):
+            self.skipTest("the package is no clone's")
+        with tempfile.TemporaryDirectory() as room:
+            shutil.copytree(given, f"{room}/python/yazgoulm", ignore=shutil.ignore_patterns("liblq*"))
+            shutil.copytree(headers, f"{room}/include")
+            how = {"PYTHONPATH": f"{room}/python", "YAZGOULM_BACKEND": "",
+                   "YAZGOULM_LIBRARY": yazgoulm._library._found()}
+            os.utime(f"{room}/include/lq.h")
+            self.assertEqual(self.imports(script, **how), "extension\n")
+            with open(f"{room}/include/lq.h", "a") as file:
+                file.write("\n")
+            self.assertEqual(self.imports(script, **how), "ctypes\n")
+            self.assertIn("is of other sources than those beside it: make library builds it",
+                          self.imports(f"import warnings; warnings.simplefilter('error'); {script}", **how))
+            self.assertIn("is of other sources", self.imports(script, **{**how, "YAZGOULM_BACKEND": "extension"}))
 
     def test_a_second_import(self):
         """What came of the first goes on beside what comes of the second, with classes of its own."""
@@ -1501,14 +1561,52 @@ class Libraries(unittest.TestCase):
             self.skipTest("this Python has other interpreters under another name")
         self.assertEqual(self.imports(script), "well\n")
 
+    def test_an_import_in_an_interpreter_of_its_own(self):
+        """In one that shares nothing with the first it is done, or its error says why not. Python 3.12 has no `ctypes`
+        there, and what would start a program, as in a clone, may not."""
+        script = """if True:
+            import sys
+            try:
+                import _interpreters as interpreters
+            except ImportError:
+                import _xxsubinterpreters as interpreters
+            text = '''
+            try:
+                import yazgoulm
+                volume = yazgoulm.Volume()
+                query = volume.open("size>=0")
+                volume.create("a")
+                said = str([it.name for it in query])
+            except ImportError as error:
+                said = str(error)
+            print(said, flush=True)
+            '''
+            text = "import sys; sys.path[:] = " + repr(sys.path) + chr(10) + __import__("textwrap").dedent(text)
+            (getattr(interpreters, "exec", None) or interpreters.run_string)(interpreters.create(), text)
+        """
+        is_lacking = sys.version_info[:2] == (3, 12) and yazgoulm.backend == "ctypes"
+        lacks = "module _ctypes does not support loading in subinterpreters\n"
+        said = self.imports(script)
+        self.assertIn(said, [lacks] if is_lacking else ["['a']\n", CANNOT_RUN])
+
+    def test_few_descriptors(self):
+        """Where a command can't find its library for want of them it says so in a line."""
+        environment = {**os.environ, "PYTHONPATH": os.path.dirname(os.path.dirname(yazgoulm.__file__)),
+                       "YAZGOULM_LIBRARY": "", "YAZGOULM_BACKEND": yazgoulm.backend}
+        ran = subprocess.run([sys.executable, "-B", "-m", "yazgoulm._mail", "none"], env=environment, encoding="utf-8",
+                             stdout=subprocess.PIPE, stderr=subprocess.PIPE,
+                             preexec_fn=lambda: resource.setrlimit(resource.RLIMIT_NOFILE, (8, 8)))
+        self.assertNotEqual(ran.returncode, 0)
+        self.assertEqual(len(ran.stderr.splitlines()), 1, ran.stderr)
+
     @unittest.skipUnless(shutil.which(os.environ.get("CC") or "cc"), "there is no C compiler")
     def test_a_library_of_another_minor_version_is_refused(self):
         """Each stands for one that has all calls and another version."""
-        from yazgoulm import _by_ctypes
+        from yazgoulm import _header
 
-        own = _by_ctypes._VERSION
+        own = _header.VERSION
         self.assertEqual("{}.{}.{}".format(own // 1000000, own // 1000 % 1000, own % 1000), yazgoulm.__version__)
-        calls = {*_by_ctypes._STATUS, *_by_ctypes._OTHERS} - {"lq_version"}
+        calls = {*_header.CALLS} - {"lq_version"}
         with tempfile.TemporaryDirectory() as room:
             for version in own - 1000, own + 1000, own + 1000000:
                 path = f"{room}/{version}.so"
@@ -1549,7 +1647,7 @@ class Documents(unittest.TestCase):
                 text = file.read()
             for more, body, told in piece.findall(text):
                 if not more:
-                    prompt = code.InteractiveConsole({"__name__": "__main__"})
+                    prompt = interpreter.InteractiveConsole({"__name__": "__main__"})
                 out, errors = io.StringIO(), []
                 prompt.write = errors.append
                 sys.displayhook = lambda _: None  # the prompt shows the value of an expression too

@@ -1,5 +1,8 @@
-"""Live queries on a real folder: what the package yazgoulm.folder hasn't got.
+"""Live queries on a real folder, by a mirror in Python that makes each change by a call of its own.
 
+The mirror is the one that the package had before the library kept folders; tests/python/old_mirror has it.
+
+    command   what the command writes, and how it ends
     server    has `lq run` as a process in place of the package's library
     stream    sends changes to a relay, in place of lq
     check     compares lq with the disk
@@ -7,15 +10,8 @@
 """
 import os, sys
 
-sys.path.append(os.path.join(os.path.dirname(os.path.realpath(__file__)), "../../../python"))
-
-from yazgoulm.folder import _terminal
-from yazgoulm.folder._terminal import ENDED, UNUSABLE, Trouble, Unread, carried_out, is_read, say
+_TOP = os.path.join(os.path.dirname(os.path.realpath(__file__)), "../../..")
+sys.path += [f"{_TOP}/python", f"{_TOP}/tests/python"]
 
 SAME = 0  # --check found no difference
 DIFFERS = 1  # --check found one, or its command failed
-
-
-def tell(line):
-    """Writes what was found, and doesn't end the command, to standard error."""
-    _terminal.tell("live_folder", line)

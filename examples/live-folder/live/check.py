@@ -1,8 +1,9 @@
 """Compares the entries of lq with the disk, and a window with the entries of lq."""
-from yazgoulm.folder._disk import look_below
-from yazgoulm.folder._mirror import ROOT
+from old_mirror.disk import look_below
+from old_mirror.mirror import ROOT
 from yazgoulm import Query, to_name
-from yazgoulm._text import printable
+
+from .command import printable
 
 
 def is_same(mirror, window, say):

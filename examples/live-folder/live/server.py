@@ -1,10 +1,10 @@
 """`lq run` as a process, in place of the package's library: a line, then its reply."""
 import io, json, subprocess
 
+from old_mirror.server import BACKLOG, Server, Window
 from yazgoulm import BadQuery, Message, Opcode, Refused
-from yazgoulm.folder._server import BACKLOG, PATIENCE, Server, Window
 
-from . import ENDED, UNUSABLE, Trouble
+from .command import ENDED, UNUSABLE, Trouble
 
 PORT = 4  # places in a window's port
 
@@ -40,7 +40,7 @@ class Process:
 class Lines(Server):
     """The package's server, but with a process that answers lines."""
 
-    def __init__(self, lq, tell, patience=PATIENCE):
+    def __init__(self, lq, tell, patience):
         self.lq, self.pipe = lq, lq.pipe
         super().__init__(tell, patience)
 

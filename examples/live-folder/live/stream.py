@@ -1,7 +1,7 @@
 """Sends the changes to a relay, in place of lq: examples/relay carries them out, and has the windows."""
 import contextlib, json, os, sys
 
-from . import UNUSABLE, Trouble
+from .command import UNUSABLE, Trouble
 
 sys.path.append(os.path.join(os.path.dirname(os.path.realpath(__file__)), "../../relay"))
 

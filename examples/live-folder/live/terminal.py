@@ -3,7 +3,7 @@ import time
 
 from yazgoulm import B_ATTR_CHANGED, B_STAT_CHANGED
 
-from . import say
+from .command import say
 
 SIGNS = {"B_ENTRY_CREATED": "+", "B_ENTRY_REMOVED": "-", "B_ENTRY_MOVED": ">", "B_STAT_CHANGED": "~"}
 

@@ -1,14 +1,18 @@
 """What the tests of live_folder share. LQ in the environment names another program than ./lq; BY=--library has all of
 them run over the library."""
-import os, subprocess, sys, tempfile, unittest
+import os, subprocess, sys, unittest
 
 sys.dont_write_bytecode = True
 HERE = os.path.dirname(os.path.dirname(os.path.realpath(__file__)))
+sys.path.append(os.path.join(HERE, "../../tests/python"))
+
+from on_disk import OnDisk
+
 LIVE = os.path.join(HERE, "live_folder")
 LQ = os.path.realpath(os.environ.get("LQ") or os.path.join(HERE, "../../lq"))
 BY = os.environ.get("BY", "").split()
 LONG = b"\xff" * 200  # a name that lq refuses: as text it is too long
-SECONDS = 20  # the longest wait for something that has to come
+SECONDS = int(os.environ.get("TEST_SECONDS", 60))  # the longest wait for something that has to come
 
 
 def run(*words, **variables):
@@ -21,24 +25,7 @@ def run(*words, **variables):
 of_a_process = unittest.skipIf(BY, "there is no process of lq")
 
 
-class Case(unittest.TestCase):
-    def setUp(self):
-        room = tempfile.mkdtemp(prefix="live-")
-        self.addCleanup(subprocess.run, ["rm", "-rf", room])
-        self.folder = os.path.join(room, "folder")
-        os.mkdir(self.folder)
-
-    def path(self, *names):
-        return os.path.join(self.folder, *names)
-
-    def write(self, name, size=0):
-        with open(self.path(name), "wb") as file:
-            file.write(b"x" * size)
-
-    def write_raw(self, name):
-        """An empty file under a name of any bytes."""
-        os.close(os.open(os.path.join(os.fsencode(self.folder), name), os.O_CREAT))
-
+class Case(OnDisk):
     def script(self, name, command):
         """The path of a shell script beside the folder."""
         path = f"{self.folder}-{name}"

@@ -39,13 +39,11 @@ class Words(Case):
             [],
             ["one"],
             ["--check", "true", self.folder],
-            ["--web", self.folder, "a==b"],
-            ["--web", "80000", self.folder, "a==b"],
-            ["--web", "9" * 5000, self.folder, "a==b"],
+            ["--web", "0", self.folder, "a==b"],
         ):
             status, out, error = run(*words)
             self.assertEqual((status, out), (2, ""), error)
-            self.assertIn("live_folder --web PORT FOLDER FORMULA..", error)
+            self.assertIn("live_folder --check COMMAND FOLDER FORMULA", error)
 
     def test_a_formula_that_is_refused(self):
         self.write_raw(LONG)  # a second line, if the listing came first

@@ -3,9 +3,8 @@ import os, sys
 
 from case import HERE, Case
 
-sys.path.insert(0, HERE)
-import live  # which finds the package
-from yazgoulm.folder._inotify import MOVED_FROM, MOVED_TO, Inotify
+sys.path += [os.path.join(HERE, "../../python"), os.path.join(HERE, "../../tests/python")]
+from old_mirror.inotify import MOVED_FROM, MOVED_TO, Inotify
 
 
 class Halves(Case):

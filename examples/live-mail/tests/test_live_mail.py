@@ -1,5 +1,5 @@
-"""Live mail folders over a Maildir in which mail comes and goes: what they show is what Python's mailbox finds. And the
-tutorial's folder is the program's."""
+"""Live mail folders over a Maildir in which mail comes and goes: what they show is what Python's mailbox finds. So do
+the tutorial's folders, over the program's volume."""
 import json, mailbox, os, re, shutil, subprocess, sys, tempfile, threading, time, unittest
 
 sys.dont_write_bytecode = True
@@ -7,10 +7,9 @@ HERE = os.path.dirname(os.path.dirname(os.path.realpath(__file__)))
 sys.path[:0] = [HERE, f"{HERE}/../../python"]
 
 from maildir import Mail
-from yazgoulm import Volume
-from yazgoulm._mail import Folder, Mirror
+from yazgoulm._mail import Window
+from yazgoulm._mails import Mails
 
-PROGRAM = f"{HERE}/../../python/yazgoulm/_mail.py"
 TUTORIAL = f"{HERE}/../../docs/TUTORIAL.md"
 MESSAGES, ACTS, SECONDS = 3000, 600, 120
 LAST = "name==the-last-*"
@@ -110,25 +109,58 @@ class LiveMail(unittest.TestCase):
         self.assertEqual(shown, wanted)
         self.assertGreater(changed, 10)
 
-    def test_a_folder_is_rebuilt_after_an_overrun(self):
-        with Volume() as volume:
-            mirror = Mirror(volume, self.mail.maildir)
-            mirror.look()
-            folders = {formula: Folder(volume, formula, backlog=8) for formula in FORMULAS}
-            rows = {formula: set(folder.rows.values()) for formula, folder in folders.items()}
-            ends = 0
-            for number in range(ACTS):
-                self.mail.act()
-                if number % 200 == 199:
-                    mirror.look()
-                    opened = {formula: folder.query.at for formula, folder in folders.items()}
-                    for formula, folder in folders.items():
-                        for sign, subject in folder.follow():
-                            (rows[formula].add if sign == "+" else rows[formula].remove)(subject)
-                        ends += folder.query.at != opened[formula]
-                    self.assert_shows({formula: [*folder.rows.values()] for formula, folder in folders.items()})
-            self.assertGreater(ends, 0)
-            self.assert_shows(rows)
+    def turn(self, mails):
+        """Has the volume be what is on disk."""
+        is_settled = False
+        while not is_settled:
+            for folder in mails.folders:
+                is_settled = folder.turn().settled
+                mails.hear(folder)
+
+    def begun(self):
+        mails = Mails(self.mail.maildir, self.fail)
+        self.addCleanup(mails.close)
+        mails.begin()
+        return mails
+
+    def test_a_window_is_rebuilt_after_an_overrun(self):
+        mails = self.begun()
+        windows = {formula: Window(mails.volume, formula, backlog=8) for formula in FORMULAS}
+        rows = {formula: [row["subject"] for row in window.shown.values()] for formula, window in windows.items()}
+        ends = 0
+        for number in range(ACTS):
+            self.mail.act()
+            if number % 200 == 199:
+                self.turn(mails)
+                for formula, window in windows.items():
+                    opened = window.query.at
+                    for sign, row in window.follow():
+                        if sign == "-":
+                            rows[formula].remove(row["subject"])
+                        elif sign == "+":
+                            rows[formula].append(row["subject"])
+                    ends += window.query.at != opened
+                self.assert_shows(rows)
+        self.assertGreater(ends, 0)
+
+    def test_the_tutorial_s_folder_is_rebuilt_after_an_overrun(self):
+        with open(TUTORIAL, encoding="utf-8") as file:
+            source = re.search(r"(?ms)^class Folder:.*?(?=^\S)", file.read())[0]
+        names = {}
+        exec(f"from yazgoulm import *\n{source}", names)
+        mails = self.begun()
+        folders = {formula: names["Folder"](mails.volume, formula, backlog=8) for formula in FORMULAS}
+        ends = 0
+        for number in range(ACTS):
+            self.mail.act()
+            if number % 200 == 199:
+                self.turn(mails)
+                opened = {formula: folder.query.at for formula, folder in folders.items()}
+                for formula, folder in folders.items():
+                    folder.follow()
+                    ends += folder.query.at != opened[formula]
+                self.assert_shows({formula: [*folder.rows.values()] for formula, folder in folders.items()})
+        self.assertGreater(ends, 0)
 
     def test_a_formula_that_cannot_be_read_is_said(self):
         words = [f"{HERE}/live_mail.py", self.mail.maildir, "MAIL:status="]
@@ -152,15 +184,6 @@ class LiveMail(unittest.TestCase):
             timer.cancel()
         self.assertEqual(live.returncode, 3)
         self.assertRegex(said, "^yazgoulm-mail: .*/(new|cur): No such file or directory\n$")
-
-
-class Tutorial(unittest.TestCase):
-    def test_it_has_the_program_s_folder(self):
-        """But for the blank lines, with which a class can't be pasted into Python's prompt."""
-        with open(PROGRAM, encoding="utf-8") as file:
-            folder = re.search(r"(?ms)^class Folder:.*?(?=^\S)", file.read())[0]
-        with open(TUTORIAL, encoding="utf-8") as file:
-            self.assertIn(folder.strip().replace("\n\n", "\n"), file.read().replace("\n\n", "\n"))
 
 
 if __name__ == "__main__":

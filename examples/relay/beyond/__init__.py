@@ -1,11 +1,14 @@
 """A relay over a log that an engine keeps, in order from the engine to the user.
 
     engine    streams of records, by Redis
+    pulse     signs of life of a relay, by a thread of their own
     batches   the log of what the relay took, and what it alone writes
     changes   which lines are changes, what the others are answered, and which were answered before
-    snapshot  the entries of a volume in pieces, and a volume from them
+    snapshot  a saved volume in pieces, and what a relay knows beside it
+    opening   a result in parts, as it is written and read
     window    a live query, and the records that its clients read
     windows   the table of windows, their names, and the answers to requests
+    tries     which requests the relays were at that have ended
     server    takes changes and requests in order, and writes what they give
     serving   serves until it is stopped, and begins again where the engine had gone
     status    what the relay is doing, for whoever watches over it

@@ -10,12 +10,16 @@ import redis
 
 from . import ENDED, UNUSABLE, Trouble, reading
 from .engine import NOBODY, START, Gone, order, reaches
+from .opening import parts_of
+from .pulse import Pulse
 
 ANSWERS = 10_000  # records that `replies` and `opened` keep
 ENDED_WINDOW = 3600  # seconds that the stream of a window stays after its mark
 NOTHING = {"taken": 0, "applied": START, "change": 0, "heard": 0, "asked": START}  # the fields before the first batch
 STOPPING = 5  # seconds that a relay which is stopped waits for Redis
 STANDS = "equal or smaller"  # how Redis refuses a record that it has
+AT_ONCE = 500_000  # bytes that are sent before the answers are awaited
+OPENINGS = 4  # openings whose parts are kept
 
 
 class Overtaken(Trouble):
@@ -31,7 +35,7 @@ class Batches:
     def __init__(self, log):
         self.log, self.key, self.me = log, log.key, uuid.uuid4().hex.encode()
         self.last = "XREVRANGE", self.key("log"), "+", "-", "COUNT", 1
-        self.end, self.beats, self.beaten = START, 0, 0.0
+        self.end, self.beaten, self.pulse = START, 0.0, Pulse(log, self.me)
 
     # ---- one relay at a time
 
@@ -40,12 +44,14 @@ class Batches:
         `lock` seconds. The batch without changes that this appends stops all other relays."""
         seen, since = None, 0.0
         while True:
+            now = time.monotonic()  # before the look: where this is held up after it, there may be a newer sign
             last, beat = self.log.before("log", b"+", 1), self.last_beat()
             is_alive = seen not in (None, (last, beat))
             if seen != (last, beat):
                 seen, since = (last, beat), time.monotonic()
             serves = last[0][1].get(b"relay") if last else None
-            if serves in (None, NOBODY, self.me) or time.monotonic() > since + self.log.lock:
+            self.pulse.step("the beginning")
+            if serves in (None, NOBODY, self.me) or now > since + self.log.lock:
                 if self.follow(last):
                     return
             elif is_alive and not is_standby:
@@ -62,7 +68,7 @@ class Batches:
         if last:
             self.end, found = last[0]
             with reading(f"the last entry of {self.key('log')}"):
-                fields = {field: found[field.encode()] for field in NOTHING}
+                fields = state_of(found)
         else:
             self.end = START
             self.check_version()
@@ -79,28 +85,37 @@ class Batches:
         if self.log.redis.exists(self.key("state")):
             raise Trouble(f"{self.log.name} has keys of version 0.1.0: send its entries under another name", UNUSABLE)
 
+    def step(self, name):
+        """Notes that this relay makes progress, and at what it is; Overtaken where another one has taken over."""
+        self.pulse.step(name)
+        if self.pulse.is_overtaken:
+            self.pulse.is_overtaken = False
+            self.check_again()
+
     def beat(self, fields, is_due=False):
-        """A sign of life, where a second or a third of `lock` has passed since the last one. `fields` gives what it says.
-        An idle relay finds here that another one has taken over."""
+        """A sign of life between two turns, where a second or a third of `lock` has passed since the last one. `fields`
+        gives what it says. An idle relay finds here that another one has taken over."""
         if not is_due and time.monotonic() < self.beaten + min(self.log.lock / 3, 1):
             return
         now = self.check_again()
-        self.beats += 1
-        fields = {"beat": f"{self.me.decode()} {self.beats}", "at": now, **fields()}
+        fields = {"beat": self.pulse.beat(), "at": now, **fields()}
         words = (word for field in fields.items() for word in field)
         self.accepted(self.log.send(("HSET", self.key("life"), *words)))
         self.beaten = time.monotonic()
 
     @reaches
-    def release(self):
+    def release(self, tried=()):
         """Gives its place away: appends a batch of nobody's, after which another relay begins at once. It has a
-        connection of its own, since this may come in the middle of a command."""
+        connection of its own, since this may come in the middle of a command. The requests that it `tried` are not what
+        ends it."""
         with redis.Redis.from_url(self.log.url, socket_timeout=STOPPING).pipeline() as pipe:
             pipe.watch(self.key("log"))
+            if tried:
+                pipe.hdel(self.key("tries"), *tried)
             for position, fields in pipe.xrevrange(self.key("log"), count=1):
                 if fields.get(b"relay") == self.me:
                     pipe.multi()
-                    fields = {**{field: fields[field.encode()] for field in NOTHING}, "relay": NOBODY}
+                    fields = {**state_of(fields), "relay": NOBODY}
                     pipe.xadd(self.key("log"), fields, f"{order(position)[0] + 1}-0")
                     pipe.execute()
 
@@ -159,22 +174,29 @@ class Batches:
         commands = [*self.commands(batch, records)]
         if is_again:  # a stream whose time has passed goes by a command of its own, not in a transaction with XADD
             commands = [("EXISTS", key) for key in {key for _, key, *_ in commands}] + commands
-        for command, answer in zip(commands, self.log.send(*commands) if commands else ()):
-            if STANDS not in str(answer):
-                self.accepted([answer])
-            elif not is_again:
-                self.check_again()
-                raise Trouble(f"{command[1]} has an entry that this relay hasn't written", ENDED)
+        for part in pipelines(commands):
+            self.step("the writes of a batch")
+            for command, answer in zip(part, self.log.send(*part)):
+                if STANDS not in str(answer):
+                    self.accepted([answer])
+                elif not is_again:
+                    self.check_again()
+                    raise Trouble(f"{command[1]} has an entry that this relay hasn't written", ENDED)
 
     def commands(self, batch, records):
-        counts = collections.Counter()
+        totals, counts = collections.Counter(stream for stream, _ in records), collections.Counter()
         for stream, record in records:
             counts[stream] += 1
-            keep = ANSWERS if stream in ("replies", "opened") else self.log.keep
+            keep = self.log.keep
+            if stream in ("replies", "opened"):
+                keep = ANSWERS
+            elif "part" in record:
+                keep = OPENINGS * totals[stream]
             words = [word for field in record.items() for word in field]
             yield "XADD", self.key(stream), "MAXLEN", keep, f"{order(batch)[0]}-{counts[stream]}", *words
             if "mark" in record:
-                yield "EXPIRE", self.key(stream), ENDED_WINDOW
+                for each in stream, parts_of(stream):
+                    yield "EXPIRE", self.key(each), ENDED_WINDOW
 
     # ---- the snapshot
 
@@ -183,6 +205,7 @@ class Batches:
         new = self.key("snapshot:new")
         self.fenced(lambda _: ("DEL", new))
         for piece in pieces:
+            self.step("a piece of a snapshot")
             self.fenced(lambda _, piece=piece: ("RPUSH", new, piece))
         self.fenced(lambda _: ("RENAME", new, self.key("snapshot")))
 
@@ -196,3 +219,22 @@ class Batches:
     @reaches
     def piece(self, at):
         return self.log.redis.lindex(self.key("snapshot"), at)
+
+
+def state_of(batch):
+    """The fields of a batch that say up to where all was taken."""
+    more = {"skipped": batch[b"skipped"]} if b"skipped" in batch else {}
+    return {**{field: batch[field.encode()] for field in NOTHING}, **more}
+
+
+def pipelines(commands):
+    """The commands in order, AT_ONCE bytes or so at a time."""
+    part, size = [], 0
+    for command in commands:
+        part.append(command)
+        size += sum(len(word) for word in command if isinstance(word, (bytes, str)))
+        if size > AT_ONCE:
+            yield part
+            part, size = [], 0
+    if part:
+        yield part

@@ -58,4 +58,4 @@ class Answered:
 
 def name(by):
     """What a change says of who sent it, as a text of any bytes."""
-    return by and by.decode("latin-1")
+    return None if by is None else by.decode("latin-1")

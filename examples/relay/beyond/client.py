@@ -1,11 +1,20 @@
 """A client: asks for a window by its name and a formula, and folds what comes."""
-import json, time
+import contextlib, json, time
 
 from . import ENDED, UNUSABLE, Trouble, reading
 from .engine import PART, SECONDS, SILENT, Gone, Pause
+from .opening import Gap, Opening
 
 BEAT = 5.0  # seconds between two signs of life of a client
 LOOK = 1.0  # and between two looks at what it follows, while nothing comes
+
+
+class Beginning:
+    """How far a follower's beginning is, so that it goes on there where the engine had gone: `why` it began, the stream
+    of the window, down to where that was searched for an opening, and the opening as far as it was read."""
+
+    def __init__(self, why):
+        self.why, self.stream, self.top, self.opening = why, None, b"+", None
 
 
 class Follower:
@@ -27,42 +36,75 @@ class Follower:
         self.rows, self.values, self.at, self.pause = {}, {}, None, Pause()
         self.age, self.lag, self.is_silent = None, None, False
         self.beaten = self.looked = 0.0
+        self.beginning = self.met = None
 
     # ---- a beginning
 
     def begin(self, why=None):
-        """Asks for the window, and takes its newest opening. Where the last beginning was no help, it waits before."""
-        if why:
-            why += self.pause.words()
-            self.pause.wait()
-        self.beat()
-        self.stream = f"window:{self.ask()}"
-        newest = self.newest() or self.ask(opening="1") and self.newest()
-        if not newest:
-            raise Gone(f"{self.log.key(self.stream)} has no opening")
-        self.position, record = newest
-        with reading(f"{self.log.key(self.stream)} {self.position.decode()}"):
-            opening = json.loads(record[b"opening"])
-            self.seq, self.change, self.rows = opening["seq"], opening["change"], rows_of(opening)
-            self.values, self.at = values_of(opening), opening.get("at")
-        self.is_settled = True
-        self.opened(self, why)
+        """Asks for the window, and takes its newest opening. Where the last beginning was no help, it waits before.
+        Where the engine goes away meanwhile, the next call goes on where this one was."""
+        while True:
+            if not self.beginning:
+                if why:
+                    why += self.pause.words()
+                    self.pause.wait()
+                self.beginning = Beginning(why)
+            try:
+                return self.take(self.beginning)
+            except Gap:
+                why, self.beginning = "a part of its opening isn't kept", None
+            except Trouble:
+                self.beginning = None
+                raise
 
-    def newest(self):
-        return next((it for it in self.log.backwards(self.stream) if b"opening" in it[1]), None)
+    def take(self, it):
+        """Goes on with a beginning to its end."""
+        self.beat()
+        if not it.stream:
+            it.stream = f"window:{self.ask()}"
+        if not it.opening:
+            newest = self.newest(it)
+            if not newest:
+                it.stream = f"window:{self.ask(opening='1')}"
+                newest = self.newest(it)
+            if not newest:
+                raise Gone(f"{self.log.key(it.stream)} has no opening")
+            it.opening = Opening(self.log, it.stream, *newest)
+        it.opening.read(self.beat)
+        opening, self.stream, self.beginning, self.is_settled = it.opening, it.stream, None, True
+        self.position, self.seq, self.change = opening.position, opening.seq, opening.change
+        self.rows, self.values, self.at = opening.rows, opening.values, opening.at
+        self.opened(self, it.why)
+
+    def newest(self, it):
+        """The newest opening of the window's stream, with its position. The search begins at the end again once it has
+        found none."""
+        while found := self.log.before(it.stream, it.top):
+            for each in found:
+                if b"opening" in each[1]:
+                    return each
+            it.top = b"(" + found[-1][0]
+            self.beat()
+        it.top = b"+"
 
     def ask(self, **more):
-        """Has the relay open the window. Returns its number."""
+        """Has the relay open the window. Returns its number. A relay is waited for as long as it gives signs of life."""
         position, end = self.log.end("opened"), time.monotonic() + SECONDS
         if self.has_values:
             more["values"] = "1"
         asked, = self.log.append("windows", [{"name": self.name, "query": self.formula, **more}])
-        while time.monotonic() < end:
+        while time.monotonic() < end or self.is_awaited(asked):
             for position, record in self.log.read({"opened": position}, PART, 1).get("opened", ()):
                 if record.get(b"of") == asked:
                     with reading(f"{self.log.key('opened')} {position.decode()}"):
                         return self.number(json.loads(record[b"reply"]))
+            self.beat()
         raise Trouble(f"no relay answers for {self.log.name}", ENDED)
+
+    def is_awaited(self, asked):
+        """Whether a request still stands, and a relay gives signs of life."""
+        life = self.log.life()
+        return bool(life and life["age"] < SILENT and self.log.has("windows", asked))
 
     def number(self, reply):
         if "error" in reply:
@@ -77,7 +119,7 @@ class Follower:
         records = self.log.read({self.stream: self.position}, PART, seconds).get(self.stream, ())
         for position, record in records:
             with reading(f"{self.log.key(self.stream)} {position.decode()}"):
-                why, message = self.fold(record)
+                why, message = self.fold(position, record)
             if why:
                 return self.begin(why)
             self.position = position
@@ -85,21 +127,20 @@ class Follower:
                 self.pause.reset()
                 self.heard(message)
         self.beat()
+        if not records:
+            self.pause.reset()
         if not records and time.monotonic() > self.looked + LOOK:
             self.looked = time.monotonic()
             self.resume()
             self.look()
 
-    def fold(self, record):
+    def fold(self, position, record):
         """Folds a record. Returns why it isn't the next one, or None, and the message, if it is one."""
         gap = f"the next message after {self.seq} isn't kept"
         if b"mark" in record:
             return self.ended(json.loads(record[b"mark"])["cause"]), None
         if b"opening" in record:
-            opening = json.loads(record[b"opening"])
-            if opening["seq"] == self.seq and (rows_of(opening), values_of(opening)) != (self.rows, self.known()):
-                raise Trouble(f"the opening at {opening['change']} differs from the messages", ENDED)
-            return None if opening["seq"] == self.seq else gap, None
+            return None if self.compare(position, record) else gap, None
         message = json.loads(record[b"message"])
         if message["seq"] != self.seq + 1:
             return gap, None
@@ -127,6 +168,20 @@ class Follower:
         elif attr is not None:
             row.pop(attr, None)  # it was removed, by this change or since
 
+    def compare(self, position, record):
+        """Compares an opening with the rows, if its parts are still kept. Returns whether it is of the last message.
+        Where the engine goes away meanwhile, the next call goes on where this one was."""
+        if not self.met or self.met.position != position:
+            self.met = Opening(self.log, self.stream, position, record)
+        if self.met.seq != self.seq:
+            return False
+        with contextlib.suppress(Gap):
+            self.met.read(self.beat)
+            if (self.met.rows, self.met.values) != (self.rows, self.known()):
+                raise Trouble(f"the opening at {self.met.change} differs from the messages", ENDED)
+        self.met = None
+        return True
+
     def known(self):
         """The values that an opening has too."""
         return {node: {name: row[name] for name in ("size", "last_modified")} for node, row in self.values.items()}
@@ -139,7 +194,9 @@ class Follower:
 
     def resume(self):
         """Goes on where the engine had gone. Begins anew where the last record that was folded isn't there any more."""
-        if not self.log.has(self.stream, self.position):
+        if self.beginning:
+            self.begin()
+        elif not self.log.has(self.stream, self.position):
             self.begin(f"the record of change {self.change} isn't kept")
 
     # ---- signs of life
@@ -159,16 +216,6 @@ class Follower:
             self.is_silent = is_silent
             self.told(f"no relay serves {self.log.name}: what is shown is as of change {self.change}" if is_silent
                       else f"a relay serves {self.log.name} again")
-
-
-def rows_of(opening):
-    return {node: (dir, name) for dir, node, name in opening["result"]}
-
-
-def values_of(opening):
-    """The values of each row of an opening, if it has any."""
-    values = zip(opening["result"], opening.get("values", ()))
-    return {node: {"size": size, "last_modified": time} for (_, node, _), (size, time) in values}
 
 
 def follow(follower, turned=lambda: None):

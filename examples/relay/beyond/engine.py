@@ -20,6 +20,7 @@ SECONDS = 30  # the longest wait for an engine that has gone
 SILENT = 10  # seconds without a sign of life of the relay, after which it is said that none serves
 PART = 1000  # records that are read at a time
 BACKWARDS = 100  # and from the end of a stream
+UNBOUND = 1_000_000_000  # the pace of a line that was never cut
 
 
 class Gone(Exception):
@@ -71,7 +72,10 @@ def reaches(call):
 
 class Log:
     """The streams of one name. `changes`, `windows` and `log` keep all records, the stream of a window its last `keep`.
-    After `lock` seconds without a sign of life of the relay another one may take its place."""
+    After `lock` seconds without a sign of life of the relay another one may take its place.
+
+    `pace` is how many records are read at a time at most: fewer where the line was cut meanwhile, and more again as it
+    holds. So a line that carries little at a time is used as it is. `heard` is when records were read last."""
 
     def __init__(self, url, name, keep=10_000, lock=3.0):
         self.url, self.name, self.keep, self.lock = url, name, keep, lock
@@ -79,7 +83,7 @@ class Log:
             self.pool = redis.ConnectionPool.from_url(url, socket_timeout=SECONDS, retry=Retry(NoBackoff(), 0))
         except ValueError as error:
             raise Trouble(f"{url}: {error}", UNUSABLE) from None
-        self.connected = None
+        self.connected, self.pace, self.heard = None, UNBOUND, 0.0
 
     @property
     def redis(self):
@@ -92,13 +96,14 @@ class Log:
         return f"{self.name}:{part}"
 
     def wait_for(self, act):
-        """Does something, as often as the engine is gone meanwhile, and returns what it gives."""
-        end = time.monotonic() + SECONDS
+        """Does something, as often as the engine is gone meanwhile, and returns what it gives. Trouble: for SECONDS
+        nothing was read."""
+        since = time.monotonic()
         while True:
             try:
                 return act()
             except Gone as gone:
-                if time.monotonic() > end:
+                if time.monotonic() > max(since, self.heard) + SECONDS:
                     raise Trouble(f"the engine has gone: {gone}", ENDED) from None
                 time.sleep(0.05)
 
@@ -125,9 +130,20 @@ class Log:
     def read(self, places, count, seconds=0.0):
         """The next records of each stream after a position, with their positions. Waits for one where none is there."""
         keys = {self.key(stream): position for stream, position in places.items()}
-        found = self.redis.xread(keys, count, int(1000 * seconds) or None)
+        found = self.paced(count, lambda count: self.redis.xread(keys, count, int(1000 * seconds) or None))
         cut = len(self.key(""))
         return {key.decode()[cut:]: records for key, records in found}
+
+    def paced(self, count, call):
+        """What a call that reads so many records gives, at this line's pace."""
+        try:
+            found = call(min(count, self.pace))
+        except (redis.ConnectionError, redis.TimeoutError):
+            self.pace = max(1, min(count, self.pace) // 4)
+            raise
+        if found:
+            self.pace, self.heard = min(UNBOUND, self.pace + self.pace // 8 + 1), time.monotonic()
+        return found
 
     def forwards(self, stream, position):
         """The records of a stream after a position, with their positions."""
@@ -144,7 +160,7 @@ class Log:
 
     @reaches
     def before(self, stream, top, count=BACKWARDS):
-        return self.redis.xrevrange(self.key(stream), top, count=count)
+        return self.paced(count, lambda count: self.redis.xrevrange(self.key(stream), top, count=count))
 
     @reaches
     def first(self, stream):
@@ -166,16 +182,22 @@ class Log:
         found = self.before("log", b"+", 1)
         return {field.decode(): value for field, value in found[0][1].items()} if found else {}
 
-    @reaches
     def lag(self, taken):
         """How many changes wait, where so many were taken."""
+        added, _, _ = self.counts()
+        return added - taken if added else 0
+
+    @reaches
+    def counts(self):
+        """How many changes were ever appended, how many of them are kept, and the position of the first one kept, or
+        START."""
         answer, = self.send(("XINFO", "STREAM", self.key("changes")))
         if isinstance(answer, redis.ResponseError):  # there is no such stream
-            return 0
-        added = dict(zip(answer[::2], answer[1::2])).get(b"entries-added")
-        if added is None:
+            return 0, 0, START
+        found = dict(zip(answer[::2], answer[1::2]))
+        if b"entries-added" not in found:
             raise Trouble("redis-server 7 is needed, and this one is older", UNUSABLE)
-        return added - taken
+        return found[b"entries-added"], found[b"length"], found[b"first-entry"][0] if found[b"first-entry"] else START
 
     @reaches
     def memory(self):
@@ -183,7 +205,28 @@ class Log:
         found = self.redis.info("memory")
         return {"redis": found["used_memory"], "limit": found["maxmemory"]}
 
+    # ---- requests that were tried
+
+    @reaches
+    def tries(self):
+        """The names of the relays that have begun with each request, and haven't done it."""
+        return self.redis.hgetall(self.key("tries"))
+
+    @reaches
+    def note_tries(self, names):
+        self.redis.hset(self.key("tries"), mapping=names)
+
+    @reaches
+    def forget_tries(self, positions):
+        self.redis.hdel(self.key("tries"), *positions)
+
     # ---- signs of life
+
+    @reaches
+    def sign(self, beat, taken):
+        """A sign of life of the relay that has taken so many changes."""
+        (seconds, micros), lag = self.redis.time(), self.lag(taken)
+        self.redis.hset(self.key("life"), mapping={"beat": beat, "at": 1000 * seconds + micros // 1000, "lag": lag})
 
     @reaches
     def beat(self, name):

@@ -2,10 +2,13 @@
 import json, os, stat, time, uuid
 
 from . import ENDED, Trouble, reading
+from .client import Follower
 from .engine import SECONDS, Gone, order
 
 LINES = 1000  # lines that are sent before their replies are awaited
 ROOT = 1
+NAMES = 30  # names that are looked up at a time, at most
+FORMULA = 3000  # bytes of their formula or so
 
 
 class Producer:
@@ -16,7 +19,7 @@ class Producer:
     once need two keys."""
 
     def __init__(self, log, key=None, sent=0):
-        self.log, self.me, self.sent = log, key or uuid.uuid4().hex[:12], sent
+        self.log, self.me, self.sent, self.goes_on = log, key or uuid.uuid4().hex[:12], sent, bool(key)
 
     def change(self, **fields):
         """Sends one change. Returns its reply."""
@@ -81,20 +84,50 @@ class Producer:
 
 
 def load(producer, folder, say):
-    """Sends all that is in a folder, level by level, since an entry needs the node of its folder. Returns the count."""
-    level, count = [(folder, ROOT)], 0
+    """Sends all that is in a folder, level by level, since an entry needs the node of its folder. Returns how many
+    entries stand then, and how many were refused. Under a key an entry may stand from before, and the relay doesn't
+    remember that: then it is looked up, and gone into."""
+    level, count, refused = [(folder, ROOT)], 0, 0
     while level:
         found = [(path, line) for folder, dir in level for path, line in lines_of(folder, dir, say)]
         replies = producer.send([json.dumps(line).encode() for _, line in found])
-        level = []
+        there = [line for (_, line), reply in zip(found, replies) if reply.get("error") == "Exists"]
+        nodes, level = standing(producer.log, there) if producer.goes_on else {}, []
         for (path, line), reply in zip(found, replies):
-            if "error" in reply:
+            node = reply.get("node") or nodes.get((line["dir"], line["name"]))
+            if node is None:
                 say(f"refused: {path!r}: {reply['error']}")
+                refused += 1
                 continue
             count += 1
             if line.get("kind") == "folder":
-                level.append((path, reply["node"]))
-    return count
+                level.append((path, node))
+    return count, refused
+
+
+def standing(log, lines):
+    """The nodes of the entries that stand where these lines would create some, by their folders and names."""
+    wanted, nodes = {(line["dir"], line["name"]) for line in lines}, {}
+    for formula in formulas(sorted({name for _, name in wanted})):
+        follower = Follower(log, f"load {uuid.uuid4().hex}", formula)
+        log.wait_for(follower.begin)
+        nodes.update((place, node) for node, place in follower.rows.items() if place in wanted)
+        log.wait_for(lambda: log.append("windows", [{"name": follower.name}]))
+    return nodes
+
+
+def formulas(names):
+    """Formulas that find the entries of these names, some at a time."""
+    parts, size = [], 0
+    for name in names:
+        quoted = "".join(f"\\{it}" if it in '*?[\\"' else it for it in name)
+        parts.append(f'name=="{quoted}"')
+        size += len(parts[-1].encode())
+        if len(parts) == NAMES or size > FORMULA:
+            yield "||".join(parts)
+            parts, size = [], 0
+    if parts:
+        yield "||".join(parts)
 
 
 def lines_of(folder, dir, say):

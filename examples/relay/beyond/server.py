@@ -1,14 +1,16 @@
 """The relay: one volume, which takes the changes in order, and its windows."""
 import collections, itertools, json, resource
 
-from yazgoulm import ROOT, NoMemory, Refused, Volume
+from yazgoulm import NoMemory, Refused, Volume
 
 from . import ENDED, Trouble, reading
 from .batches import Batches
 from .changes import Answered, is_change, refusal
-from .engine import START
-from .snapshot import from_pieces, listing, restore, to_pieces
-from .window import CHANGES, to_json
+from .engine import START, order
+from .snapshot import from_pieces, head_of, to_pieces, way_station
+from .opening import to_json
+from .tries import Tries
+from .window import CHANGES, uncollected
 from .windows import Leases, Windows
 
 LONGEST = 1  # seconds that a turn waits
@@ -16,57 +18,70 @@ LONGEST = 1  # seconds that a turn waits
 
 class Relay:
     """`taken` counts the entries of the log of changes that were carried out, refused ones too; `applied` is the
-    position of the last, `change` the number of the last accepted one, `nodes` the highest node that was given. Of the
-    requests, `heard` counts those that were answered, and `asked` is the position of the last."""
+    position of the last, `change` the number of the last accepted one. Of the requests, `heard` counts those that were
+    answered, and `asked` is the position of the last. `skipped` counts the entries that went before they were taken,
+    where `skips` has allowed it."""
 
-    def __init__(self, log, every, is_whole=False, lease=60.0, warn=lambda line: None):
-        self.log, self.every, self.is_whole, self.warn = log, every, is_whole, warn
+    def __init__(self, log, every, is_whole=False, lease=60.0, warn=lambda line: None, skips=False):
+        self.log, self.every, self.is_whole, self.warn, self.skips = log, every, is_whole, warn, skips
         self.batches, self.leases = Batches(log), Leases(log, lease)
+        self.step, self.tries = self.batches.step, Tries(log, self.batches.me)
 
     # ---- the beginning
 
     def begin(self, is_standby=False):
         """Takes the log, and makes the volume and the windows what its batches left. Writes what the last one lacks."""
         self.batches.take(is_standby)
-        self.volume, self.shift, self.nodes = Volume(), 0, ROOT
-        self.taken, self.applied, self.heard, self.asked = 0, START, 0, START
-        self.windows, self.answered = Windows(self.volume, max(1, self.log.keep // 4)), Answered()
-        position = START if self.is_whole else self.load()
+        self.step("the beginning")
+        self.taken, self.applied, self.heard, self.asked, self.skipped = 0, START, 0, START, 0
+        self.hold(Volume(), ())
+        with uncollected():
+            position = START if self.is_whole else self.load()
         self.kept = self.taken
         batch, records = self.replay(position)
         self.batches.derive(batch, records, is_again=True)
         self.compare()
+        if self.skips:
+            self.skip()
+        self.tries.begin(self.asked)
         self.leases.begin()
         self.beat()
 
+    def hold(self, volume, answered):
+        self.volume, self.answered = volume, Answered(answered)
+        self.windows = Windows(volume, max(1, self.log.keep // 4), self.step)
+
     @property
     def change(self):
-        return self.volume.changes + self.shift
+        return self.volume.changes
 
     def load(self):
-        """Begins at the snapshot, if there is one. Returns the position of the batch after which it was written."""
-        pieces = [*self.log_pieces()]
-        if not pieces:
+        """Begins at the snapshot, if there is one that this version reads. Returns the position of the batch after
+        which it was written."""
+        pieces = self.log_pieces()
+        first = next(pieces, None)
+        if first is None:
             return START
         with reading(self.log.key("snapshot")):
-            head, items = from_pieces(pieces)
-            answered, entries = items[: head["answered"]], items[head["answered"] :]
-            self.nodes, self.taken, self.heard = head["nodes"], head["taken"], head["heard"]
+            head = head_of(first)
+            if head is None:
+                self.warn(f"{self.log.key('snapshot')} is of another version: begins at the first change")
+                return START
+            self.taken, self.heard, self.skipped = head["taken"], head["heard"], head["skipped"]
             self.applied, self.asked = head["applied"].encode(), head["asked"].encode()
             try:
-                restore(self.volume, entries, self.nodes, self.beat_alone)
-                self.shift = self.windows.shift = head["change"] - self.volume.changes
+                answered, volume = from_pieces(head, pieces)
+                self.hold(volume, answered)
                 self.windows.restore(head["last"], head["windows"], head["names"])
             except NoMemory:
                 raise
             except Refused as refused:
                 raise ValueError(str(refused)) from None
-            self.answered = Answered(answered)
             return head["batch"].encode()
 
     def log_pieces(self):
         for piece in self.batches.snapshot():
-            self.beat_alone()
+            self.step("a piece of a snapshot")
             yield piece
 
     def replay(self, position):
@@ -77,13 +92,15 @@ class Relay:
             with reading(f"{self.log.key('log')} {position.decode()}"):
                 taken, heard, change = (int(batch[field]) for field in (b"taken", b"heard", b"change"))
                 left, ends = json.loads(batch.get(b"left", b"{}")), (batch[b"applied"], batch[b"asked"], change)
-            records = self.carry_out(left, requests.next(heard - self.heard), changes.next(taken - self.taken))
+                self.skipped = int(batch.get(b"skipped", 0))
+                refused = [it.encode() for it in json.loads(batch.get(b"refused", b"[]"))]
+            self.step("a batch that was taken")
+            records = self.carry_out(left, requests.next(heard - self.heard), changes.next(taken - self.taken), refused)
             if (self.applied, self.asked, self.change) != ends:
                 raise Trouble(f"the changes of {self.log.name} differ from its log at {position.decode()}: they give "
-                              f"change {self.change} at {self.applied.decode()}, and not {change}", ENDED)
+                              f"{place(self.applied, self.asked, self.change)}, and not {place(*ends)}", ENDED)
             if records:
                 last = position, records
-            self.beat_alone()
         return last
 
     def compare(self):
@@ -95,38 +112,69 @@ class Relay:
                 window.compare(self.log)
         for window in empty:
             self.warn(f"{self.log.key(window.stream)} had nothing: a new opening is written")
-        self.batches.derive(self.batches.end, [(it.stream, record) for it in empty for record in it.opening()])
+        self.batches.derive(self.batches.end, [record for it in empty for record in it.opening()])
+
+    # ---- changes that have gone
+
+    def lost(self, changes=()):
+        """How many entries of the log of changes went (XTRIM) before they were taken, or read as these were. As long as
+        one that was taken is kept, none did."""
+        added, kept, first = self.log.counts()
+        if START != first and order(first) <= order(self.applied):
+            return 0
+        read = sum(first == START or order(position) < order(first) for position, _ in changes)
+        return max(0, added - kept - self.taken - self.skipped - read)
+
+    def skip(self):
+        """Goes on without what has gone."""
+        lost = self.lost()
+        if lost:
+            self.warn(f"goes on without {lost} entries of {self.log.key('changes')}")
+            self.skipped += lost
+            self.batches.append(self.state())
+
+    def check_kept(self, changes):
+        lost = self.lost(changes)
+        if lost:
+            raise Trouble(f"{lost} entries of {self.log.key('changes')} after {self.applied.decode()} have gone before "
+                          "they were taken: `serve --skip` goes on without them", ENDED)
 
     # ---- a turn
 
     def turn(self):
         """Takes what has come: appends a batch to the log, and then writes all that it gives. Returns whether there was
         something."""
+        self.step("a turn")
         places = {"windows": self.asked, "changes": self.applied}
         read = self.log.read(places, CHANGES, min(self.log.lock / 4, LONGEST))
-        requests, changes = read.get("windows", ()), read.get("changes", ())
+        requests, changes = self.tries.next(read.get("windows", ())), read.get("changes", ())
+        self.check_kept(changes)
         self.beat()
         self.leases.renew(requests)
         left = {**self.windows.too_large(), **self.leases.ended(self.windows.names)}
         if not (read or left):
             return False
-        records = self.carry_out(left, requests, changes)
-        self.batches.append({**self.state(), **({"left": to_json(left)} if left else {})})
+        refused = self.tries.refused(requests)
+        self.tries.note(requests)
+        records = self.carry_out(left, requests, changes, refused)
+        self.batches.append({**self.state(), **({"left": to_json(left)} if left else {}),
+                             **({"refused": to_json([it.decode() for it in refused])} if refused else {})})
         self.batches.derive(self.batches.end, records)
+        self.tries.done()
         if self.taken >= self.kept + self.every:
             self.keep()
         if requests or left:
             self.beat(is_due=True)
         return True
 
-    def carry_out(self, left, requests, changes):
+    def carry_out(self, left, requests, changes, refused):
         """Does what a batch takes, in this order. Returns the records that it gives, the replies last: whoever has one
-        finds all else written."""
+        finds all else written. `refused` has the positions of the requests that aren't tried again."""
         records, opened, replies = [], [], []
         for name, cause in left.items():
             self.windows.drop(name, cause, self.change, records)
         for self.asked, request in requests:
-            reply = self.windows.answer(request, self.taken, self.change, records)
+            reply = self.windows.answer(request, self.taken, self.change, records, self.asked in refused)
             opened.append(("opened", {"of": self.asked, "reply": to_json(reply)}))
             self.heard += 1
         for position, record in changes:
@@ -147,45 +195,46 @@ class Relay:
     def apply(self, line):
         if not is_change(line):
             return refusal(line)
-        reply = json.loads(self.volume.answer(line))
-        if "change" in reply:
-            reply["change"] += self.shift
-            self.nodes = max(self.nodes, reply["node"])
-        return reply
+        return json.loads(self.volume.answer(line))
 
     def state(self):
         """The fields of a batch: up to where all was taken."""
+        skipped = {"skipped": self.skipped} if self.skipped else {}
         return {"taken": self.taken, "applied": self.applied, "change": self.change,
-                "heard": self.heard, "asked": self.asked}
+                "heard": self.heard, "asked": self.asked, **skipped}
 
     def keep(self):
         """Writes a snapshot of all that is known after the last batch."""
         self.kept = self.taken
-        answered, windows = self.answered.items(), self.windows
-        head = {"batch": self.batches.end.decode(), "nodes": self.nodes, "change": self.change, "taken": self.taken,
-                "applied": self.applied.decode(), "heard": self.heard, "asked": self.asked.decode(),
-                "answered": len(answered), "last": windows.last, "windows": windows.table(), "names": windows.names}
-        items = itertools.chain(answered, listing(self.volume, self.beat))
-        self.batches.write_snapshot(to_pieces(head, items))
+        windows = self.windows
+        head = {"batch": self.batches.end.decode(), "taken": self.taken, "applied": self.applied.decode(),
+                "heard": self.heard, "asked": self.asked.decode(), "skipped": self.skipped, "last": windows.last,
+                "windows": windows.table(), "names": windows.names}
+        self.step("a snapshot of the volume")
+        with uncollected(), way_station() as file:
+            self.volume.save(file.fileno())
+            self.batches.write_snapshot(to_pieces(head, self.answered.items(), file))
 
     # ---- signs of life
 
     def beat(self, is_due=False):
+        self.batches.pulse.taken = self.taken + self.skipped
         self.batches.beat(self.life, is_due)
 
-    def beat_alone(self):
-        """A sign of life of a relay that isn't where it was yet."""
-        self.batches.beat(dict)
-
     def life(self):
-        """What a sign of life says."""
+        """What a sign of life between two turns says."""
         names = collections.Counter(self.windows.names.values())
         windows = {it.number: {"query": it.formula, "opened": it.opened, "names": names[it.number], "seq": it.seq,
                                "change": it.change, **({"values": True} if it.has_values else {})}
                    for it in self.windows.values()}
         memory = 1024 * resource.getrusage(resource.RUSAGE_SELF).ru_maxrss
-        return {"taken": self.taken, "change": self.change, "lag": self.log.lag(self.taken), "memory": memory,
-                "windows": to_json(windows)}
+        return {"taken": self.taken, "change": self.change, "memory": memory,
+                "lag": self.log.lag(self.taken + self.skipped), "windows": to_json(windows)}
+
+
+def place(applied, asked, change):
+    """Up to where the changes and the requests were taken, in words."""
+    return f"change {change} at {applied.decode()} with the requests up to {asked.decode()}"
 
 
 class Taken:

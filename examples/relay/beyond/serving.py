@@ -18,6 +18,7 @@ def stop(*_):
 def serve(relay, say, warn, is_standby=False):
     """Serves a relay's name. A standby waits until no other relay does."""
     signal.signal(signal.SIGTERM, stop)
+    relay.batches.pulse.start(warn)
     try:
         if is_standby:
             say(f"stands by for {relay.log.name}")
@@ -25,7 +26,7 @@ def serve(relay, say, warn, is_standby=False):
     except Stopped:
         signal.signal(signal.SIGTERM, signal.SIG_IGN)
         with contextlib.suppress(Gone):
-            relay.batches.release()
+            relay.batches.release(relay.tries.noted)
     except NoMemory:
         raise Trouble("there is no memory for the next change", ENDED) from None
 
@@ -37,8 +38,8 @@ def serve_always(relay, say, warn, is_standby):
             relay.begin(is_standby)
             say(f"serves {relay.log.name} from change {relay.change}, with {len(relay.windows)} windows")
             while True:
-                if relay.turn():
-                    pause.reset()
+                relay.turn()
+                pause.reset()
         except Gone as gone:
             warn(f"begins again{pause.words()}: {gone}")
             pause.wait()

@@ -1,71 +1,62 @@
-"""The entries of a volume in pieces, and a volume that has them under the same nodes."""
-import itertools, json
+"""A snapshot in pieces: a head, lists of the replies that are remembered, and the volume as the library saves it."""
+import contextlib, json, tempfile
 
-from yazgoulm import ROOT
+from yazgoulm import Volume
 
-PART = 10_000  # entries after which `pause` is called
-PIECE = 1_000_000  # bytes of a piece of a snapshot, and an entry more
+from . import ENDED, Trouble
 
-
-def listing(volume, pause):
-    """Each entry with all that it has, by rising node."""
-    for number, row in enumerate(volume.fetch("name==*"), 1):
-        it = volume.entry(row.node)
-        attributes = [(name, it.types[name], value) for name, value in it.attributes.items()]
-        yield [it.node, it.dir, it.name, it.kind, it.size, it.time, attributes]
-        if number % PART == 0:
-            pause()
+PIECE = 1_000_000  # bytes of a piece, and an item more
+VERSION = 2  # the first, whose heads have no number, had the entries one by one
 
 
-def to_pieces(head, items):
-    """A snapshot as texts: the head, lists of the items, and how many items there are."""
-    yield to_text(head)
-    part, size, count = [], 0, 0
+@contextlib.contextmanager
+def way_station():
+    """A file without a name for a volume on its way, below TMPDIR."""
+    try:
+        with tempfile.TemporaryFile(buffering=0) as file:
+            yield file
+    except OSError as error:
+        raise Trouble(f"a snapshot needs a temporary file: {error}", ENDED) from None
+
+
+def to_pieces(head, items, file):
+    """A snapshot; the file has the volume."""
+    lists = [*to_lists(items)]
+    size = file.seek(0, 2)
+    yield to_text({**head, "version": VERSION, "lists": len(lists), "bytes": size})
+    yield from lists
+    file.seek(0)
+    while piece := file.read(PIECE):
+        yield piece
+
+
+def to_lists(items):
+    part, size = [], 0
     for item in items:
         part.append(to_text(item))
-        size, count = size + len(part[-1]), count + 1
+        size += len(part[-1])
         if size > PIECE:
             yield f"[{','.join(part)}]"
             part, size = [], 0
-    yield f"[{','.join(part)}]"
-    yield to_text(count)
+    if part:
+        yield f"[{','.join(part)}]"
 
 
-def from_pieces(pieces):
-    """The head and the items of a snapshot; ValueError where pieces are missing."""
-    head, *lists, count = map(json.loads, pieces)
-    items = [item for each in lists for item in each]
-    if len(items) != count:
-        raise ValueError(f"{len(items)} of {count} entries are there")
-    return head, items
+def head_of(piece):
+    """The head, or None where it is one of another version."""
+    head = json.loads(piece)
+    return head if head.get("version") == VERSION else None
 
 
-def restore(volume, entries, nodes, pause):
-    """Fills an empty volume; `nodes` is the highest node that was ever given.
-
-    Each creation gets the next node, so where an entry has gone, one is created and removed. An entry whose folder has
-    a higher node waits in the root, under a name that no entry of the root has."""
-    names = {name for _, dir, name, *_ in entries if dir == ROOT}
-    spare = (name for name in map(str, itertools.count()) if name not in names)
-    gap, waiting, rest = next(spare), [], iter(entries)
-    entry = next(rest, None)
-    for node in range(ROOT + 1, nodes + 1):
-        if node % PART == 0:
-            pause()
-        if entry is None or entry[0] != node:
-            volume.remove(volume.create(gap).node)
-            continue
-        _, dir, name, kind, size, time, attributes = entry
-        if dir < node:
-            volume.create(name, dir, kind, size, time)
-        else:
-            volume.create(next(spare), ROOT, kind, size, time)
-            waiting.append((node, dir, name))
-        for attr, type, value in attributes:
-            volume.set(node, attr, value, type)
-        entry = next(rest, None)
-    for place in waiting:
-        volume.move(*place)
+def from_pieces(head, pieces):
+    """The items and the volume; ValueError where pieces are missing."""
+    items = [item for _ in range(head["lists"]) for item in json.loads(next(pieces, "[]"))]
+    with way_station() as file:
+        size = sum(file.write(piece) for piece in pieces)
+        if size != head["bytes"]:
+            raise ValueError(f"{size} of {head['bytes']} bytes of the volume are there")
+        file.seek(0)
+        return items, Volume.load(file.fileno())
 
 
 def to_text(it):

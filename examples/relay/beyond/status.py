@@ -17,7 +17,7 @@ def status(log):
             "age": age and round(age, 3),
             "taken": taken,
             "change": int(state.get("change", 0)),
-            "lag": log.lag(taken),
+            "lag": log.lag(taken + int(state.get("skipped", 0))),
             "windows": [{"window": int(number), **it} for number, it in windows.items()],
             "memory": {"relay": int(life.get("memory", 0)), **log.memory()},
         }

@@ -1,17 +1,19 @@
 """What the tests of the relay share: a Redis of their own, a relay in this process or in another, and drawn changes."""
-import glob, json, os, random, shutil, socket, subprocess, sys, tempfile, time, unittest, zlib
+import contextlib, glob, json, os, random, shutil, socket, subprocess, sys, tempfile, time, unittest, zlib
 
 sys.dont_write_bytecode = True
 HERE = os.path.dirname(os.path.dirname(os.path.realpath(__file__)))
 RELAY = os.path.join(HERE, "relay")
 sys.path += [HERE, os.path.join(HERE, "../../python")]
 
+import redis
+
 from yazgoulm import Volume
 
 from beyond import Trouble
 from beyond.engine import START, Gone, Log
 
-SECONDS = 30  # the longest wait for something that has to come
+SECONDS = int(os.environ.get("TEST_SECONDS", 90))  # the longest wait for something that has to come
 EVERY = 1_000_000_000  # changes between two snapshots, where none is wanted
 LOCK = 0.2  # seconds of a relay's silence, after which another one may serve
 
@@ -20,26 +22,38 @@ class Redis:
     """A redis-server on a free port of 127.0.0.1, with a folder of its own."""
 
     def __init__(self, room, fsync="always"):
-        with socket.socket() as free:
-            free.bind(("127.0.0.1", 0))
-            self.port = free.getsockname()[1]
-        self.room, self.fsync, self.url = room, fsync, f"redis://127.0.0.1:{self.port}"
-        self.start()
+        self.room, self.fsync = room, fsync
+        while True:
+            with socket.socket() as free:
+                free.bind(("127.0.0.1", 0))
+                self.port = free.getsockname()[1]
+            self.url = f"redis://127.0.0.1:{self.port}"
+            if self.start():
+                return  # else another program took the port meanwhile
 
     def start(self):
         os.makedirs(self.room, exist_ok=True)
         # it never rewrites its file by itself, which would take away what `check_files` reads
         words = ["--port", str(self.port), "--bind", "127.0.0.1", "--dir", self.room, "--save", "",
-                 "--appendonly", "yes", "--appendfsync", self.fsync, "--auto-aof-rewrite-percentage", "0"]
+                 "--appendonly", "yes", "--appendfsync", self.fsync, "--auto-aof-rewrite-percentage", "0",
+                 "--enable-debug-command", "local"]
         self.process = subprocess.Popen(["redis-server", *words], stdout=subprocess.DEVNULL)
         log, end = Log(self.url, "none"), time.monotonic() + SECONDS
-        while True:
+        while self.process.poll() is None:
             try:
-                return log.state()
-            except Gone:
+                log.state()
+                if self.has_its_port():
+                    return True
+            except (Gone, redis.ConnectionError):
                 if time.monotonic() > end:
                     raise
-                time.sleep(0.005)
+            time.sleep(0.005)
+        return False
+
+    def has_its_port(self):
+        """Whether it is this server that answers there."""
+        with contextlib.closing(redis.Redis(port=self.port)) as asked:
+            return asked.config_get("dir")["dir"] == os.path.realpath(self.room)
 
     def kill(self):
         self.process.kill()
@@ -84,7 +98,10 @@ class Case(unittest.TestCase):
     def serve(self, *words, name="t"):
         """A relay that serves."""
         relay = self.start(RELAY, "serve", "--redis", self.redis.url, name, "--lock", str(LOCK), *words)
-        self.assertIn(f"serves {name} from change", relay.stdout.readline(), relay)
+        line = relay.stdout.readline()
+        if not line:
+            self.fail(f"{relay.args} ended with {relay.wait(SECONDS)}: {relay.stderr.read()}")
+        self.assertIn(f"serves {name} from change", line)
         return relay
 
     def run_relay(self, act, *words):
@@ -130,6 +147,11 @@ class Reference:
 
     def value(self, node, attr):
         return self.volume.entry(node).attributes.get(attr)
+
+
+def listing(volume):
+    """Each entry with all that it has, by rising node."""
+    return [volume.entry(row.node) for row in volume.fetch("name==*")]
 
 
 def settle(relay):

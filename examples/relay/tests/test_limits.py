@@ -2,12 +2,11 @@
 import json
 from unittest import mock
 
-from case import EVERY, Case, Reference, drawn, settle, with_text
+from case import EVERY, Case, Reference, drawn, listing, settle, with_text
 
-from beyond import snapshot, window
+from beyond import opening, snapshot
 from beyond.client import Follower
 from beyond.server import Relay
-from beyond.snapshot import listing
 
 
 class Sizes(Case):
@@ -26,23 +25,23 @@ class Sizes(Case):
         self.assertLess(max(map(len, pieces)), 2_000_000)
         self.log.redis.xtrim("t:changes", maxlen=0, approximate=False)  # so the snapshot has to have all
         again = self.new_relay()
-        self.assertEqual([*listing(again.volume, bool)], [*listing(relay.volume, bool)])
+        self.assertEqual(listing(again.volume), listing(relay.volume))
 
     def test_a_snapshot_without_a_piece_is_refused(self):
         relay = self.new_relay(every=5)
-        with mock.patch.object(snapshot, "PIECE", 1):
+        with mock.patch.object(snapshot, "PIECE", 100):
             self.send(drawn(30, 1))
             settle(relay)
         self.assertGreater(self.log.redis.llen("t:snapshot"), 5)
         self.log.redis.lrem("t:snapshot", 1, self.log.redis.lindex("t:snapshot", 2))
-        self.assert_trouble("t:snapshot isn't what this program writes: .*entries are there", self.new_relay)
+        self.assert_trouble("t:snapshot isn't what this program writes: .*bytes of the volume are there", self.new_relay)
 
     def test_an_opening_that_is_too_large(self):
         """The client that asks for it is told so, and all others are served."""
         relay = self.new_relay()
         self.send(b'{"do":"create","name":"file%d"}' % it for it in range(100))
         settle(relay)
-        with mock.patch.object(window, "LARGEST", 1000):
+        with mock.patch.object(opening, "LARGEST", 1000):
             self.log.append("windows", [{"name": "all", "query": "name==*"}, {"name": "one", "query": "name==file7"}])
             settle(relay)
             relay = self.new_relay()
@@ -55,7 +54,7 @@ class Sizes(Case):
 
     def test_a_result_that_grows_too_large(self):
         relay = self.new_relay(keep=20)
-        with mock.patch.object(window, "LARGEST", 1000):
+        with mock.patch.object(opening, "LARGEST", 1000):
             self.log.append("windows", [{"name": "all", "query": "name==*"}, {"name": "one", "query": "name==file7"}])
             settle(relay)
             self.send(b'{"do":"create","name":"file%d"}' % it for it in range(100))

@@ -1,5 +1,6 @@
 """The relay under load: many clients, while the relay, Redis and the clients are killed at drawn moments."""
 import collections, concurrent.futures, contextlib, json, os, random, subprocess, sys, threading, time, typing
+from unittest import mock
 
 from case import HERE, LOCK, RELAY, SECONDS, Case, Reference, digest, drawn, formulas, is_torn
 
@@ -33,6 +34,9 @@ class Load(Case):
         self.relay, self.every, self.torn, self.within = None, 1500, 0, 0
         self.groups, self.file = {}, os.path.join(self.room, "folds")
         self.addCleanup(self.end)
+        patient = mock.patch("beyond.producer.SECONDS", 4 * SECONDS)  # a busy machine starts a relay late
+        patient.start()
+        self.addCleanup(patient.stop)
 
     def end(self):
         for process in [self.relay, *self.groups.values()]:
@@ -53,8 +57,15 @@ class Load(Case):
         program = [sys.executable, os.path.join(HERE, "tests/clients.py")]
         self.groups[group] = subprocess.Popen([*program, self.redis.url, "t", self.file, *words])
 
+    def start_again(self, has_ended):
+        """Starts a relay again that began while there was no Redis, as who runs it would: it ends with status 2 then."""
+        while not has_ended.wait(0.1):
+            with self.lock:
+                if self.relay.poll() == 2:
+                    self.start_relay()
+
     def kill_relay(self):
-        self.assertIsNone(self.relay.poll(), "the relay has ended by itself")
+        self.assertIn(self.relay.poll(), (None, 2), "the relay has ended by itself")
         self.relay.kill()
         self.relay.wait()
         self.start_relay()
@@ -100,8 +111,15 @@ class Load(Case):
         if it.texts:
             self.every = 1
             self.kill_relay()
-        replies += self.produce(lines[first:], it)
-        self.verify(lines, replies, asked)
+        has_ended = threading.Event()
+        again = threading.Thread(target=self.start_again, args=(has_ended,))
+        again.start()
+        try:
+            replies += self.produce(lines[first:], it)
+            self.verify(lines, replies, asked)
+        finally:
+            has_ended.set()
+            again.join()
 
     def produce(self, lines, it):
         """Sends lines, with the kills in between. Returns the replies."""
@@ -120,7 +138,7 @@ class Load(Case):
                 replies += producer.send(lines[part : part + LINES])
         for kill in done:
             kill.result()
-        self.assertIsNone(self.relay.poll(), "the relay has ended by itself")
+        self.assertIn(self.relay.poll(), (None, 2), "the relay has ended by itself")
         return replies
 
     # ---- what has to hold
@@ -229,6 +247,59 @@ class Load(Case):
 
     def test_clients_are_killed(self):
         self.run_load(Size(200, 100, 40, 20_000, client=100) if IS_FULL else Size(20, 10, 8, 6000, client=12))
+
+    def test_a_relay_that_dies_at_each_step_of_a_batch(self):
+        """It is killed where it writes, another one stands by, takes over, and is killed where it writes next."""
+        numbers = [*(range(1, 91) if IS_FULL else range(2, 40, 9))]
+        deaths, self.every = len(numbers), 30
+        asked = [*formulas(4)]
+        self.asked = [(f"w{number}", formula, str(number % 2)) for number, formula in enumerate(asked)]
+        self.start_relay()
+        self.start_group(0)
+        self.wait_for_clients(dict.fromkeys(asked, 0))
+        is_over, wrong = threading.Event(), []
+        chain = threading.Thread(target=self.die_in_turn, args=(numbers, is_over, wrong))
+        chain.start()
+        producer, source, lines, replies = Producer(self.new_log()), drawn(1_000_000, 7), [], []
+        while not is_over.is_set():
+            lines += [line for line, _ in zip(source, range(10))]
+            replies += producer.send(lines[len(replies) :])
+        chain.join()
+        self.assertEqual(wrong, [])
+        self.verify(lines, replies, asked)
+        print(f"{len(lines)} changes beside {deaths} deaths where a relay writes", flush=True)
+
+    def die_in_turn(self, numbers, is_over, wrong):
+        """Has a relay die at each of the numbers, while the next stands by. The last one lives."""
+        first, dying, end = self.relay, {}, time.monotonic() + 20 * SECONDS
+        try:
+            while numbers or dying:
+                while numbers and len(dying) < 3:
+                    number = numbers.pop(0)
+                    dying[self.start_standby("sends", str(number))] = number
+                if first is not None:
+                    first.kill()
+                    first.wait()
+                    first = None
+                for relay in [it for it in dying if it.poll() is not None]:
+                    number = dying.pop(relay)
+                    if relay.returncode != -9:  # it was late, and another one has taken over
+                        numbers.insert(0, number)
+                if time.monotonic() > end:
+                    raise TimeoutError(f"the relays {[*dying.values()]} don't die")
+                time.sleep(0.02)
+            self.relay = self.start_standby("none", "0")
+        except Exception as error:
+            wrong.append(error)
+        finally:
+            is_over.set()
+            for relay in dying:
+                relay.kill()
+
+    def start_standby(self, *how):
+        words = ["serve", "--redis", self.redis.url, "t", "--lock", str(LOCK), "--keep", str(KEEP), "--standby"]
+        words = [sys.executable, os.path.join(HERE, "tests/slowed.py"), *how, "none", *words, "--snapshot", str(self.every)]
+        return subprocess.Popen(words, stdout=subprocess.DEVNULL, stderr=subprocess.DEVNULL)
 
     def test_all_are_killed(self):
         self.run_load(Size(200, 100, 40, 20_000, 50, 20, 100) if IS_FULL else Size(20, 10, 8, 6000, 6, 4, 6))

@@ -1,6 +1,6 @@
 """A relay in use: a standby, signs of life, its status, names whose clients have gone, producers that go on, and what
 it says where something was deleted or damaged."""
-import json, os, signal, time
+import contextlib, glob, json, os, signal, threading, time
 from unittest import mock
 
 from case import EVERY, SECONDS, Case, settle
@@ -8,11 +8,11 @@ from case import EVERY, SECONDS, Case, settle
 from beyond import client, producer
 from beyond.client import Follower
 from beyond.engine import START
-from beyond.producer import Producer
+from beyond.producer import Producer, load
 from beyond.server import Relay
 
-LONG = 30  # seconds of silence that nobody waits for
-SHORT = 15  # seconds, after which what has to come within one is missing, also on a busy machine
+LONG = 60  # seconds of silence that nobody waits for
+LEASE = 3  # seconds in which a client and a relay have a turn, also on a busy machine
 
 
 class Standbys(Case):
@@ -30,7 +30,7 @@ class Standbys(Case):
         self.assertEqual(first.stderr.read(), "")
 
     def test_a_standby_takes_the_place_of_a_relay_that_was_killed(self):
-        first, standbys = self.serve("--lock", "3"), [self.stand_by("--lock", "3") for _ in range(3)]
+        first, standbys = self.serve("--lock", "5"), [self.stand_by("--lock", "5") for _ in range(3)]
         first.kill()
         lines = [Producer(self.log).change(do="create", name="a")]
         self.assertEqual(lines, [{"change": 1, "node": 2}])
@@ -93,20 +93,20 @@ class Signs(Case):
     def test_a_client_is_told_that_no_relay_serves(self):
         relay, told = self.serve(), []
         follower = Follower(self.new_log(), "w", "name==*", told=told.append)
-        with mock.patch.multiple(client, SILENT=3.0, LOOK=0.1):
+        with mock.patch.multiple(client, SILENT=6.0, LOOK=0.1):
             follower.begin()
             self.turn_until(follower, lambda: follower.lag == 0)
             self.assertEqual(told, [])
             relay.kill()
             self.turn_until(follower, lambda: told)
             self.assertEqual(told, ["no relay serves t: what is shown is as of change 0"])
-            self.assertGreater(follower.age, 3)
+            self.assertGreater(follower.age, 6)
             self.serve()
             self.turn_until(follower, lambda: len(told) > 1)
             self.assertEqual(told[1:], ["a relay serves t again"])
 
     def turn_until(self, follower, is_done):
-        end = time.monotonic() + SHORT
+        end = time.monotonic() + SECONDS
         while not is_done() and time.monotonic() < end:
             follower.turn(0.1)
         self.assertTrue(is_done())
@@ -115,12 +115,12 @@ class Signs(Case):
 class Names(Case):
     def test_the_lease_of_names(self):
         """64 formulas of clients that have gone end, and one whose client is alive doesn't."""
-        relay = Relay(self.log, EVERY, lease=0.4)
+        relay = Relay(self.log, EVERY, lease=LEASE)
         relay.begin()
         self.log.append("windows", [{"name": f"w{size}", "query": f"size>{size}"} for size in range(65)])
         settle(relay)
         self.assertEqual(json.loads(self.records("opened")[-1][1][b"reply"]), {"code": 23, "error": "NoSlot"})
-        end = time.monotonic() + SHORT
+        end = time.monotonic() + SECONDS
         while len(relay.windows) > 1 and time.monotonic() < end:
             self.log.beat("w7")
             relay.turn()
@@ -136,14 +136,15 @@ class Names(Case):
         self.assertEqual(set(self.log.beats()), {b"w7"})
 
     def test_a_client_keeps_its_lease(self):
-        relay = Relay(self.log, EVERY, lease=0.6)
+        relay = Relay(self.log, EVERY, lease=LEASE)
         relay.begin()
         follower = Follower(self.new_log(), "w", "name==*")
         with mock.patch.object(client, "BEAT", 0.1):
             self.log.append("windows", [{"name": "w", "query": "name==*"}])
             settle(relay)
             follower.stream, follower.position = "window:1", self.log.end("window:1")
-            for _ in range(15):
+            end = time.monotonic() + 1.5 * LEASE
+            while time.monotonic() < end:
                 follower.turn(0.1)
                 relay.turn()
         self.assertEqual(relay.windows.names, {"w": 1})
@@ -198,8 +199,146 @@ class Producers(Case):
         found = Producer(self.log).replies(START, places[3:])
         self.assertEqual(found, [{"change": it, "node": it + 1} for it in (4, 5, 6)])
         line = f"t:changes {places[0].decode()} was taken, and its reply isn't kept any more"
-        with mock.patch.object(producer, "SECONDS", SHORT):
+        with mock.patch.object(producer, "SECONDS", SECONDS):
             self.assert_trouble(line, Producer(self.log).replies, START, places)
+
+
+    def test_an_empty_word_of_who_sent_it(self):
+        """It is a word like any other: a snapshot has it, and a restart knows it."""
+        for number in range(3):
+            relay = Relay(self.new_log(lock=0.02), 1)
+            relay.begin()
+            self.log.append("changes", [{"by": b"", "line": self.LINES[0]}, {"line": self.LINES[1 + number]}])
+            settle(relay)
+        replies = [json.loads(record[b"reply"]) for _, record in self.records("replies")]
+        self.assertEqual([it["change"] for it in replies], [1, 2, 1, 3, 1, 4])
+
+    def test_a_load_that_is_sent_again(self):
+        """What the relay remembers no more is found where it stands, and gone into."""
+        tree, names = os.path.join(self.room, "tree"), ["plain", 'a*b?[c]"d\\e', "\u00e9 '$&|()=<>!", "[^x]", "-"]
+        for name in names:
+            os.makedirs(os.path.join(tree, name, "in", "deep"))
+            for number in range(3):
+                open(os.path.join(tree, name, "in", f"{number}"), "w").close()
+        with self.relay_that_remembers(4):
+            load(Stopped(self.new_log(), "key", 2), tree, lambda _: None)
+            again, said = Producer(self.new_log(), "key"), []
+            self.assertEqual(load(again, tree, said.append), (5 * (1 + 1 + 4), 0))
+            self.assertEqual(said, [])
+            self.assertEqual(load(Producer(self.new_log()), tree, said.append), (0, 5))
+            self.assertEqual(len(said), 5)
+        reference = sorted({os.path.relpath(path, tree) for path in glob.glob(f"{tree}/**", recursive=True)} - {"."})
+        self.assertEqual(sorted(self.paths()), reference)
+
+    def paths(self):
+        """The path of each entry."""
+        relay = Relay(self.new_log(lock=0.02), EVERY)
+        relay.begin()
+        return [relay.volume.path(it.node).lstrip("/") for it in relay.volume.fetch("name==*")]
+
+    @contextlib.contextmanager
+    def relay_that_remembers(self, count):
+        """A relay on a thread, which remembers so many changes."""
+        with mock.patch("beyond.changes.ANSWERED", count):
+            relay, is_over = Relay(self.new_log(), EVERY), threading.Event()
+            relay.begin()
+
+            def serve():
+                while not is_over.is_set():
+                    relay.turn()
+
+            thread = threading.Thread(target=serve)
+            thread.start()
+            try:
+                yield
+            finally:
+                is_over.set()
+                thread.join()
+
+    def test_a_load_that_was_refused(self):
+        self.serve()
+        tree = os.path.join(self.room, "tree")
+        os.makedirs(os.path.join(tree, "in", "deep"))
+        self.assertEqual(self.run_relay("load", "t", tree), (0, "2 entries\n", ""))
+        status, out, error = self.run_relay("load", "t", tree)
+        self.assertEqual((status, out), (3, "0 entries\n"))
+        self.assertEqual(error, f"relay: refused: '{tree}/in': Exists\nrelay: 1 entries were refused\n")
+
+
+class Stopped(Producer):
+    """Sends so many levels, and then nothing, as a program that was stopped."""
+
+    def __init__(self, log, key, levels):
+        super().__init__(log, key)
+        self.levels = levels
+
+    def send(self, lines):
+        self.levels -= 1
+        return super().send(lines) if self.levels >= 0 else [{"error": "stopped"}] * len(lines)
+
+
+class Trimmed(Case):
+    """Changes that are trimmed."""
+
+    LINES = [b'{"do":"create","name":"%d"}' % it for it in range(60)]
+
+    def new_relay(self, **words):
+        relay = Relay(self.new_log(lock=0.02), EVERY, **words)
+        relay.begin()
+        return relay
+
+    def test_changes_that_are_trimmed_before_they_are_taken(self):
+        """The relay ends, and so does the next; one that may go on without them does, and so do those after it."""
+        relay, told = self.new_relay(), []
+        places = self.send(self.LINES[:10])
+        settle(relay)
+        self.send(self.LINES[10:50])
+        self.log.redis.xtrim("t:changes", maxlen=1, approximate=False)
+        line = f"39 entries of t:changes after {places[-1].decode()} have gone before they were taken: `serve --skip`"
+        self.assert_trouble(line, settle, relay)
+        self.assertEqual(len(self.records("replies")), 10)
+        self.log.redis.xadd("t:changes", {"line": self.LINES[50]})
+        relay.keep()
+        again = self.new_relay()
+        self.assert_trouble(line, settle, again)
+        again = self.new_relay(skips=True, warn=told.append)
+        settle(again)
+        self.assertEqual((told, again.change), (["goes on without 39 entries of t:changes"], 12))
+        again.keep()
+        for skips in False, True:
+            again = self.new_relay(skips=skips, warn=told.append)
+            self.send(self.LINES[51:53])
+            self.assertEqual(json.loads(self.run_relay("status", "t")[1])["lag"], 2)
+            settle(again)
+            self.assertEqual((again.life()["lag"], len(told)), (0, 1))
+
+    def test_changes_that_are_trimmed_as_they_are_read(self):
+        """What was read isn't lost, and what was taken may go."""
+        relay = self.new_relay()
+        self.send(self.LINES[:40])
+        read = relay.log.read
+
+        def read_and_trim(*given):
+            found = read(*given)
+            self.log.redis.xtrim("t:changes", maxlen=0, approximate=False)
+            return found
+
+        relay.log.read = read_and_trim
+        relay.turn()
+        self.assertEqual(relay.taken, 40)
+        self.send(self.LINES[40:])
+        relay.turn()
+        self.assertEqual(relay.change, 60)
+
+    def test_a_refusal_says_what_differs(self):
+        """Two places of one change are told apart."""
+        relay = self.new_relay()
+        places = self.send([self.LINES[0], b"{", b"{", b"{"])
+        settle(relay)
+        self.log.redis.xdel("t:changes", places[2])
+        self.send([b"{"])
+        line = f"they give change 1 at [0-9-]* with .*, and not change 1 at {places[3].decode()} with"
+        self.assert_trouble(line, self.new_relay)
 
 
 class Damage(Case):
@@ -218,7 +357,7 @@ class Damage(Case):
             sender.change(do="create", name="a")
             follower.turn(1)
             getattr(self.log.redis, act)(*(it.format(number) if isinstance(it, str) else it for it in words))
-            end = time.monotonic() + SHORT
+            end = time.monotonic() + SECONDS
             with mock.patch.object(client, "LOOK", 0.1):
                 while len(told) < 2 and time.monotonic() < end:
                     follower.turn(0.1)
@@ -258,6 +397,36 @@ class Damage(Case):
         self.assertEqual(told[1:], lines)
         relay.kill()
 
+    def test_a_beginning_that_worked_ends_the_pause(self):
+        """Of a client: it has read all that was there. Of a relay: a turn, also an idle one."""
+        relay, told = self.serve(), []
+        follower = Follower(self.new_log(), "w", "name==*", lambda _, why: told.append(why))
+        follower.begin()
+        for _ in range(3):
+            follower.begin("something has gone")
+            follower.turn(0)
+        self.assertEqual(told, [None] + 3 * ["something has gone"])
+        for _ in range(3):
+            self.redis.kill()
+            self.redis.start()
+            self.assertIn("serves t from change", relay.stdout.readline())
+            self.await_turns()
+        relay.send_signal(signal.SIGTERM)
+        relay.wait(SECONDS)
+        said = [line.split(":")[1] for line in relay.stderr]
+        self.assertEqual(said, [" begins again"] * len(said))
+
+    def await_turns(self):
+        """Waits until a relay has made an idle turn, and another one: each asks Redis for what is new."""
+        end, first, redis = time.monotonic() + SECONDS, None, self.new_log().redis
+        while time.monotonic() < end:
+            asked = redis.info("commandstats").get("cmdstat_xread", {}).get("calls", 0)
+            first = asked if first is None else first
+            if asked > first + 2:
+                return
+            time.sleep(0.02)
+        self.fail("the relay makes no turns")
+
     def test_foreign_entries(self):
         self.serve()
         follow = self.start(self.relay, "follow", "--redis", self.redis.url, "t", "name==*")
@@ -277,11 +446,12 @@ class Damage(Case):
             "t:snapshot": ("rpush", "{", "t:snapshot isn't what this program writes"),
             "t:life": ("set", "x", "redis: WRONGTYPE"),
             "t:changes": ("set", "x", "redis: WRONGTYPE"),
+            "t:tries": ("hset", ("what", "ever"), "t:tries isn't what this program writes"),
         }
         for key, (act, value, line) in keys.items():
             with self.subTest(key=key):
                 self.log.redis.flushall()
-                getattr(self.log.redis, act)(key, value)
+                getattr(self.log.redis, act)(key, *(value if isinstance(value, tuple) else [value]))
                 status, out, error = self.run_relay("serve", "t")
                 self.assertEqual(status, 3, out)
                 self.assertRegex(error, f"^relay: {line}[^\n]*\n$")

@@ -1,7 +1,7 @@
 """The relay in small: what it refuses, where it dies, who may write, what a restart gives, what a client is told."""
 import json, os, shutil, subprocess, time
 
-from case import EVERY, HERE, RELAY, SECONDS, Case, Reference, drawn, formulas, settle
+from case import EVERY, HERE, RELAY, SECONDS, Case, Reference, drawn, formulas, listing, settle
 
 import redis
 
@@ -10,7 +10,6 @@ from beyond.client import Follower
 from beyond.engine import DEBIAN, Gone
 from beyond.producer import Producer
 from beyond.server import Relay
-from beyond.snapshot import listing
 
 MOVED = b'{"do":"create","name":"a.txt"}', b'{"do":"move","node":2,"name":"b.txt"}', b'{"do":"remove","node":2}'
 LONG = 10  # seconds that a lock stands where it has to be kept, also on a busy machine
@@ -226,12 +225,22 @@ class Restarts(Case):
             windows = [(it.seq, it.change, it.query.result().entries) for it in relay.windows.values()]
             messages = [self.messages(number, relay.log) for number in relay.windows]
             replies = [record[b"reply"] for _, record in self.records("replies", relay.log)]
-            entries = [*listing(relay.volume, lambda: None)]
-            found.append((entries, relay.change, relay.nodes, windows, messages, replies))
-        self.assertGreater(len(found[0][4][0]), 100)
+            found.append((listing(relay.volume), relay.change, windows, messages, replies))
+        self.assertGreater(len(found[0][3][0]), 100)
         for other in found[1:]:
             for one, two in zip(found[0], other):
                 self.assertEqual(one, two)
+
+    def test_a_snapshot_of_another_version(self):
+        """It is passed over, with a word on it: all changes are there."""
+        relay, told = self.drive("t", [[*drawn(90, 2)]], 30), []
+        self.assertTrue(self.log.redis.exists("t:snapshot"))
+        self.log.redis.delete("t:snapshot")
+        self.log.redis.rpush("t:snapshot", '{"batch":"0-0","nodes":1,"taken":0,"change":0}', "[]", "0")
+        again = Relay(self.new_log(lock=0.02), EVERY, warn=told.append)
+        again.begin()
+        self.assertEqual(told, ["t:snapshot is of another version: begins at the first change"])
+        self.assertEqual((listing(again.volume), again.change), (listing(relay.volume), relay.change))
 
     def test_a_stream_that_differs_stops_it(self):
         relay = self.drive("t", [[*drawn(60, 2)]], EVERY)

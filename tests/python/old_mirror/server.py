@@ -2,7 +2,7 @@
 import json
 from typing import Any, Callable, Dict, Iterable, List, Optional, Tuple
 
-from .. import B_ENTRY_REMOVED, Message, Query, Refused, Volume
+from yazgoulm import B_ENTRY_REMOVED, Message, Query, Refused, Volume
 
 PATIENCE = 1000  # changes after which the windows are read
 BACKLOG = 3 * PATIENCE  # a change sends a window at most three messages

@@ -2,7 +2,7 @@
 import ctypes, errno, os, struct, time
 from typing import Any, List, Optional, Set, Tuple, Union
 
-from ._disk import within_reach
+from .disk import within_reach
 
 MODIFY, ATTRIB, CLOSE_WRITE = 0x2, 0x4, 0x8
 MOVED_FROM, MOVED_TO, CREATE, DELETE = 0x40, 0x80, 0x100, 0x200

@@ -2,12 +2,11 @@
 import collections, errno, fnmatch, os, select, time
 from typing import Any, DefaultDict, Dict, Iterable, List, Optional, Set, Tuple
 
-from .. import Error
-from .._names import to_bytes, to_name
-from ._disk import Identity, Seen, identity, look, names_in
-from ._inotify import AGAIN, IGNORED, MODIFY, OVERFLOW, Events, events
-from ._server import Server
-from ._text import shown
+from yazgoulm import Error, to_bytes, to_name
+from .disk import Identity, Seen, identity, look, names_in
+from .inotify import AGAIN, IGNORED, MODIFY, OVERFLOW, Events, events
+from .server import Server
+from .text import shown
 
 ROOT = 1  # the folder's node
 

@@ -2,7 +2,7 @@
 import contextlib, os, re, stat
 from typing import Dict, Iterator, List, NamedTuple, Optional, Tuple, Union
 
-from .._names import to_name
+from yazgoulm import to_name
 
 PATH_MAX = 4096  # with the NUL that ends a path
 VALUE_MAX = 1024  # bytes of an extended attribute
