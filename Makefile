@@ -18,12 +18,13 @@
 #                           for Python. LQ_BUILD=always make library proves it
 #   make install            copies the program, its manual page and the library to PREFIX: /usr/local
 #   make install-program    copies the program and its manual page alone
-#   make install-c          copies the C library alone: the header, both libraries, and what pkg-config reads
+#   make install-c          copies the C library alone: the headers, both libraries, and what pkg-config reads
 #   make wheel              the Python package with the library inside, in dist
 #   make dist               the program and the C library as a tarball, in dist
 PREFIX ?= /usr/local
 LIBDIR ?= $(PREFIX)/lib
 PYTHON_DIR ?= $(LIBDIR)/yazgoulm
+COMPLETIONS = $(PREFIX)/share/bash-completion/completions
 VERSION = $(shell sed -n 's/^.define LQ_VERSION_TEXT "\(.*\)"$$/\1/p' include/lq.h)
 SONAME = $(shell tools/soname)
 S ?= examples/first-message.jsonl
@@ -60,7 +61,8 @@ fmt:
 bench:
 	bench/run
 docs:
-	tools/crate-table --write && tools/test-figures --write && tools/audit --write && tools/api --write && bench/plots
+	tools/crate-table --write && tools/test-figures --write && tools/audit --write && tools/api --write && \
+		tools/commands --write && bench/plots
 library:
 	@tools/take library
 	@tools/python_package.py extension || [ $$? = 77 ]
@@ -70,7 +72,8 @@ install-program:
 	install -D -m 644 docs/lq.1 $(DESTDIR)$(PREFIX)/share/man/man1/lq.1
 install-library: install-c install-python
 install-c:
-	install -D -m 644 include/lq.h $(DESTDIR)$(PREFIX)/include/lq.h
+	install -d $(DESTDIR)$(PREFIX)/include
+	install -m 644 include/lq.h include/lq_folder.h include/lq_journal.h $(DESTDIR)$(PREFIX)/include
 	folder=$$(tools/take library) && install -D -m 644 "$$folder/liblq.a" $(DESTDIR)$(LIBDIR)/liblq.a && \
 		install -m 755 "$$folder/$(SONAME)" $(DESTDIR)$(LIBDIR)/$(SONAME)
 	ln -sf $(SONAME) $(DESTDIR)$(LIBDIR)/liblq.so
@@ -84,6 +87,13 @@ install-python: library
 	install -m 644 $(wildcard python/yazgoulm/folder/page/*) $(DESTDIR)$(PYTHON_DIR)/yazgoulm/folder/page
 	for each in python/yazgoulm/_native*.so; do \
 		[ ! -f "$$each" ] || install -m 755 "$$each" $(DESTDIR)$(PYTHON_DIR)/yazgoulm || exit 1; \
+	done
+	install -d $(DESTDIR)$(PREFIX)/bin
+	tools/python_package.py commands $(DESTDIR)$(PREFIX)/bin $(PYTHON_DIR)
+	install -d $(DESTDIR)$(PREFIX)/share/man/man1 $(DESTDIR)$(COMPLETIONS)
+	install -m 644 $(wildcard docs/yazgoulm-*.1) $(DESTDIR)$(PREFIX)/share/man/man1
+	for each in $(patsubst docs/%.1,%,$(wildcard docs/yazgoulm-*.1)); do \
+		install -m 644 docs/completion.bash $(DESTDIR)$(COMPLETIONS)/$$each || exit 1; \
 	done
 wheel:
 	tools/python_package.py wheel dist
