@@ -147,11 +147,13 @@ static lq_status save_some(journal *j)
     return sync_file(c->file) ? LQ_OK : LQ_SYSTEM;
 }
 
-/* The new snapshot gets its name, and `journal.old` goes. If it doesn't, its changes are passed over. */
+/* The new snapshot gets its name, and `journal.old` goes. If it doesn't, its changes are passed over. As piece_create says,
+   the folder is synced before too. */
 static lq_status place(journal *j)
 {
     cut *c = &j->cut;
-    if (!rename_in(j, "snapshot.new", "snapshot") || !sync_folder(j) || !remove_in(j, "journal.old")) return LQ_SYSTEM;
+    if (!sync_folder(j) || !rename_in(j, "snapshot.new", "snapshot")) return LQ_SYSTEM;
+    if (!sync_folder(j) || !remove_in(j, "journal.old")) return LQ_SYSTEM;
     j->snapshot_size = c->written;
     j->has_old = false;
     c->pause = 0;

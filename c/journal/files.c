@@ -87,13 +87,14 @@ bool copy_in(const journal *j, const char *from, const char *to, uint64_t size)
     return is_done;
 }
 
+/* The name is on disk before it is changed, else after a power cut the new name may be of an earlier file of this name. */
 int piece_create(const journal *j, uint32_t salt, uint64_t first, uint64_t *size)
 {
     char head[FIRST_LINE_SIZE];
     int file = open_in(j, "journal.new", O_RDWR | O_CREAT | O_TRUNC);
     if (file < 0) return -1;
     *size = put_head(j, head, salt, first);
-    if (write_all(file, head, *size, 0) && sync_file(file)) return file;
+    if (write_all(file, head, *size, 0) && sync_file(file) && sync_folder(j)) return file;
     close_quietly(file);
     return -1;
 }

@@ -151,6 +151,7 @@ typedef enum piece_answer {
 piece_answer piece_begin(const journal *j, piece *p, int file); /* RECORD, or why not; it takes the file, also then */
 piece_answer piece_next(const journal *j, piece *p, record *out);
 piece_answer piece_is_damaged(const journal *j, piece *p, uint64_t change, bool *is_damaged);
+bool piece_copy(const journal *j, piece *p, int to, uint64_t size, uint64_t last); /* else errno */
 void piece_end(piece *p);
 lq_status replay(lq *handle, const record *r, const char **reason);
 

@@ -31,27 +31,6 @@ void trouble_begin(journal *j, trouble what)
     put_off(j);
 }
 
-/* Copies the records of the file to a new one, each as its checksum says that it was written. */
-static bool copy_records(journal *j, piece *p, int to)
-{
-    record r;
-    uint64_t last = j->first - 1, at = p->place;
-    while (at < j->size) {
-        const char *from;
-        piece_answer answer = piece_next(j, p, &r);
-        if (answer == PIECE_RECORD && r.change == last + 1) {
-            from = r.line + r.size + 1 - r.whole;
-            if (!write_all(to, from, r.whole, at)) return false;
-            last = r.change;
-            at = p->place;
-            continue;
-        }
-        if (answer != PIECE_FAULT) errno = EIO; /* the disk has lost it: only a save of the volume helps */
-        return false;
-    }
-    return last == j->change;
-}
-
 /* Makes `journal.new` of the records, with the same first line. */
 static int rewrite(journal *j, const char *name)
 {
@@ -65,7 +44,7 @@ static int rewrite(journal *j, const char *name)
         to = piece_create(j, p.salt, p.first, &size);
     else if (answer != PIECE_FAULT)
         errno = answer == PIECE_NO_MEMORY ? ENOMEM : EIO;
-    bool is_done = to >= 0 && copy_records(j, &p, to) && sync_file(to);
+    bool is_done = to >= 0 && piece_copy(j, &p, to, j->size, j->change) && sync_file(to);
     int fault = errno;
     piece_end(&p);
     if (!is_done && to >= 0) close(to);

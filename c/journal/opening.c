@@ -98,7 +98,23 @@ static lq_status pass_over(opening *o, piece *p, const char *name, const char *b
     return is_done ? LQ_OK : failed(o->report, file);
 }
 
-/* Replays a file, and cuts it back to its whole records, synced. LQ_NO_NODE: there is none. */
+/* Brings to disk what was read. A sync may have failed before the process was killed, and then the system has bytes that
+   the disk lacks, and a sync alone doesn't bring them there. They are written again, the same ones at the same places, so
+   a power cut meanwhile takes nothing that was on disk, and no room is needed. */
+static lq_status bring_to_disk(opening *o, const piece *p, const char *name, lq_journal_file file)
+{
+    piece again;
+    int from = open_in(o->j, name, O_RDONLY);
+    if (from < 0) return failed(o->report, file);
+    piece_answer answer = piece_begin(o->j, &again, from);
+    lq_status status = answer == PIECE_RECORD ? LQ_OK : answered(o->report, file, answer, 0, "Head");
+    if (status == LQ_OK && !(piece_copy(o->j, &again, p->file, p->place, p->next - 1) && sync_file(p->file)))
+        status = failed(o->report, file);
+    piece_end(&again);
+    return status;
+}
+
+/* Replays a file, cuts it back to its whole records and brings them to disk. LQ_NO_NODE: there is none. */
 static lq_status replay_file(opening *o, lq_journal_file file, piece *p)
 {
     const char *name = file == LQ_FILE_OLD ? "journal.old" : "journal";
@@ -111,8 +127,8 @@ static lq_status replay_file(opening *o, lq_journal_file file, piece *p)
     lq_status status = read_piece(o, p, file, &size);
     if (status == LQ_BAD_SAVE && o->j->options.damaged && o->is_passable)
         status = pass_over(o, p, name, beside, file, &size);
-    if (status == LQ_OK && !(cut_back(o, it, p->place, size) && sync_file(it))) status = failed(o->report, file);
-    return status;
+    if (status == LQ_OK && !cut_back(o, it, p->place, size)) status = failed(o->report, file);
+    return status == LQ_OK ? bring_to_disk(o, p, name, file) : status;
 }
 
 /* ---- the parts of an opening ---- */

@@ -107,6 +107,29 @@ piece_answer piece_is_damaged(const journal *j, piece *p, uint64_t change, bool 
     }
 }
 
+/* Writes the records of a piece to a file, at the same places, each as its checksum says that it was written. `size` is
+   the byte after the last one, `last` its change. */
+bool piece_copy(const journal *j, piece *p, int to, uint64_t size, uint64_t last)
+{
+    record r;
+    uint64_t change = p->first - 1, at = p->place;
+    while (p->place < size) {
+        if (p->end - p->start < RECORD_SIZE && !p->is_over) { /* the buffer is filled anew */
+            if (!write_all(to, p->bytes + (at - p->base), p->place - at, at)) return false;
+            at = p->place;
+        }
+        piece_answer answer = piece_next(j, p, &r);
+        if (answer != PIECE_RECORD || r.change != change + 1) {
+            if (answer != PIECE_FAULT) errno = EIO; /* the disk has lost it: only a save of the volume helps */
+            return false;
+        }
+        change++;
+    }
+    if (p->place == size && change == last) return write_all(to, p->bytes + (at - p->base), size - at, at);
+    errno = EIO;
+    return false;
+}
+
 /* Has a volume answer a record's line; LQ_BAD_SAVE: it doesn't make the change that it made. */
 lq_status replay(lq *handle, const record *r, const char **reason)
 {

@@ -142,9 +142,15 @@ static void note_sync(int descriptor, bool is_done) {
     f->count = 0;
 }
 
-/* What is left of a file after a power cut: each write is there, lost, there in parts, or zeros. */
+/* A write of which only the file's new size is there. */
+static void apply_zeros(text *to, const op *it, size_t had) {
+    while (to->size < it->at + it->size) add(to, "", 1);
+    for (size_t at = it->at > had ? it->at : had; at < it->at + it->size; at++) to->at[at] = 0;
+}
+
+/* What is left of a file after a power cut: each write is there, lost, there in parts, or zeros where the disk had none
+   of the file's bytes. */
 static text remains(const file *f, uint64_t *seed) {
-    static char zeros[1 << 17];
     text out = {0};
     set_text(&out, &f->synced);
     for (size_t i = 0; i < f->count; i++) {
@@ -152,7 +158,11 @@ static text remains(const file *f, uint64_t *seed) {
         switch (drawn(seed, 5)) {
         case 0: break;
         case 1: apply_op(&out, it, it->is_cut ? 0 : drawn(seed, it->size + 1), it->bytes); break;
-        case 2: apply_op(&out, it, it->size, it->is_cut ? it->bytes : zeros); break;
+        case 2:
+            if (!it->is_cut) {
+                apply_zeros(&out, it, f->synced.size);
+                break;
+            } /* fallthrough */
         default: apply_op(&out, it, it->size, it->bytes);
         }
     }
@@ -548,7 +558,7 @@ static void failing_calls(long each) {
 
 /* ---- power cuts ---- */
 
-static uint64_t power_seed, images;
+static uint64_t power_seed, images, kills;
 static uint64_t each_call; /* one of so many calls is looked at; 0: none */
 
 /* Called after each call that changes the disk. */
@@ -600,6 +610,48 @@ static void power_cuts(uint64_t seed, uint64_t each, long at) {
     }
 }
 
+/* A call fails, and the process ends before anything is mended: no further call reaches the disk. A start over what the
+   system has is answered, so all that it has is kept from then on. */
+static void kill_unmended(uint64_t seed, uint64_t each, long at, uint64_t sync) {
+    run r = {.volume = LQ_INIT, .journal = LQ_JOURNAL_INIT, .options = {.sync = sync, .least = 2000}};
+    r.from = (drawing){.seed = 11, .nodes = 1};
+    power_seed = seed;
+    fault = EIO;
+    begin_disk();
+    each_call = each;
+    kept = made = 0;
+    first = at;
+    failing = 1;
+    make_folder(path, sizeof path);
+    for (int tries = 0; !r.is_open && tries < 3; tries++) open_run(&r);
+    CHECK(r.is_open);
+    for (uint64_t i = 0; lq_changes(&r.volume) < 60 && !failures; i++) {
+        if (i % 12 == 1) hold_once(&r);
+        act_once(&r);
+        skipped += 3000000;
+        if (i % 4 == 0 && !r.has_halted) turn_once(&r);
+        if (!r.has_halted && !r.turned.halted) continue;
+        first = made + 1;
+        failing = 1000000;
+        close_run(&r);
+        failing = 0;
+        open_run(&r);
+        if (failures) break;
+        kept = lq_changes(&r.volume);
+        lq model = LQ_INIT;
+        r.from = (drawing){.seed = 11, .nodes = 1};
+        OK(lq_volume_open(&model));
+        model_goes_to(&r.from, &model, kept);
+        lq_volume_close(&model);
+        r.has_halted = r.turned.halted = r.is_held = false;
+        kills++;
+    }
+    if (r.is_open) close_run(&r);
+    each_call = 0;
+    remove_folder(path);
+    if (failures) fprintf(stderr, "killed after call %ld failed, seed %llu\n", at, (unsigned long long)seed);
+}
+
 /* journal_disk [EACH [SEED CALLS]]: each so many calls fail; the power is cut at one of so many calls. */
 int main(int count, char **words) {
     make_dumps();
@@ -607,7 +659,11 @@ int main(int count, char **words) {
     uint64_t seed = count > 2 ? strtoull(words[2], NULL, 10) : 3, calls = count > 3 ? strtoull(words[3], NULL, 10) : 2;
     if (!failures) power_cuts(seed, calls, 0);
     for (long at = 20 + (long)(seed % 7); at < 300 && !failures; at += 7 * (long)calls) power_cuts(seed, 4 * calls, at);
-    printf("journal_disk: %llu power cuts\n", (unsigned long long)images);
+    static const uint64_t syncs[] = {LQ_SYNC_ALWAYS, 20, LQ_SYNC_NEVER};
+    for (long at = 15 + (long)(seed % 3), i = (long)seed / 3; at < 200 && !failures; at += 3 + (long)calls / 3, i++)
+        kill_unmended(seed, calls, at, syncs[i % 3]); /* nine seeds have each call in each mode */
+    printf("journal_disk: %llu power cuts, %llu ends without a mend\n", (unsigned long long)images,
+           (unsigned long long)kills);
     for (uint64_t i = 0; i <= MOST; i++) free(dumps[i].at);
     return done("journal_disk");
 }

@@ -29,6 +29,18 @@ while True:
     print(volume.changes, flush=True)
 """
 
+BATCHES = """
+import sys
+sys.path.insert(0, sys.argv[1])
+from yazgoulm import Volume
+volume = Volume(sys.argv[2])
+change = eval(sys.argv[3])
+while True:
+    print(volume.changes, flush=True)
+    volume.apply([change(number) for number in range(volume.changes, volume.changes + 2000)])
+"""
+CHANGE = "lambda number: ('write', number // 2 + 2, number) if number % 2 else ('create', f'n{number}')"
+
 
 def crc32c(data):
     crc = 0xFFFFFFFF
@@ -257,6 +269,23 @@ print(number + 2)
             with Volume(self.path) as volume:
                 self.assertIn(volume.changes - changes, range(4))  # a create of two attributes, that wasn't answered
                 changes = volume.changes
+
+    def test_kills_in_batches(self):
+        """A volume has a prefix of the accepted changes, with all of the batches that were answered."""
+        draw, change = random.Random(9), eval(CHANGE)
+        for _ in range(6):
+            program = subprocess.Popen([sys.executable, "-c", BATCHES, PACKAGE, self.path, CHANGE],
+                                       stdout=subprocess.PIPE, text=True)  # fmt: skip
+            answered = int(program.stdout.readline())
+            time.sleep(draw.uniform(0, 0.02))
+            program.kill()
+            answered = max([answered, *map(int, program.stdout.read().split("\n")[:-1])])
+            program.wait()
+            program.stdout.close()
+            with Volume(self.path) as volume, Volume() as model:
+                self.assertIn(volume.changes - answered, range(2001))
+                model.apply([change(number) for number in range(volume.changes)])
+                self.assertEqual(state_of(volume), state_of(model))
 
     def test_a_fork(self):
         with Volume(self.path, sync="never") as volume:
