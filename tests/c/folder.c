@@ -278,15 +278,22 @@ static void slow_writes(void) {
     CHECK(write(file, "2", 1) == 1);
     int64_t start = milliseconds();
     while (milliseconds() < start + 100 && lq_folder_turn(&w.folder, &w.turned) == LQ_OK) take_lines(&w, 0);
-    LINES_ARE(&w, "");
-    CHECK(!w.turned.settled);
+    if (milliseconds() < start + 290) { /* else a busy machine held it up */
+        LINES_ARE(&w, "");
+        CHECK(!w.turned.settled);
+    }
     RESTS(&w, "~ a\n");
     CHECK(milliseconds() >= start + 290);
-    CHECK(write(file, "3", 1) == 1);
-    close(file);
-    start = milliseconds();
-    RESTS(&w, "~ a\n");
-    CHECK(milliseconds() < start + 290);
+    bool is_quick = false;
+    for (int tries = 0; tries < 100 && !is_quick; tries++) {
+        if (tries) file = openat(w.at, "a", O_WRONLY | O_APPEND);
+        CHECK(write(file, "3", 1) == 1);
+        close(file);
+        start = milliseconds();
+        RESTS(&w, "~ a\n");
+        is_quick = milliseconds() < start + 290;
+    }
+    CHECK(is_quick);
     end_world(&w);
 }
 
@@ -428,7 +435,7 @@ static void has_large(world *w, uint64_t slot, const char *name) {
 static void large_trees(void) {
     world w;
     char away[80];
-    begin_world(&w);
+    begin_large_world(&w);
     snprintf(away, sizeof away, "%s-away", w.dir);
     made_large(&w, "l");
     uint64_t slot = begin(&w, "name==*");
@@ -625,7 +632,7 @@ static void deep(void) {
     world w;
     uint64_t slot;
     size_t size;
-    begin_world(&w);
+    begin_large_world(&w);
     int at = dup(w.at);
     for (int i = 0; i < DEPTH; i++) {
         CHECK(mkdirat(at, "abc", 0755) == 0);
@@ -678,7 +685,7 @@ static void missed_names(void) {
     enum { MISSED = 4400 };
     world w;
     char path[64];
-    begin_world(&w);
+    begin_large_world(&w);
     made_folder(&w, "a");
     for (int i = 0; i < MISSED; i++) {
         snprintf(path, sizeof path, "a/%d", i);
