@@ -71,10 +71,15 @@ class Handle:
         if lock._is_owned():  # within a call of this thread
             return call(*given)
         try:
-            with lock:
-                return call(*given)
+            try:
+                with lock:
+                    return call(*given)
+            except BaseException:
+                if lock._is_owned():  # it came after the block, and before what gives the lock back
+                    lock.release()
+                raise
         except BaseException:
-            if lock._is_owned():  # it came after the block, and before what gives the lock back
+            if lock._is_owned():  # it came within that, as a second one
                 lock.release()
             raise
 
@@ -88,12 +93,17 @@ class Handle:
             return within
         made = False
         try:
-            if lock.acquire(False):
-                call()
-                made = True
-                lock.release()
+            try:
+                if lock.acquire(False):
+                    call()
+                    made = True
+                    lock.release()
+            except BaseException:
+                if lock._is_owned():  # it came before what gives the lock back
+                    lock.release()
+                raise
         except BaseException:
-            if lock._is_owned():  # it came before what gives the lock back
+            if lock._is_owned():  # it came before that did, as a second one
                 lock.release()
             raise
         return made

@@ -70,6 +70,19 @@ class Beside(Tracer):
         return self.step
 
 
+class Kept:
+    """A lock that a signal's exception keeps: it comes after the block, and before what gives the lock back."""
+
+    def __init__(self, lock):
+        self.acquire, self.release, self._is_owned = lock.acquire, lock.release, lock._is_owned
+
+    def __enter__(self):
+        self.acquire()
+
+    def __exit__(self, *_):
+        raise Cut
+
+
 class Elsewhere:
     """Another thread, which makes calls."""
 
@@ -369,6 +382,26 @@ class Signals(unittest.TestCase):
                     self.fail(f"the lock is kept after {count} bytecodes")
                 count += 1
         cuts["by bytecode"] += count - 1
+
+    @unittest.skipIf(yazgoulm.backend == "extension", "its lock is given back by C")
+    def test_a_second_signal_at_each_bytecode(self):
+        """It comes while the lock is given back for the first one's exception."""
+
+        def raises():
+            raise Cut
+
+        for call in (lambda it: it.locked(raises), lambda it: it.tried(raises, False)):
+            count, is_over = 0, False
+            while not is_over:
+                handle = Volume()._handle
+                handle._lock = Kept(handle._lock)
+                tracer = Tracer(count)
+                tracer.cuts(lambda: call(handle))
+                is_over = tracer.left >= 0
+                self.assertFalse(handle.is_mine(), f"after {count} bytecodes")
+                count += 1
+            self.assertGreater(count, 20)
+            cuts["by bytecode"] += count - 1
 
     def test_forks_at_each_bytecode(self):
         """What is done before a fork and after it."""
