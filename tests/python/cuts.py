@@ -18,6 +18,7 @@ class Cuts:
     def begin(self, frame, event, _):
         if not frame.f_code.co_filename.startswith(self.folder + os.sep):
             return None
+        frame.f_trace = self.step  # without it Python 3.13 passes the bytecodes of a code's first call
         frame.f_trace_opcodes, frame.f_trace_lines = True, False
         return self.step
 
@@ -32,6 +33,7 @@ class Cuts:
     def cuts(self, call):
         """Makes a call. False: it has fewer bytecodes."""
         begin = self.begin  # which Python may use once more after it was taken off
+        sys._getframe().f_trace_opcodes = True  # without it Python 3.12 passes those of the first call of all
         sys.settrace(begin)
         try:
             call()
