@@ -559,7 +559,7 @@ class Volumes(Case):
                         pass
         self.assertLess(memory() - before, 1_000_000)  # each name takes 300 bytes
 
-    def test_a_fork_beside_a_thread_that_may_go_on(self):
+    def test_a_thread_that_may_go_on_beside_a_fork(self):
         """A thread that waited for the volume is told that it may go on, and hasn't, when another one forks. In the child
         threads wait for each other as they do elsewhere."""
         interval = sys.getswitchinterval()
