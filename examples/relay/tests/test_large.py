@@ -268,11 +268,11 @@ class Sizes(Large):
         self.assertEqual(relay.windows[1].seq, 1)
 
     def test_a_large_window_with_a_standby(self):
-        """More rows than can be opened within a `--lock` that a busy machine keeps; other threads run meanwhile."""
-        self.run_large(300_000, "2", "name==*", 300_000, yazgoulm.backend)
+        """A window of many rows, with a `--lock` that a relay keeps on a busy machine too: --full has shorter ones."""
+        self.run_large(300_000, "8", "name==*", 300_000, yazgoulm.backend)
 
     def test_a_large_window_with_a_standby_by_ctypes(self):
-        self.run_large(300_000, "2", "name==*", 300_000, "ctypes")
+        self.run_large(300_000, "8", "name==*", 300_000, "ctypes")
 
     @unittest.skipUnless(IS_FULL, "with --full")
     def test_larger_windows(self):
