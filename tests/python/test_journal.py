@@ -9,6 +9,7 @@ sys.path.insert(0, PACKAGE)
 
 from yazgoulm import BadSave, Kept, Locked, NotKept, Refused, Volume
 from yazgoulm.folder import Folder
+from saved_format import checksum
 
 KILLED = """
 import random, sys
@@ -42,26 +43,17 @@ while True:
 CHANGE = "lambda number: ('write', number // 2 + 2, number) if number % 2 else ('create', f'n{number}')"
 
 
-def crc32c(data):
-    crc = 0xFFFFFFFF
-    for byte in data:
-        crc ^= byte
-        for _ in range(8):
-            crc = crc >> 1 ^ (0x82F63B78 if crc & 1 else 0)
-    return crc ^ 0xFFFFFFFF
-
-
 def records_of(path):
     """The changes of a journal, as the specification says: their numbers, nodes and lines."""
     with open(f"{path}/journal", "rb") as file:
         head, *rows = file.read().split(b"\n")
     word, version, salt, first, crc = head.split(b" ")
-    assert (word, version) == (b"yazgoulm-journal", b"1") and int(crc, 16) == crc32c(head[:-8])
+    assert (word, version) == (b"yazgoulm-journal", b"1") and int(crc, 16) == checksum(head[:-8])
     assert rows.pop() == b"", "a record that isn't whole"
     for number, row in enumerate(rows, int(first)):
         crc, rest = row.split(b" ", 1)
         size, change, node, behind, line = rest.split(b" ", 4)
-        assert int(crc, 16) == crc32c(salt + rest + b"\n") and int(size) == len(line) and int(change) == number
+        assert int(crc, 16) == checksum(salt + rest + b"\n") and int(size) == len(line) and int(change) == number
         assert int(behind) < number
         yield number, int(node), line
 
